@@ -160,11 +160,16 @@ def are_carried(records: Records) -> bool:
     return True
 
 
-def is_fair(records: Records) -> bool:
-    """`IsFair`: tie-breakers differ, roles are left, no message is forged, and random bytes are fresh."""
+def is_begun(records: Records) -> bool:
+    """No message is forged (`AreCarried`), and random bytes are fresh (`HaveFreshIds`)."""
     ids = [e.given[1][:12] for _, e in turns(records) if e.call == "handle_timeout"]
-    return (len(ids) == len(set(ids)) and records["a"].tie_breaker != records["b"].tie_breaker and are_carried(records)
-            and all(record.keeps_role() for record in records.values()))
+    return len(ids) == len(set(ids)) and are_carried(records)
+
+
+def is_fair(records: Records) -> bool:
+    """`IsFair`: so it is, tie-breakers differ, and roles are left."""
+    differ = records["a"].tie_breaker != records["b"].tie_breaker
+    return is_begun(records) and differ and all(record.keeps_role() for record in records.values())
 
 
 def by_tie(records: Records) -> tuple[Record, Record]:
@@ -239,7 +244,7 @@ def selected_are_traced(records: Records) -> Found:
     """`SelectedAreTraced`: before a side selects a path, it gave a check of it, the other one took that and gave a response, and the side
     took the response on the reverse of the path, in this order."""
     found = Found()
-    if not is_fair(records):
+    if not is_begun(records):
         return found
     for side in SIDES:
         if not records[side].keeps_modern():

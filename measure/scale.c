@@ -1,9 +1,10 @@
 /* Many agents in one process: what each costs in processor time and memory. `measure/scale` runs it; measure/scale.rs is the same program
  * over the Rust crate.
  *
- * usage: scale AGENTS SECONDS
+ * usage: scale AGENTS SECONDS [HOSTS]
  *
- * Agents in pairs, each with one host candidate, connect over a wire in memory and then keep consent. The clock is virtual, and a heap of
+ * Agents in pairs, each with one host candidate, connect over a wire in memory and then keep consent. With HOSTS each has so many, of which
+ * only the first can be reached: so it begins with HOSTS * HOSTS candidate pairs, and keeps one. The clock is virtual, and a heap of
  * their timeouts says which agent is next. Prints the microseconds of the processor for an agent while all connect (8 s) and for an
  * agent-second from then on, its packets in a second, and the bytes of the heap for an agent: as made, with the other's candidate,
  * connected, at the end. */
@@ -17,10 +18,10 @@
 #include <time.h>
 
 #define MS UINT64_C(1000000)
-enum { CONNECT = 8000, LONGEST = 1500, CREDENTIALS = 32, CACHED = 262144 /* bytes that malloc counts, and keeps for later calls */ };
+enum { PORT = 5000, CONNECT = 8000, LONGEST = 1500, CREDENTIALS = 32, CACHED = 262144 /* bytes that malloc counts, and keeps for later calls */ };
 
 static is_ice_agent *agents;
-static size_t agent_count;
+static size_t agent_count, hosts = 1;
 static uint64_t now = 60000 * MS, packets, selected;
 
 static void fail(const char *what, int32_t code)
@@ -107,10 +108,13 @@ static void make(uint32_t agent)
     must("new", is_ice_agent_new(&agents[agent], creds.ufrag, creds.ufrag_length, creds.pass, creds.pass_length, number()));
     must("role", is_ice_set_controlling(&agents[agent], agent % 2 == 1));
     memset(&host, 0, sizeof host);
-    host.address.family = 4, host.address.port = 5000;
+    host.address.family = 4;
     host.address.bytes[0] = 10, host.address.bytes[1] = (uint8_t)(agent >> 16);
     host.address.bytes[2] = (uint8_t)(agent >> 8), host.address.bytes[3] = (uint8_t)agent;
-    must("local", is_ice_add_local(&agents[agent], &host, &index));
+    for (size_t i = 0; i < hosts; i++) {
+        host.address.port = (uint16_t)(PORT + i);
+        must("local", is_ice_add_local(&agents[agent], &host, &index));
+    }
 }
 
 static void introduce(uint32_t agent)
@@ -119,11 +123,13 @@ static void introduce(uint32_t agent)
     size_t length, index;
     credentials_of(agent ^ 1);
     must("credentials", is_ice_set_remote_credentials(&agents[agent], creds.ufrag, creds.ufrag_length, creds.pass, creds.pass_length));
-    must("line", is_ice_local_candidate(&agents[agent ^ 1], 0, line, sizeof line, &length));
-    must("remote", is_ice_add_remote(&agents[agent], line, length, &index));
+    for (size_t i = 0; i < hosts; i++) {
+        must("line", is_ice_local_candidate(&agents[agent ^ 1], i, line, sizeof line, &length));
+        must("remote", is_ice_add_remote(&agents[agent], line, length, &index));
+    }
 }
 
-/* What the agent sends arrives at once. */
+/* What the agent sends arrives at once, if it is from its first host to that of the other. */
 static void poll(uint32_t agent)
 {
     uint8_t bytes[LONGEST];
@@ -134,6 +140,7 @@ static void poll(uint32_t agent)
     while (is_ice_poll_event(&agents[agent], &event) == IS_ICE_OK) selected += event.kind == IS_ICE_NOMINATED_SEND;
     while (is_ice_poll_transmit(&agents[agent], bytes, sizeof bytes, &packet) == IS_ICE_OK) {
         packets++;
+        if (packet.source.port != PORT || packet.destination.port != PORT) continue;
         must("packet", is_ice_handle_packet(
             &agents[agent ^ 1], now, packet.protocol, &packet.source, &packet.destination, bytes, packet.length));
         poll(agent ^ 1);
@@ -156,7 +163,8 @@ static void run_until(uint64_t end)
 
 int main(int count, char **words)
 {
-    if (count != 3) return fprintf(stderr, "usage: scale AGENTS SECONDS\n"), 2;
+    if (count != 3 && count != 4) return fprintf(stderr, "usage: scale AGENTS SECONDS [HOSTS]\n"), 2;
+    if (count == 4) hosts = (size_t)atol(words[3]);
     agent_count = (size_t)atol(words[1]) / 2 * 2;
     uint64_t seconds = (uint64_t)atol(words[2]);
     agents = calloc(agent_count, sizeof *agents), heap = calloc(agent_count, sizeof *heap);

@@ -10,6 +10,7 @@ OUT = TOP / "measure" / "out"
 COUNTS = (1000, 10000, 100000)
 RUNS = 3
 COUNTED = 20  # seconds of which instructions are counted
+KEPT = 5  # how many times the bytes of an agent with one pair one may have that began with many
 HEAD = "## Many agents\n"
 
 PACKAGE = """[package]
@@ -54,11 +55,16 @@ def build_in_rust(name, package, **environment):
     return folder / "target" / "release" / "scale"
 
 
-def build(original):
-    """The programs over the C library, over the crate, and over the original, if there is one."""
+def install():
+    """The installed C library."""
     prefix = OUT / "prefix"
     run(TOP / "c" / "run", "install", prefix)
-    library = prefix / "lib" / "libis_ice.a"
+    return prefix / "lib" / "libis_ice.a"
+
+
+def build(original):
+    """The programs over the C library, over the crate, and over the original, if there is one."""
+    library = install()
     programs = {"C": build_in_c(library), "Rust": build_in_rust("rust", TOP / "rust", IS_ICE_LIB=str(library))}
     if original:
         if not os.path.isdir(original):
@@ -107,7 +113,20 @@ def print_instructions(programs, count):
         print(f"{name}, {count:,} agents: {each}", flush=True)
 
 
-def measure(counts, original, is_written, are_counted):
+def print_given_back(counts, hosts):
+    """The bytes of an agent that began with many pairs and keeps one, a minute later, beside those of one that began so. They are far
+    apart if memory of pairs that are gone is not given back."""
+    program = build_in_c(install())
+    for count in counts or COUNTS[:1]:
+        one, many = (float(run(program, count, 60, number).split()[6]) for number in (1, hosts))
+        print(f"{count:,} agents: {one:,.0f} bytes of one that began with a pair, {many:,.0f} with {hosts * hosts}", flush=True)
+        if many > KEPT * one:
+            stop(f"these are more than {KEPT} times as many")
+
+
+def measure(counts, original, is_written, are_counted, hosts):
+    if hosts:
+        return print_given_back(counts, hosts)
     programs = build(original)
     if are_counted:
         for count in counts or COUNTS[:1]:

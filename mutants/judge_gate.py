@@ -1,5 +1,5 @@
-"""Judges the mutants of the gate: in each crate those of mutants/gate/CRATE.txt in one check, of the functions that they change and of what
-these call, over the libraries below that are built. Crates are judged side by side.
+"""Judges the mutants of the gate: in each crate those of mutants/gate/CRATE.txt in one check, of the functions that they change, over
+the libraries below that are built. What these functions call is taken by its contract. Crates are judged side by side.
 
 If each mutant of a crate was killed, that is kept on this machine in ~/.cache/is_ice/mutants, by the checksum of all that was read: the
 toolchain, the crate and those below it, its mutants, and these scripts."""

@@ -38,8 +38,13 @@ def compares_ties(x: Execution, side: str) -> bool:
     return not lite or not keeps
 
 
+def is_new_world(x: Execution) -> Lacks:
+    """Both agents are new, no packet is in flight, and IDs differ (`IsNewWorld`)."""
+    return lacks(new=are_new_agents(x), empty=is_empty(x), distinct=have_distinct_ids(x))
+
+
 def is_fair_world(x: Execution) -> Lacks:
-    """Both agents are new, no packet is in flight, their tie-breakers differ and decide the roles, and IDs differ (`IsFairWorld`)."""
+    """So it is, and the agents' tie-breakers differ and decide the roles (`IsFairWorld`)."""
     tie = x.state(0, "a").tie_breaker != x.state(0, "b").tie_breaker
     compares = all(compares_ties(x, side) for side in SIDES)
-    return lacks(new=are_new_agents(x), empty=is_empty(x), tie=tie, distinct=have_distinct_ids(x), compares=compares)
+    return lacks(start=is_new_world(x), tie=tie, compares=compares)

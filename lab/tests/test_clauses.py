@@ -43,7 +43,7 @@ class Meeting(unittest.TestCase):
 
     def test_a_fair_world(self) -> None:
         story = self.delivered()
-        self.assertEqual(self.lacking(story.altered(0, "a", next_number=1)), ["IsFairWorld.new"])
+        self.assertEqual(self.lacking(story.altered(0, "a", next_number=1)), ["IsFairWorld.start.new"])
         story.log.sides["b"] = replace(story.log.sides["b"], tie_breaker=10)
         self.assertEqual(self.lacking(story.network()), ["IsFairWorld.tie"])
 

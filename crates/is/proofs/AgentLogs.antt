@@ -4,3 +4,4 @@ pub mod UnacceptedBytes
 pub mod PollingOrder
 pub mod StoredAndQueued
 pub mod ReportedPaths
+pub mod PlainAgents

@@ -7,6 +7,7 @@ pub mod Queues
 pub mod World
 pub mod WorldRoles
 pub mod Traces
+pub mod Headline
 pub mod Marks
 pub mod Deliveries
 pub mod AcceptedNominationsIn

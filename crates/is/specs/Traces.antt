@@ -10,7 +10,7 @@ use Rattle.is.specs.declared.traces.Trace.{Trace}
 use Rattle.is.specs.declared.world_events.WorldEntry.{WorldEntry}
 use Rattle.is.specs.World as world
 use Rattle.is.specs.World.{WorldRecord, LoggedEvent, Event, other}
-use Rattle.is.specs.WorldRoles.{IsFairWorld, IsNeverLite}
+use Rattle.is.specs.WorldRoles.{IsNewWorld, IsNeverLite}
 
 -- ---- what an entry records
 
@@ -77,9 +77,9 @@ ComesBack path (world.Deliver packet now via) = (via.source ≡ path.destination
 ComesBack path _ = ⊥
 
 -- If a side is never lite, each path that it selected has a causal chain, and in each such chain the response was received on the
--- reverse path.
+-- reverse path. The other side may be lite, and have any role and tie-breaker.
 abbrev pub SelectedAreTraced : {H P : Type 0} → WorldRecord H P → List (LoggedEvent P) → List WorldEntry → Type 0
 SelectedAreTraced first log es =
-    (greater side : Side) → IsFairWorld first greater log → IsNeverLite side log → (n place : ℕ) (path : Path) → IsAt es n (SelectsPathAt side path place)
+    (side : Side) → IsNewWorld first log → IsNeverLite side log → (n place : ℕ) (path : Path) → IsAt es n (SelectsPathAt side path place)
     → ((t : Trace) × IsTrace es side path (suc n) t)
     × ((t : Trace) → IsTrace es side path (suc n) t → (x : LoggedEvent _) × (slice_get log t.answered ≡ Some x) × ComesBack path x.event)

@@ -50,13 +50,16 @@ StaysOriginal side _ = Unit {0}
 abbrev pub ComparesTies : {P : Type 0} → Side → List (LoggedEvent P) → Type 0
 ComparesTies side log = IsNeverLite side log ⊎ AllByRecursion (λ x. StaysOriginal side x.event) log
 
--- Both agents are newly created, no packet is in flight, `greater` has the greater tie-breaker, no two checks have the same ID, and
--- neither agent is a lite one that keeps its role.
-pub record IsFairWorld {H P : Type 0} (first : WorldRecord H P) (greater : Side) (log : List (LoggedEvent P)) : Type 0 where
+-- Both agents are newly created, no packet is in flight, and no two checks have the same ID.
+pub record IsNewWorld {H P : Type 0} (first : WorldRecord H P) (log : List (LoggedEvent P)) : Type 0 where
   pub new : (side : Side) → IsNewAgent (at side first)
   pub empty : first.network ≡ []
-  pub tie : (at (other greater) first).tie_breaker < (at greater first).tie_breaker
   pub distinct : HaveDistinctIds log
+
+-- So it is, `greater` has the greater tie-breaker, and neither agent is a lite one that keeps its role.
+pub record IsFairWorld {H P : Type 0} (first : WorldRecord H P) (greater : Side) (log : List (LoggedEvent P)) : Type 0 where
+  pub start : IsNewWorld first log
+  pub tie : (at (other greater) first).tie_breaker < (at greater first).tie_breaker
   pub compares : (side : Side) → ComparesTies side log
 
 -- ---- roles in the log

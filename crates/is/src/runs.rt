@@ -16,6 +16,7 @@ ghost use Rattle.is.specs.Log.{IsRunLog, log_of, EntriesPersist};
 ghost use Rattle.is.specs.Accepted.{PacketsAreSettled};
 ghost use Rattle.is.specs.Queues.{OthersIssueNone, QueuesAreKept};
 ghost use Rattle.is.specs.Floods.{QueuesStayShort, DiscoveriesAreFew};
+ghost use Rattle.is.specs.Headline.{StaysPlain, Headline};
 ghost use Rattle.is.specs.Reported.{QueuedAreSelected, PolledAreSelected, PolledAreAnswered, PolledAreNominatedByPeer, SettingsAreThoseSet};
 
 use crate::calls::{AgentCall, Entry};
@@ -85,6 +86,14 @@ pub fn run<H: Sha1HmacProvider + Drop, P: LocalPreference, R: Rng>(
 
     // Each entry is between two states of the execution, to which the clauses below refer.
     ensures entries { EntriesPersist H.mac P.answers (record_of agent.old) (R.stream rng.old) (log_of calls.items result) }
+
+    // The headline, of an agent that is never lite, and keeps the profile `Original` without renomination (`LeavesPlain`). Bytes that it does
+    // not accept change nothing. Each path that it selects got an authentic success response to a check that was sent since the last clear.
+    // After each accepted success response, and each `handle_timeout` call that served no early request, if a pair is eligible, the path that
+    // was selected last is that of one with the greatest stored priority. And while the agent was controlled since the last clear, the peer
+    // nominated each selected path by USE-CANDIDATE. The next four clauses say the same of any agent.
+    ensures headline { IsFresh (record_of agent.old) → StaysPlain (log_of calls.items result)
+        → Headline H.mac P.answers (record_of agent.old) (R.stream rng.old) (log_of calls.items result) }
 
     // Bytes that the agent does not accept, on the path on which they were received, change nothing, issue nothing and select no
     // path.

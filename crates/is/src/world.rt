@@ -4,6 +4,7 @@
 ghost use Rattle.is_agent.specs.View.{made};
 ghost use Rattle.is.specs.World.{sources, world_of, MakesMember, MakesWorld, made_world, logged, IsWorldLog};
 ghost use Rattle.is.specs.WorldRoles.{GreaterKeeps, LesserSwitchesOnce, RolesDifferOnceMet};
+ghost use Rattle.is.specs.Headline.{RolesHeadline};
 ghost use Rattle.is.specs.Traces.{SelectedAreTraced};
 ghost use Rattle.is.specs.Selections.{DeliveredRoundsSelect};
 ghost use Rattle.is.specs.Connections.{BothConnect};
@@ -128,6 +129,11 @@ impl<H: Sha1HmacProvider + Drop, P: LocalPreference> TwoAgents<H, P> {
         ensures log { IsWorldLog H.mac P.answers (world_of self.old) (sources (R.stream rng_a.old) (S.stream rng_b.old)) events.items result
             (world_of self.new) (sources (R.stream rng_a.new) (S.stream rng_b.new)) }
 
+        // The headline, of two agents that keep the profile `Original` and have different tie-breakers. The agent with the greater one keeps
+        // its role, the role of the other one changes in at most one event, and once this one has met the role of the first (`Meets`), the
+        // roles are different. The next three clauses say the same of any two agents of which none is a lite one with the profile `Modern`.
+        ensures headline { RolesHeadline H.mac P.answers (world_of self.old) (sources (R.stream rng_a.old) (S.stream rng_b.old)) (logged events.items result.entries.items) }
+
         // The agent with the greater tie-breaker keeps its role.
         ensures keeps { GreaterKeeps (world_of self.old) (logged events.items result.entries.items) }
 
@@ -143,7 +149,7 @@ impl<H: Sha1HmacProvider + Drop, P: LocalPreference> TwoAgents<H, P> {
         ensures meet { RolesMeet H.mac P.answers (world_of self.old) (sources (R.stream rng_a.old) (S.stream rng_b.old)) (logged events.items result.entries.items) }
 
         // If an agent is never lite, each path that it selected was answered by the other agent, and the response was received on
-        // its reverse path.
+        // its reverse path. The other one may be lite, with any profile; nothing is required of roles and tie-breakers.
         ensures traced { SelectedAreTraced (world_of self.old) (logged events.items result.entries.items) result.entries.items }
 
         // What the callers see of this: after each event, each `NominatedSend` that waits in a side reports a path that a call of the side

@@ -3,6 +3,7 @@
 ghost use Rattle.std.specs.Prelude.{◌≡◌, ◌<◌, None, true, false, IfOk};
 ghost use Rattle.is_rules.specs.Fitting.{are_too_long};
 ghost use Rattle.is_rules.specs.Kept.{NoneTooHigh, are_placed};
+ghost use Rattle.is_stun.specs.Timing.{consent_of};
 ghost use Rattle.is_pair.specs.Multiset.{are_below};
 ghost use Rattle.is_pair.specs.Checklists.{multiset_of};
 ghost use Rattle.is_agent.specs.Keys.{IsKeyOf, peer_pass};
@@ -17,7 +18,7 @@ use is_rules::credentials::{IceCreds, are_too_long};
 use is_rules::emitted::Emitted;
 use is_rules::event::{IceAgentEvent, IceAgentStats, IceConnectionState};
 use is_rules::request::Waiting;
-use is_stun::stun::StunTiming;
+use is_stun::stun::{Consent, StunTiming};
 use std::alloc::Global;
 use std::collections::VecDeque;
 
@@ -59,6 +60,8 @@ pub struct Agent<H, P> {
     /// The greatest number of candidates that packets bring of each side.
     pub(crate) max_discovered: Option<usize>,
     pub(crate) timing: StunTiming,
+    /// What the timing says of consent, so that calls do not compute it again.
+    pub(crate) kept_consent: Option<Consent>,
     pub(crate) timing_advance: Duration,
     /// The agent has only host candidates, and responds to checks without sending any (RFC 8445, section 2.5).
     pub(crate) lite: bool,
@@ -116,6 +119,7 @@ pub struct Agent<H, P> {
     ghost none_too_high: { NoneTooHigh local.items },
     // a pair stores at least one check
     ghost retransmits: { 0 < timing.max_retransmits },
+    ghost consent_kept: { kept_consent ≡ consent_of timing },
     // a kept key is that of the password in use, so that no use computes it again
     ghost local_key_kept: { IsKeyOf local_key local_creds.pass },
     ghost remote_key_kept: { IsKeyOf remote_key (peer_pass remote_creds) },
@@ -170,13 +174,16 @@ impl<H: Sha1HmacProvider + Drop, P: LocalPreference> Agent<H, P> {
         ensures record { record_of result ≡ fresh provider creds tie_breaker }
         ensures emitted { emitted_of result ≡ nothing_emitted }
     {
+        let timing = StunTiming::default();
+        let kept_consent = timing.consent();
         let local_key = HmacKey::new(creds.pass.as_str().as_bytes());
         Agent {
             provider,
             preference: None,
             max_pairs: DEFAULT_MAX_PAIRS,
             max_discovered: None,
-            timing: StunTiming::default(),
+            timing,
+            kept_consent,
             timing_advance: Duration(50_000_000),
             lite: false,
             renominates: false,

@@ -25,7 +25,7 @@ impl<H: Sha1HmacProvider + Drop, P: LocalPreference> Agent<H, P> {
             lite: self.lite,
             now,
             timing: &self.timing,
-            consent: self.timing.consent(),
+            consent: self.kept_consent,
         })
     }
 
@@ -38,7 +38,7 @@ impl<H: Sha1HmacProvider + Drop, P: LocalPreference> Agent<H, P> {
             lite: self.lite,
             now,
             timing: &self.timing,
-            consent: self.timing.consent(),
+            consent: self.kept_consent,
         });
     }
 

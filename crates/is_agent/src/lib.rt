@@ -13,6 +13,7 @@ pub mod credentials;
 pub mod discarding;
 pub mod emitted;
 mod expiring;
+mod giving_back;
 pub mod local;
 pub mod media;
 mod next_check;

@@ -151,6 +151,7 @@ impl<H: Sha1HmacProvider + Drop, P: LocalPreference> Agent<H, P> {
             profile: settings.profile,
             consent: settings.consent,
         };
+        self.kept_consent = self.timing.consent();
         self.timing_advance = settings.timing_advance;
         self.max_pairs = settings.max_pairs;
         self.max_discovered = settings.max_discovered;
@@ -173,6 +174,7 @@ impl<H: Sha1HmacProvider + Drop, P: LocalPreference> Agent<H, P> {
         ensures { record_of self.new ≡ with_profile profile (record_of self.old) }
     {
         self.timing.profile = profile;
+        self.kept_consent = self.timing.consent();
     }
 
     /// What was chosen of consent (RFC 7675): by the timing and not strict, until it is set.
@@ -187,6 +189,7 @@ impl<H: Sha1HmacProvider + Drop, P: LocalPreference> Agent<H, P> {
         ensures { record_of self.new ≡ with_consent consent (record_of self.old) }
     {
         self.timing.consent = consent;
+        self.kept_consent = self.timing.consent();
     }
 
     /// Sets the pacing interval of what the agent sends, Ta in RFC 8445, section 14.2: 50 ms until it is set.
@@ -203,6 +206,7 @@ impl<H: Sha1HmacProvider + Drop, P: LocalPreference> Agent<H, P> {
     {
         if self.timing.initial_rto.0 != rto.0 {
             self.timing.initial_rto = rto;
+            self.kept_consent = self.timing.consent();
             self.pairs.reset_next_binding_attempts();
         }
     }
@@ -214,6 +218,7 @@ impl<H: Sha1HmacProvider + Drop, P: LocalPreference> Agent<H, P> {
     {
         if self.timing.max_rto.0 != rto.0 {
             self.timing.max_rto = rto;
+            self.kept_consent = self.timing.consent();
             self.pairs.reset_next_binding_attempts();
         }
     }
@@ -225,6 +230,7 @@ impl<H: Sha1HmacProvider + Drop, P: LocalPreference> Agent<H, P> {
         ensures { record_of self.new ≡ with_retransmits number (record_of self.old) }
     {
         self.timing.max_retransmits = number;
+        self.kept_consent = self.timing.consent();
     }
 
     /// Sets how long an ICE-lite agent keeps a pair without a check from its peer: 15 s until it is set. The agent sends no
@@ -237,6 +243,7 @@ impl<H: Sha1HmacProvider + Drop, P: LocalPreference> Agent<H, P> {
         ensures { record_of self.new ≡ with_lite_timeout timeout.0 (record_of self.old) }
     {
         self.timing.lite_timeout = timeout;
+        self.kept_consent = self.timing.consent();
     }
 
     /// How long a pair is checked without a response before it is removed.

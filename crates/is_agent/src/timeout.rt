@@ -210,23 +210,25 @@ impl<H: Sha1HmacProvider + Drop, P: LocalPreference> Agent<H, P> {
         self.contents.resize(CHECK_ROOM, 0)
     }
 
-    /// Reserves capacity for a packet, and for one more check of any pair. It is a separate function, so that calls without a
-    /// check do not pay for it.
+    /// Gives back what is not used, and reserves capacity for a packet and for one more check of any pair. It is a separate function, so
+    /// that calls without a check do not pay for it.
     #[inline(never)]
     fn reserve_check(&mut self) -> Result<(), AllocError>
         ensures record { record_of self.new ≡ record_of self.old }
         ensures room { OnOk result (HasCheckRoom self.new) }
     {
+        self.give_back();
         self.prepare_check()?;
         reserve_one_in(&mut self.packets)?;
         self.pairs.reserve_check(self.timing.max_retransmits)
     }
 
-    /// Does this if a check may be due at time `now`.
+    /// Does this if a check may be due at time `now`. If there is nothing to check, it only gives back what is not used.
     fn take_check_room(&mut self, now: Instant) -> Result<(), AllocError>
         ensures record { record_of self.new ≡ record_of self.old }
         ensures room { OnOk result (HasCheckRoomAt now.0 self.new) }
     {
+        self.give_back_if_idle();
         if !self.may_fall_due(now) {
             return Ok(());
         }

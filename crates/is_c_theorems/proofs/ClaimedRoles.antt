@@ -89,41 +89,45 @@ add_has side role o ns path id is = subst (λ (x : Option Issued). Has (add side
 
 -- ---- what is known
 
--- the tie-breakers, which of them is greater, and the role of that agent
+-- the tie-breakers; whether roles are spoken of, and then which tie-breaker is greater, and the role of that agent
 pub record Setting : Type 0 where
   pub tie : Side → ℕ
+  pub ranked : Bool
   pub greater : Side
   pub role : Bool
-  pub greatest : tie (other greater) < tie greater
+  pub greatest : ranked ≡ true → tie (other greater) < tie greater
+
+-- The request claims this role with the side's tie-breaker, and the agent with the greater one claims its own.
+abbrev pub IsClaimed : Setting → Side → Option ℕ → Option ℕ → Bool → Type 0
+IsClaimed z side controlling controlled role = z.ranked ≡ true → Claims controlling controlled role (z.tie side) × (side ≡ z.greater → role ≡ z.role)
 
 -- A request of the side with this transaction ID claims the role in which it was sent.
 abbrev pub IsClaim : Setting → List Note → Side → List ℕ → Option ℕ → Option ℕ → Type 0
 IsClaim z ns side id controlling controlled =
-    (path : Path) × (role : Bool) × Claims controlling controlled role (z.tie side) × Has ns (note side id path role) × (side ≡ z.greater → role ≡ z.role)
+    (path : Path) × (role : Bool) × Has ns (note side id path role) × IsClaimed z side controlling controlled role
 
 -- what a message says that the side sends on the path, by its class
 abbrev pub Fact : Setting → List Note → Side → Path → Class → Message → Type 0
 Fact z ns side to class.Request m =
-    (role : Bool) × Claims m.attributes.ice_controlling m.attributes.ice_controlled role (z.tie side) × Has ns (note side m.id to role)
-    × (side ≡ z.greater → role ≡ z.role)
-Fact z ns side to class.Failure m = (side ≡ z.greater) × ((path : Path) × Has ns (note (other side) m.id path z.role))
+    (role : Bool) × Has ns (note side m.id to role) × IsClaimed z side m.attributes.ice_controlling m.attributes.ice_controlled role
+Fact z ns side to class.Failure m = z.ranked ≡ true → (side ≡ z.greater) × ((path : Path) × Has ns (note (other side) m.id path z.role))
 Fact z ns side to _ m = Unit {0}
 
 -- what an agent stores
 pub record Mind {H P : Type 0} (z : Setting) (ns : List Note) (side : Side) (a : AgentRecord H P) : Type 0 where
-  pub tie : a.tie_breaker ≡ z.tie side
-  pub greater : side ≡ z.greater → a.controlling ≡ z.role
+  pub tie : z.ranked ≡ true → a.tie_breaker ≡ z.tie side
+  pub greater : z.ranked ≡ true → side ≡ z.greater → a.controlling ≡ z.role
   pub packets : (p : Packet) → Has a.packets p → (m : Message) → Reads p.contents m → Fact z ns side (via_out p) m.class m
   pub queue : (q : RequestRecord) → Has a.queue q → IsClaim z ns (other side) q.id q.ice_controlling q.ice_controlled
   pub kept : (path : Path) (id : List ℕ) (role : Bool) → IsKept a path id role → Has ns (note side id path role)
 
 module _ (z : Setting) (ns more : List Note) (on : Within ns more) where
   pub claim_on : (side : Side) (id : List ℕ) (a b : Option ℕ) → IsClaim z ns side id a b → IsClaim z more side id a b
-  claim_on side id a b (path, role, claims, has, greater) = (path, role, claims, on _ has, greater)
+  claim_on side id a b (path, role, has, claims) = (path, role, on _ has, claims)
 
   pub fact_on : (side : Side) (to : Path) (c : Class) (m : Message) → Fact z ns side to c m → Fact z more side to c m
-  fact_on side to class.Request m (role, claims, has, greater) = (role, claims, on _ has, greater)
-  fact_on side to class.Failure m (is, (path, has)) = (is, (path, on _ has))
+  fact_on side to class.Request m (role, has, claims) = (role, on _ has, claims)
+  fact_on side to class.Failure m k = λ ranked. (let (is, (path, has)) = k ranked in (is, (path, on _ has)))
   fact_on side to class.Success m k = tt
   fact_on side to class.Indication m k = tt
   fact_on side to class.Unknown m k = tt
@@ -186,7 +190,7 @@ tie_left (agent.SetControlTieBreaker n) tie none = let wrong_ : true ≡ false =
 tie_left _ tie none = refl
 
 module _ {H P : Type 0} (mac : H → List ℕ → List ℕ → List ℕ) (z : Setting) (ns : List Note) (side : Side) (old new : AgentRecord H P) (call : Call P) (e : Entry)
-    (f : PathEffect mac old call e new) (t : TradeEffect mac old call e new) (unset : sets_role call ≡ false) (full : old.lite ≡ false) (distinct : AreDistinct ns)
+    (f : PathEffect mac old call e new) (t : TradeEffect mac old call e new) (unset : z.ranked ≡ true → sets_role call ≡ false) (full : z.ranked ≡ true → old.lite ≡ false) (distinct : AreDistinct ns)
     (brought : (at : ℕ) (by : Path) (m : Message) → Brings call e at by m → (to : Path) × Fact z ns (other side) to m.class m) (k : Mind z ns side old) where
   abbrev pub After : List Note
   After = add side old.controlling e.emitted.issued ns
@@ -194,25 +198,25 @@ module _ {H P : Type 0} (mac : H → List ℕ → List ℕ → List ℕ) (z : Se
   within : Within ns After
   within = add_within side old.controlling e.emitted.issued ns
 
-  keeps_not : (q : RequestRecord) → conflict_of old q ≡ conflict_by false old.tie_breaker (rival_in old.controlling q)
-  keeps_not q = ap (λ (l : Bool). conflict_by (l && is_modern old.timing) old.tie_breaker (rival_in old.controlling q)) full
+  keeps_not : z.ranked ≡ true → (q : RequestRecord) → conflict_of old q ≡ conflict_by false old.tie_breaker (rival_in old.controlling q)
+  keeps_not ranked q = ap (λ (l : Bool). conflict_by (l && is_modern old.timing) old.tie_breaker (rival_in old.controlling q)) (full ranked)
 
   -- a request that the call brings, or that it serves
   claimed : (q : RequestRecord) → IsBrought call e q → IsClaim z ns (other side) q.id q.ice_controlling q.ice_controlled
   claimed q (at, by, m, brings, request, is) =
       let (to, fact) = brought at by m brings in
-      let (role, claims, has, greater) : Fact z ns (other side) to class.Request m = subst (λ (c : Class). Fact z ns (other side) to c m) request fact in
-      subst (λ (x : RequestRecord). IsClaim z ns (other side) x.id x.ice_controlling x.ice_controlled) (sym is) (to, role, claims, has, greater)
+      let (role, has, claims) : Fact z ns (other side) to class.Request m = subst (λ (c : Class). Fact z ns (other side) to c m) request fact in
+      subst (λ (x : RequestRecord). IsClaim z ns (other side) x.id x.ice_controlling x.ice_controlled) (sym is) (to, role, has, claims)
 
   served : (q : RequestRecord) → IsServing old call e q → IsClaim z ns (other side) q.id q.ice_controlling q.ice_controlled
   served q serving = elim (f.serves q serving) [ inl was ↦ k.queue q was | inr now ↦ claimed q now ]
 
   -- only the agent with the greater tie-breaker sends a 487
-  sender_is : z.tie (other side) ≤ z.tie side → side ≡ z.greater
-  sender_is le = elim (one_side side z.greater) [
+  sender_is : z.ranked ≡ true → z.tie (other side) ≤ z.tie side → side ≡ z.greater
+  sender_is ranked le = elim (one_side side z.greater) [
     | inl is ↦ is
     | inr lesser ↦ (
-        let lt = z.greatest in
+        let lt = z.greatest ranked in
         let back : z.tie z.greater ≤ z.tie (other z.greater) =
         subst (λ (s : Side). z.tie s ≤ z.tie (other z.greater)) (ap other lesser ∙ other_back z.greater) (subst (λ (s : Side). z.tie (other side) ≤ z.tie s) lesser le) in
         let none : ⊥ = omega (arith, lt, back) in
@@ -226,67 +230,70 @@ module _ {H P : Type 0} (mac : H → List ℕ → List ℕ → List ℕ) (z : Se
         let same_one : SameMessage n m = put.reads n reads in
         subst (λ (c : Class). Fact z After side (via_out p) c n) (sym (same_one.class ∙ is)) (
           old.controlling,
-          subst (λ (tie : ℕ). Claims n.attributes.ice_controlling n.attributes.ice_controlled old.controlling tie) k.tie (
-            ap (λ (a : AttributesRecord). a.ice_controlling) same_one.attributes ∙ ap (λ (x : Message). x.attributes.ice_controlling) m_is,
-            ap (λ (a : AttributesRecord). a.ice_controlled) same_one.attributes ∙ ap (λ (x : Message). x.attributes.ice_controlled) m_is,
-          ),
           add_has side old.controlling e.emitted.issued ns (via_out p) n.id
               (emitted ∙ (ap (λ (c : Class). Some (issued_as (via_out p) c m.id)) is ∙ ap (λ (id : List ℕ). Some (issued_as (via_out p) class.Request id)) (sym same_one.id))),
-          k.greater,
+          λ ranked. (
+            subst (λ (tie : ℕ). Claims n.attributes.ice_controlling n.attributes.ice_controlled old.controlling tie) (k.tie ranked) (
+              ap (λ (a : AttributesRecord). a.ice_controlling) same_one.attributes ∙ ap (λ (x : Message). x.attributes.ice_controlling) m_is,
+              ap (λ (a : AttributesRecord). a.ice_controlled) same_one.attributes ∙ ap (λ (x : Message). x.attributes.ice_controlled) m_is,
+            ),
+            k.greater ranked,
+          ),
         )
     by class.Success is (q, serving, m_is, via, put) = subst (λ (c : Class). Fact z After side (via_out p) c n) (sym (put.reads n reads).class) tt
     by class.Failure is (q, serving, m_is, via, put, conflict, role) =
         let same_one : SameMessage n m = put.reads n reads in
-        let (path, claimed_role, claims, has, greater) = served q serving in
-        let two = sends old.controlling claimed_role (z.tie (other side)) old.tie_breaker q claims (sym (keeps_not q) ∙ conflict) in
-        let mine : side ≡ z.greater = sender_is (subst (λ (n : ℕ). z.tie (other side) ≤ n) k.tie two.1) in
-        let role_is : claimed_role ≡ z.role = sym two.0 ∙ k.greater mine in
+        let (path, claimed_role, has, claims) = served q serving in
         let id_is : q.id ≡ n.id = sym (same_one.id ∙ ap (λ (x : Message). x.id) m_is) in
-        subst (λ (c : Class). Fact z After side (via_out p) c n) (sym (same_one.class ∙ is)) (
+        subst (λ (c : Class). Fact z After side (via_out p) c n) (sym (same_one.class ∙ is)) (λ ranked. (
+        let two = sends old.controlling claimed_role (z.tie (other side)) old.tie_breaker q (claims ranked).0 (sym (keeps_not ranked q) ∙ conflict) in
+        let mine : side ≡ z.greater = sender_is ranked (subst (λ (n : ℕ). z.tie (other side) ≤ n) (k.tie ranked) two.1) in
+        let role_is : claimed_role ≡ z.role = sym two.0 ∙ k.greater ranked mine in (
           mine,
           (path, within _ (subst (λ (id : List ℕ). Has ns (note (other side) id path z.role)) id_is (subst (λ (b : Bool). Has ns (note (other side) q.id path b)) role_is has))),
-        )
+        )))
     by class.Indication is h = absurd h
     by class.Unknown is h = absurd h
 
   -- a 487 comes from the agent with the greater tie-breaker, and its check claimed that agent's role
-  rejected : (m : Message) (at : ℕ) (by : Path) → Brings call e at by m → m.class ≡ class.Failure → (other side ≡ z.greater) × ((path : Path) × Has ns (note side m.id path z.role))
-  rejected m at by brings failure =
+  rejected : z.ranked ≡ true → (m : Message) (at : ℕ) (by : Path) → Brings call e at by m → m.class ≡ class.Failure → (other side ≡ z.greater) × ((path : Path) × Has ns (note side m.id path z.role))
+  rejected ranked m at by brings failure =
       let (to, fact) = brought at by m brings in
-      let (is, (path, has)) : Fact z ns (other side) to class.Failure m = subst (λ (c : Class). Fact z ns (other side) to c m) failure fact in
+      let said : Fact z ns (other side) to class.Failure m = subst (λ (c : Class). Fact z ns (other side) to c m) failure fact in
+      let (is, (path, has)) = said ranked in
       (is, (path, subst (λ (s : Side). Has ns (note s m.id path z.role)) (other_back side) has))
 
-  greater_now : side ≡ z.greater → new.controlling ≡ z.role
-  greater_now mine = elim t.role [
-    | inl stays ↦ stays ∙ k.greater mine
+  greater_now : z.ranked ≡ true → side ≡ z.greater → new.controlling ≡ z.role
+  greater_now ranked mine = elim t.role [
+    | inl stays ↦ stays ∙ k.greater ranked mine
     | inr (inl (q, serving, conflict, turned)) ↦ (
-        let (path, role, claims, has, greater) = served q serving in
-        let two = switches old.controlling role (z.tie (other side)) old.tie_breaker q claims (sym (keeps_not q) ∙ conflict) in
-        let lt = z.greatest in
-        let back : z.tie z.greater < z.tie (other z.greater) = subst (λ (s : Side). z.tie s < z.tie (other s)) mine (subst (λ (n : ℕ). n < z.tie (other side)) k.tie two.1) in
+        let (path, role, has, claims) = served q serving in
+        let two = switches old.controlling role (z.tie (other side)) old.tie_breaker q (claims ranked).0 (sym (keeps_not ranked q) ∙ conflict) in
+        let lt = z.greatest ranked in
+        let back : z.tie z.greater < z.tie (other z.greater) = subst (λ (s : Side). z.tie s < z.tie (other s)) mine (subst (λ (n : ℕ). n < z.tie (other side)) (k.tie ranked) two.1) in
         let none : ⊥ = omega (arith, lt, back) in
         absurd none)
-    | inr (inr (inl (at, by, path, m, role, brings, failure, conflict, kept, turned))) ↦ absurd (not_other side ((rejected m at by brings failure).0 ∙ sym mine))
-    | inr (inr (inr set)) ↦ absurd (not_set call new.controlling unset set)
+    | inr (inr (inl (at, by, path, m, role, brings, failure, conflict, kept, turned))) ↦ absurd (not_other side ((rejected ranked m at by brings failure).0 ∙ sym mine))
+    | inr (inr (inr set)) ↦ absurd (not_set call new.controlling (unset ranked) set)
   ]
 
-  pub lesser_now : side ≡ other z.greater → old.controlling ≡ not z.role → new.controlling ≡ not z.role
-  lesser_now lesser was = elim t.role [
+  pub lesser_now : z.ranked ≡ true → side ≡ other z.greater → old.controlling ≡ not z.role → new.controlling ≡ not z.role
+  lesser_now ranked lesser was = elim t.role [
     | inl stays ↦ stays ∙ was
     | inr (inl (q, serving, conflict, turned)) ↦ (
-        let (path, role, claims, has, greater) = served q serving in
-        let two = switches old.controlling role (z.tie (other side)) old.tie_breaker q claims (sym (keeps_not q) ∙ conflict) in
-        absurd (not_self z.role (sym was ∙ (two.0 ∙ greater (ap other lesser ∙ other_back z.greater)))))
+        let (path, role, has, claims) = served q serving in
+        let two = switches old.controlling role (z.tie (other side)) old.tie_breaker q (claims ranked).0 (sym (keeps_not ranked q) ∙ conflict) in
+        absurd (not_self z.role (sym was ∙ (two.0 ∙ (claims ranked).1 (ap other lesser ∙ other_back z.greater)))))
     | inr (inr (inl (at, by, path, m, role, brings, failure, conflict, kept, turned))) ↦ (
-        let (is, (sent, has)) = rejected m at by brings failure in
+        let (is, (sent, has)) = rejected ranked m at by brings failure in
         let one_note : note side m.id path role ≡ note side m.id sent z.role = distinct _ _ (k.kept path m.id role kept) has refl in
         turned ∙ ap not (ap (λ (n : Note). n.role) one_note))
-    | inr (inr (inr set)) ↦ absurd (not_set call new.controlling unset set)
+    | inr (inr (inr set)) ↦ absurd (not_set call new.controlling (unset ranked) set)
   ]
 
   pub mind_next : Mind z After side new
   mind_next = record {
-    tie = t.tie_breaker ∙ (tie_left call old.tie_breaker unset ∙ k.tie);
+    tie = λ ranked. t.tie_breaker ∙ (tie_left call old.tie_breaker (unset ranked) ∙ k.tie ranked);
     greater = greater_now;
     packets = λ p has m reads. elim (t.packets p has) [
       | inl was ↦ fact_on z ns After within side (via_out p) m.class m (k.packets p was m reads)

@@ -192,14 +192,14 @@ all_plain : (settings : Settings) → ArePlain (setters_of settings)
 all_plain settings = ((refl, refl), ((refl, refl), ((refl, refl), ((refl, refl), ((refl, refl), ((refl, refl), ((refl, refl), ((refl, refl), ((refl, refl), ((refl, refl), tt))))))))))
 
 module _ (paths : Paths) (trades : Trades) (z : Setting) (ns : List Note) (side : Side) (distinct : AreDistinct ns) where
-  setters_mind : (more : List (Call Preference)) → ArePlain more → (old last : Held) → IsSound old → old.lite ≡ false → Mind z ns side old
+  setters_mind : (more : List (Call Preference)) → ArePlain more → (old last : Held) → IsSound old → (z.ranked ≡ true → old.lite ≡ false) → Mind z ns side old
       → Course mac_of answers (map (λ call. (call, quiet Done)) more) old last → Mind z ns side last
   setters_mind [] plain old last sound full mind is = subst (λ (a : Held). Mind z ns side a) (sym is) mind
   setters_mind (call ∷ more) ((unset, lite), plain) old last sound full mind (mid, s, t, given, step, course) =
       let (f, next_sound) = paths old mid s t call (quiet Done) sound given step in
-      let next = mind_next mac_of z ns side old mid call (quiet Done) f (trades old mid s t call (quiet Done) sound given step) unset full distinct
+      let next = mind_next mac_of z ns side old mid call (quiet Done) f (trades old mid s t call (quiet Done) sound given step) (λ ranked. unset) full distinct
       (λ at by m brings. absurd (none_brought call at by m brings)) mind in
-      setters_mind more plain mid last next_sound (f.lite ∙ (ap (λ (b : Bool). lite_set_by call b) full ∙ lite)) next course
+      setters_mind more plain mid last next_sound (λ ranked. f.lite ∙ (ap (λ (b : Bool). lite_set_by call b) (full ranked) ∙ lite)) next course
 
 -- ---- one agent after C's calls
 
@@ -300,10 +300,10 @@ module _ (paths : Paths) (trades : Trades) (fresh : Fresh) (turn : Turns) (z : S
     on : Within ns more
     notes : NotesOf (x ∷ before) more
     own : Half z more (x ∷ before) x.side (x.used ∷ calls opening x.side before) (creds x.side) home
-    stays : x.side ≡ other z.greater → mid.agent.controlling ≡ not z.role → home.agent.controlling ≡ not z.role
+    stays : z.ranked ≡ true → x.side ≡ other z.greater → mid.agent.controlling ≡ not z.role → home.agent.controlling ≡ not z.role
 
   module _ (x : Turn) (before : List Turn) (mid : Side → HomeRecord) (home : HomeRecord) (does : Does x.used.export (mid x.side) x.used.code home)
-      (k : Known before mid) (keeps : AllKeep (x ∷ before)) (carried : AreCarried (x ∷ before)) (ids : HaveFreshIds (x ∷ before)) where
+      (k : Known before mid) (keeps : z.ranked ≡ true → AllKeep (x ∷ before)) (carried : AreCarried (x ∷ before)) (ids : HaveFreshIds (x ∷ before)) where
     old : Held
     old = (mid x.side).agent
 
@@ -313,10 +313,14 @@ module _ (paths : Paths) (trades : Trades) (fresh : Fresh) (turn : Turns) (z : S
     distinct : AreDistinct k.ns
     distinct = distinct_notes before k.ns k.notes ids.1
 
-    sound_full : IsSound old × (old.lite ≡ false)
+    sound : IsSound old
     unfolding old h
-    sound_full = lite_run paths trades fresh turn (creds x.side) (z.tie x.side) h.log old h.run
-        (never_lite full_use full_lite new_settings refl (calls opening x.side before) h.log h.logs (full_calls opening only x.side before (λ y has. keeps y (inr has))))
+    sound = sound_run paths trades fresh turn (creds x.side) (z.tie x.side) h.log old h.run
+
+    full : z.ranked ≡ true → old.lite ≡ false
+    unfolding old h
+    full ranked = (lite_run paths trades fresh turn (creds x.side) (z.tie x.side) h.log old h.run
+        (never_lite full_use full_lite new_settings refl (calls opening x.side before) h.log h.logs (full_calls opening only x.side before (λ y has. keeps ranked y (inr has))))).1
 
     -- what the call brings, C got from the other agent
     brought : (by : Path) (m : Message) → Accepts x.used by m → (to : Path) × Fact z k.ns (other x.side) to m.class m
@@ -335,12 +339,12 @@ module _ (paths : Paths) (trades : Trades) (fresh : Fresh) (turn : Turns) (z : S
         own = half_own z k.ns k.ns (λ n has. has) x before (creds x.side) (calls opening x.side before) (mid x.side) home does h h.log
             (inl (none, h.logs)) (subst (λ (a : Held). Ran (newborn (creds x.side) (z.tie x.side)) h.log a) (sym same_agent) h.run)
             (subst (λ (a : Held). Mind z k.ns x.side a) (sym same_agent) h.mind) h.issued;
-        stays = λ lesser was. ap (λ (a : Held). a.controlling) same_agent ∙ was;
+        stays = λ ranked lesser was. ap (λ (a : Held). a.controlling) same_agent ∙ was;
       }
       | inr (inl (e, s, t, of, given, step, draws)) ↦ (
-          let (f, sound) = paths old home.agent s t e.call e.entry sound_full.0 given step in
-          let tr = trades old home.agent s t e.call e.entry sound_full.0 given step in
-          let unset : sets_role e.call ≡ false = sets_as_marked x.used.export e.call of.makes ∙ kept_marks x.used.export (keeps x (inl refl)) in
+          let (f, next_sound) = paths old home.agent s t e.call e.entry sound given step in
+          let tr = trades old home.agent s t e.call e.entry sound given step in
+          let unset : z.ranked ≡ true → sets_role e.call ≡ false = λ ranked. sets_as_marked x.used.export e.call of.makes ∙ kept_marks x.used.export (keeps ranked x (inl refl)) in
           let brings = λ (at : ℕ) (by : Path) (m : Message) (b : Brings e.call e.entry at by m).
           brought by m (accepts x.used.export e.call e.entry x.used.code at by m of.makes of.answers b) in
           let on = add_within x.side old.controlling e.entry.emitted.issued k.ns in
@@ -350,12 +354,12 @@ module _ (paths : Paths) (trades : Trades) (fresh : Fresh) (turn : Turns) (z : S
             notes = notes_next x before k.ns x.side old.controlling e.entry draws k.notes;
             own = half_own z k.ns (add x.side old.controlling e.entry.emitted.issued k.ns) on x before (creds x.side) (calls opening x.side before) (mid x.side) home does h
                 (e ∷ h.log) (inr (h.log, inl (e, refl, of), h.logs)) (old, s, t, h.run, given, step)
-                (mind_next mac_of z k.ns x.side old home.agent e.call e.entry f tr unset sound_full.1 distinct brings h.mind)
+                (mind_next mac_of z k.ns x.side old home.agent e.call e.entry f tr unset full distinct brings h.mind)
                 (λ path id is. elim is [
                   | inl now ↦ (old.controlling, add_has x.side old.controlling e.entry.emitted.issued k.ns path id now)
                   | inr was ↦ (let j = h.issued path id was in (j.0, on _ j.1))
                 ]);
-            stays = λ lesser was. lesser_now mac_of z k.ns x.side old home.agent e.call e.entry f tr unset sound_full.1 distinct brings h.mind lesser was;
+            stays = λ ranked lesser was. lesser_now mac_of z k.ns x.side old home.agent e.call e.entry f tr unset full distinct brings h.mind ranked lesser was;
           })
       | inr (inr all) ↦ record {
         more = k.ns;
@@ -366,10 +370,10 @@ module _ (paths : Paths) (trades : Trades) (fresh : Fresh) (turn : Turns) (z : S
             (subst (λ (a : Held). Ran (newborn (creds x.side) (z.tie x.side)) (settings_onto (settings_of all.settings) h.log) a) (sym all.sets)
             (settings_ran turn (settings_of all.settings) (newborn (creds x.side) (z.tie x.side)) old h.log all.some h.run))
             (subst (λ (a : Held). Mind z k.ns x.side a) (sym all.sets)
-            (setters_mind paths trades z k.ns x.side distinct (setters_of (settings_of all.settings)) (all_plain (settings_of all.settings)) old _ sound_full.0 sound_full.1 h.mind
+            (setters_mind paths trades z k.ns x.side distinct (setters_of (settings_of all.settings)) (all_plain (settings_of all.settings)) old _ sound full h.mind
             (turn old (settings_of all.settings) any all.some)))
             (λ path id is. h.issued path id (setters_issue (setters_of (settings_of all.settings)) h.log path id is));
-        stays = λ lesser was. ap (λ (a : Held). a.controlling) all.sets ∙ was;
+        stays = λ ranked lesser was. ap (λ (a : Held). a.controlling) all.sets ∙ was;
       }
     ]
 
@@ -388,31 +392,31 @@ module _ (paths : Paths) (trades : Trades) (fresh : Fresh) (turn : Turns) (z : S
       ];
     }
 
-    lesser_next : (last : Side → HomeRecord) → last x.side ≡ home → last (other x.side) ≡ mid (other x.side) → role_at (other z.greater) mid ≡ not z.role
+    lesser_next : z.ranked ≡ true → (last : Side → HomeRecord) → last x.side ≡ home → last (other x.side) ≡ mid (other x.side) → role_at (other z.greater) mid ≡ not z.role
         → role_at (other z.greater) last ≡ not z.role
-    lesser_next last mine others was = elim (one_side (other z.greater) x.side) [
+    lesser_next ranked last mine others was = elim (one_side (other z.greater) x.side) [
       | inl is ↦ ap (λ (s : Side). role_at s last) is ∙ (ap (λ (o : HomeRecord). o.agent.controlling) mine
-          ∙ next.stays (sym is) (ap (λ (s : Side). role_at s mid) (sym is) ∙ was))
+          ∙ next.stays ranked (sym is) (ap (λ (s : Side). role_at s mid) (sym is) ∙ was))
       | inr is ↦ ap (λ (s : Side). role_at s last) is ∙ (ap (λ (o : HomeRecord). o.agent.controlling) others ∙ (ap (λ (s : Side). role_at s mid) (sym is) ∙ was))
     ]
 
   -- ---- all calls
 
   pub known : (first : Side → HomeRecord) → Known [] first → (turns : List Turn) (last : Side → HomeRecord) → Sessions first turns last
-      → AllKeep turns → AreCarried turns → HaveFreshIds turns → Known turns last
+      → (z.ranked ≡ true → AllKeep turns) → AreCarried turns → HaveFreshIds turns → Known turns last
   known first start [] last same_homes keeps carried ids = record {
     ns = start.ns;
     notes = start.notes;
     half = λ side. subst (λ (o : HomeRecord). Half z start.ns [] side (opening side) (creds side) o) (sym (same_homes side)) (start.half side);
   }
   known first start (x ∷ before) last (mid, session, does, others) keeps carried ids =
-      known_next x before mid (last x.side) does (known first start before mid session (λ y has. keeps y (inr has)) carried.1 ids.1) keeps carried ids last refl others
+      known_next x before mid (last x.side) does (known first start before mid session (λ ranked y has. keeps ranked y (inr has)) carried.1 ids.1) keeps carried ids last refl others
 
-  pub lesser_stays : (first : Side → HomeRecord) → Known [] first → (before later : List Turn) (mid last : Side → HomeRecord) → Sessions first before mid → Sessions mid later last
+  pub lesser_stays : z.ranked ≡ true → (first : Side → HomeRecord) → Known [] first → (before later : List Turn) (mid last : Side → HomeRecord) → Sessions first before mid → Sessions mid later last
       → AllKeep (later ++ before) → AreCarried (later ++ before) → HaveFreshIds (later ++ before)
       → role_at (other z.greater) mid ≡ not z.role → role_at (other z.greater) last ≡ not z.role
-  lesser_stays first start before [] mid last session same_homes keeps carried ids was = ap (λ (o : HomeRecord). o.agent.controlling) (same_homes (other z.greater)) ∙ was
-  lesser_stays first start before (x ∷ later) mid last session (near, sessions, does, others) keeps carried ids was =
+  lesser_stays ranked first start before [] mid last session same_homes keeps carried ids was = ap (λ (o : HomeRecord). o.agent.controlling) (same_homes (other z.greater)) ∙ was
+  lesser_stays ranked first start before (x ∷ later) mid last session (near, sessions, does, others) keeps carried ids was =
       lesser_next x (later ++ before) near (last x.side) does
-      (known first start (later ++ before) near (joined first before later mid near session sessions) (λ y has. keeps y (inr has)) carried.1 ids.1) keeps carried ids last refl others
-      (lesser_stays first start before later mid near session sessions (λ y has. keeps y (inr has)) carried.1 ids.1 was)
+      (known first start (later ++ before) near (joined first before later mid near session sessions) (λ ranked y has. keeps y (inr has)) carried.1 ids.1) (λ ranked. keeps) carried ids ranked last refl others
+      (lesser_stays ranked first start before later mid near session sessions (λ y has. keeps y (inr has)) carried.1 ids.1 was)

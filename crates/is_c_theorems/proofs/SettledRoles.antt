@@ -15,7 +15,7 @@ use Rattle.is_c_calls.specs.Sessions.{Used, Session}
 use Rattle.is_c_calls.specs.Uses.{Use, SetControlling, FixTimes, Does, mac_of}
 use Rattle.is_c_theorems.specs.CallLogs.{IsLogOf, newborn}
 use Rattle.is_c_theorems.specs.Chosen.{EachKeeps}
-use Rattle.is_c_theorems.specs.TwoAgents.{Side, A, B, other, Turn, Sessions, AreCarried, HaveFreshIds, sets_role, IsFair, role_at, GreaterKeepsRole, LesserSwitchesOnce, RolesStayOpposite}
+use Rattle.is_c_theorems.specs.TwoAgents.{Side, A, B, other, Turn, Sessions, AreCarried, HaveFreshIds, sets_role, Begins, IsFair, role_at, GreaterKeepsRole, LesserSwitchesOnce, RolesStayOpposite}
 use Rattle.is_c_theorems.proofs.CallsAsSteps.{never}
 use Rattle.is_c_theorems.proofs.ClaimedRoles.{not_self, Setting, Mind}
 use Rattle.is_c_theorems.proofs.IssuedRequests.{checks_none, unless_timeout}
@@ -79,9 +79,9 @@ module _ (creds : IceCreds) (tie : ℕ) where
   open_silent (u ∷ before) log last (inr (rest, inr (s, export, ok, is), logs)) each run path id sent =
       never (subst (λ (e : Use). sets_role e ≡ true) export (each u (inl refl)))
 
-open_mind : (z : Setting) (side : Side) (creds : IceCreds) (role : Bool) → (side ≡ z.greater → role ≡ z.role) → Mind z [] side (in_role creds (z.tie side) role)
+open_mind : (z : Setting) (side : Side) (creds : IceCreds) (role : Bool) → (z.ranked ≡ true → side ≡ z.greater → role ≡ z.role) → Mind z [] side (in_role creds (z.tie side) role)
 open_mind z side creds role greater = record {
-  tie = refl;
+  tie = λ ranked. refl;
   greater = greater;
   packets = λ p has. absurd has;
   queue = λ q has. absurd has;
@@ -110,73 +110,95 @@ keep_rest (x ∷ later) before all = keep_rest later before (λ y has. all y (in
 
 -- ---- the theorems
 
+-- two new agents, and the network between them
+pub record IsBegun (first : Side → HomeRecord) (turns : List Turn) : Type 0 where
+  pub tie_breaker : Side → ℕ
+  pub begins : (side : Side) → Begins (tie_breaker side) (first side)
+  pub carried : AreCarried turns
+  pub fresh : HaveFreshIds turns
+
+abbrev begun_of : (first : Side → HomeRecord) (greater : Side) (turns : List Turn) → IsFair first greater turns → IsBegun first turns
+begun_of first greater turns fair = record { tie_breaker = fair.tie_breaker; begins = fair.begins; carried = search fair.carried; fresh = search fair.fresh }
+
 module _ (paths : Paths) (trades : Trades) (new : Fresh) (turn : Turns) where
-  module _ (first : Side → HomeRecord) (greater : Side) (turns : List Turn) (fair : IsFair first greater turns) where
-    pub greatest_is : fair.tie_breaker (other greater) < fair.tie_breaker greater
-    greatest_is = search fair.tie
-
-    pub all_keep : AllKeep turns
-    all_keep = search fair.keeps
-
+  -- two new agents
+  module _ (first : Side → HomeRecord) (turns : List Turn) (begun : IsBegun first turns) where
     pub all_carried : AreCarried turns
-    all_carried = search fair.carried
+    all_carried = begun.carried
 
     pub all_fresh : HaveFreshIds turns
-    all_fresh = search fair.fresh
-
-    abbrev pub setting : Setting
-    setting = record { tie = fair.tie_breaker; greater = greater; role = role_at greater first; greatest = greatest_is }
+    all_fresh = begun.fresh
 
     abbrev pub opening : Opening
-    opening = λ side. (fair.begins side).1
+    opening = λ side. (begun.begins side).1
 
     abbrev pub creds_of : Side → IceCreds
-    creds_of side = (fair.begins side).0
+    creds_of side = (begun.begins side).0
 
     pub only : (side : Side) → EachKeeps sets_role (opening side)
-    only side = (fair.begins side).3
+    only side = (begun.begins side).3
 
-    start_half : (side : Side) → Half setting [] [] side (opening side) (creds_of side) (first side)
-    start_half side =
-        let (creds, uses, session, each) = fair.begins side in
-        let k = walk turn creds (fair.tie_breaker side) uses (first side) session in
-        let logs = log_is turn creds (fair.tie_breaker side) uses k.0 (first side) k.1 in
-        let run = run_is turn creds (fair.tie_breaker side) uses k.0 (first side) k.1 in
-        let (role, agent_is, none) = opened creds (fair.tie_breaker side) uses (first side) session each in
-        let mine : side ≡ greater → role ≡ role_at greater first = λ is. sym (ap (λ (a : Held). a.controlling) agent_is) ∙ ap (λ (s : Side). role_at s first) is in
-        record {
-          log = k.0;
-          logs = logs;
-          run = run;
-          mind = subst (λ (a : Held). Mind setting [] side a) (sym agent_is) (open_mind setting side creds role mine);
-          waiting = λ p is. absurd (let wrong_ : None ≡ Some p = sym none ∙ is in cc);
-          got = λ x to bytes m has. absurd has;
-          issued = λ path id sent. absurd (open_silent creds (fair.tie_breaker side) uses k.0 (first side).agent logs each run path id sent);
-        }
+    -- of roles, or not
+    abbrev pub setting : (ranked : Bool) (greater : Side) → (ranked ≡ true → begun.tie_breaker (other greater) < begun.tie_breaker greater) → Setting
+    setting ranked greater less = record { tie = begun.tie_breaker; ranked = ranked; greater = greater; role = role_at greater first; greatest = less }
 
-    pub start : Known paths trades new turn setting opening only creds_of [] first
-    start = record { ns = []; notes = refl; half = start_half }
+    module _ (ranked : Bool) (greater : Side) (less : ranked ≡ true → begun.tie_breaker (other greater) < begun.tie_breaker greater) where
+      start_half : (side : Side) → Half (setting ranked greater less) [] [] side (opening side) (creds_of side) (first side)
+      start_half side =
+          let (creds, uses, session, each) = begun.begins side in
+          let k = walk turn creds (begun.tie_breaker side) uses (first side) session in
+          let logs = log_is turn creds (begun.tie_breaker side) uses k.0 (first side) k.1 in
+          let run = run_is turn creds (begun.tie_breaker side) uses k.0 (first side) k.1 in
+          let (role, agent_is, none) = opened creds (begun.tie_breaker side) uses (first side) session each in
+          let mine : side ≡ greater → role ≡ role_at greater first = λ is. sym (ap (λ (a : Held). a.controlling) agent_is) ∙ ap (λ (s : Side). role_at s first) is in
+          record {
+            log = k.0;
+            logs = logs;
+            run = run;
+            mind = subst (λ (a : Held). Mind (setting ranked greater less) [] side a) (sym agent_is) (open_mind (setting ranked greater less) side creds role (λ _. mine));
+            waiting = λ p is. absurd (let wrong_ : None ≡ Some p = sym none ∙ is in cc);
+            got = λ x to bytes m has. absurd has;
+            issued = λ path id sent. absurd (open_silent creds (begun.tie_breaker side) uses k.0 (first side).agent logs each run path id sent);
+          }
+
+      pub start : Known paths trades new turn (setting ranked greater less) opening only creds_of [] first
+      start = record { ns = []; notes = refl; half = start_half }
+
+  module _ (first : Side → HomeRecord) (greater : Side) (turns : List Turn) (fair : IsFair first greater turns) where
+    abbrev begun : IsBegun first turns
+    begun = begun_of first greater turns fair
+
+    greatest_is : true ≡ true → fair.tie_breaker (other greater) < fair.tie_breaker greater
+    greatest_is _ = search fair.tie
+
+    all_keep : AllKeep turns
+    all_keep = search fair.keeps
+
+    abbrev ranking : Setting
+    ranking = setting first turns begun true greater greatest_is
 
     stay : (before later : List Turn) (mid last : Side → HomeRecord) → Sessions first before mid → Sessions mid later last
         → AllKeep (later ++ before) → AreCarried (later ++ before) → HaveFreshIds (later ++ before)
         → role_at (other greater) mid ≡ not (role_at greater first) → role_at (other greater) last ≡ not (role_at greater first)
     stay before later mid last session more keeps carried ids was =
-        lesser_stays paths trades new turn setting opening only creds_of first start before later mid last session more keeps carried ids was
+        lesser_stays paths trades new turn ranking (opening first turns begun) (only first turns begun) (creds_of first turns begun) refl first
+        (start first turns begun true greater greatest_is) before later mid last session more keeps carried ids was
 
     keeps_at : (some : List Turn) (last : Side → HomeRecord) → Sessions first some last → AllKeep some → AreCarried some → HaveFreshIds some
         → role_at greater last ≡ role_at greater first
     keeps_at some last session keeps carried ids =
-        ((known paths trades new turn setting opening only creds_of first start some last session keeps carried ids).half greater).mind.greater refl
+        ((known paths trades new turn ranking (opening first turns begun) (only first turns begun) (creds_of first turns begun) first
+        (start first turns begun true greater greatest_is) some last session (λ ranked. keeps) carried ids).half greater).mind.greater refl refl
 
   pub greater_keeps : GreaterKeepsRole
   greater_keeps first last greater turns fair session =
-      search (keeps_at first greater turns fair turns last session (all_keep first greater turns fair) (all_carried first greater turns fair) (all_fresh first greater turns fair))
+      search (keeps_at first greater turns fair turns last session (all_keep first greater turns fair) (all_carried first turns (begun_of first greater turns fair)) (all_fresh first turns (begun_of first greater turns fair)))
 
   pub lesser_switches : LesserSwitchesOnce
   lesser_switches first mid last greater before later fair session more different =
       let keep = all_keep first greater (later ++ before) fair in
-      let carry = all_carried first greater (later ++ before) fair in
-      let fresh = all_fresh first greater (later ++ before) fair in
+      let carry = all_carried first (later ++ before) (begun_of first greater (later ++ before) fair) in
+      let fresh = all_fresh first (later ++ before) (begun_of first greater (later ++ before) fair) in
       let changed : role_at (other greater) mid ≢ role_at (other greater) first = search different in
       search (elim (one_of (role_at (other greater) mid) (role_at greater first)) as (λ _. role_at (other greater) last ≡ role_at (other greater) mid) [
         | inr differs ↦ stay first greater (later ++ before) fair before later mid last session more keep carry fresh differs ∙ sym differs
@@ -204,8 +226,8 @@ module _ (paths : Paths) (trades : Trades) (new : Fresh) (turn : Turns) where
   pub stay_opposite : RolesStayOpposite
   stay_opposite first mid last greater before later fair session more different =
       let keep = all_keep first greater (later ++ before) fair in
-      let carry = all_carried first greater (later ++ before) fair in
-      let fresh = all_fresh first greater (later ++ before) fair in
+      let carry = all_carried first (later ++ before) (begun_of first greater (later ++ before) fair) in
+      let fresh = all_fresh first (later ++ before) (begun_of first greater (later ++ before) fair) in
       let differ : role_at A mid ≢ role_at B mid = search different in
       let was = keeps_at first greater (later ++ before) fair before mid session (keep_rest later before keep) (carried_rest later before carry) (fresh_rest later before fresh) in
       let is = keeps_at first greater (later ++ before) fair (later ++ before) last (joined first before later mid last session more) keep carry fresh in

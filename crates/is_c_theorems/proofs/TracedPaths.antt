@@ -1,6 +1,6 @@
 -- What one agent of C selects, the other one answered: from the accepted response back to the check, through C's calls on both slots. What
 -- mutants/specifications changes is read by tactics.
-use Rattle.std.proofs.Common.{◌≡◌, ◌⊎◌, ℕ, Bool, true, false, List, [], ◌∷◌, length, Some, None, inl, inr, refl, ap, sym, ◌∙◌, subst}
+use Rattle.std.proofs.Common.{◌≡◌, ◌⊎◌, ◌<◌, ℕ, Bool, true, false, List, [], ◌∷◌, length, Some, None, inl, inr, refl, ap, sym, ◌∙◌, subst}
 use Rattle.rand_core.specs.Stream.{Stream}
 use Rattle.is_proto.specs.Lists.{Has}
 use Rattle.is_proto.specs.Packets as packets
@@ -30,15 +30,15 @@ use Rattle.is_c_calls.specs.Uses.{Use, SetControlling, FixTimes, Does, mac_of}
 use Rattle.is_c_theorems.specs.CallLogs.{setters_onto, settings_onto, IsLogOf, IsOf, newborn}
 use Rattle.is_c_theorems.specs.Chosen.{EachKeeps, keeps_modern}
 use Rattle.is_c_theorems.specs.Seen.{Accepts, Gets, IsToPoll}
-use Rattle.is_c_theorems.specs.TwoAgents.{Side, A, B, other, Turn, Sessions, Before, Gave, AreCarried, HaveFreshIds, sets_role, IsFair, GivesCheck, TakesCheck, GivesAnswer, TakesAnswer, SelectedAreTraced}
+use Rattle.is_c_theorems.specs.TwoAgents.{Side, A, B, other, Turn, Sessions, Before, Gave, AreCarried, HaveFreshIds, sets_role, GivesCheck, TakesCheck, GivesAnswer, TakesAnswer, SelectedAreTraced}
 use Rattle.is_c_theorems.proofs.AlongExecutions.{is_new, full_log}
 use Rattle.is_c_theorems.proofs.CallsAsSteps.{never}
-use Rattle.is_c_theorems.proofs.ClaimedRoles.{other_back, one_side, Note, note, Fact}
+use Rattle.is_c_theorems.proofs.ClaimedRoles.{other_back, one_side, Note, note, Setting, Fact}
 use Rattle.is_c_theorems.proofs.PacketsGiven.{waited_before, given_before, outcome}
 use Rattle.is_c_theorems.proofs.PolledPaths.{waited}
-use Rattle.is_c_theorems.proofs.RolesOfTwo.{Opening, calls, pick, same_side, AllKeep, Issued_in, Paths, Trades, Fresh, Turns, Known, known, sound_run, distinct_notes}
+use Rattle.is_c_theorems.proofs.RolesOfTwo.{Opening, calls, pick, same_side, Issued_in, Paths, Trades, Fresh, Turns, Known, known, sound_run, distinct_notes}
 use Rattle.is_c_theorems.proofs.SeenCalls.{accepts, none_brought}
-use Rattle.is_c_theorems.proofs.SettledRoles.{opened, all_keep, all_carried, all_fresh, setting, opening, creds_of, only, start}
+use Rattle.is_c_theorems.proofs.SettledRoles.{opened, IsBegun, all_carried, all_fresh, setting, opening, creds_of, only, start}
 use Rattle.is_c_theorems.proofs.SettingsOfCalls.{Log, rest_of}
 
 -- ---- an answer in a log
@@ -248,21 +248,28 @@ module _ (first : Side → HomeRecord) (whole : List Turn) where
 -- ---- the theorem
 
 module _ (paths : Paths) (trades : Trades) (new : Fresh) (turn : Turns) where
-  module _ (first : Side → HomeRecord) (greater : Side) (turns : List Turn) (fair : IsFair first greater turns) where
-    abbrev After : List Turn → (Side → HomeRecord) → Type 0
-    After some homes = Known paths trades new turn (setting paths trades new turn first greater turns fair) (opening paths trades new turn first greater turns fair)
-        (only paths trades new turn first greater turns fair) (creds_of paths trades new turn first greater turns fair) some homes
+  module _ (first : Side → HomeRecord) (turns : List Turn) (begun : IsBegun first turns) where
+    -- roles are not spoken of
+    none_less : false ≡ true → begun.tie_breaker B < begun.tie_breaker A
+    none_less is = never is
 
-    knows : (some : List Turn) (last : Side → HomeRecord) → Sessions first some last → AllKeep some → AreCarried some → HaveFreshIds some → After some last
-    knows some last session keeps carried ids =
-        known paths trades new turn (setting paths trades new turn first greater turns fair) (opening paths trades new turn first greater turns fair)
-        (only paths trades new turn first greater turns fair) (creds_of paths trades new turn first greater turns fair) first
-        (start paths trades new turn first greater turns fair) some last session keeps carried ids
+    abbrev unranked : Setting
+    unranked = setting paths trades new turn first turns begun false A none_less
+
+    abbrev After : List Turn → (Side → HomeRecord) → Type 0
+    After some homes = Known paths trades new turn unranked (opening paths trades new turn first turns begun)
+        (only paths trades new turn first turns begun) (creds_of paths trades new turn first turns begun) some homes
+
+    knows : (some : List Turn) (last : Side → HomeRecord) → Sessions first some last → AreCarried some → HaveFreshIds some → After some last
+    knows some last session carried ids =
+        known paths trades new turn unranked (opening paths trades new turn first turns begun)
+        (only paths trades new turn first turns begun) (creds_of paths trades new turn first turns begun) first
+        (start paths trades new turn first turns begun false A none_less) some last session (λ is. never is) carried ids
 
     first_replies : (side : Side) (home : HomeRecord) → home ≡ first side → Replies [] side home
     first_replies side home is =
-        let (creds, uses, session, each) = fair.begins side in
-        let (role, agent_is, none) = opened creds (fair.tie_breaker side) uses (first side) session each in
+        let (creds, uses, session, each) = begun.begins side in
+        let (role, agent_is, none) = opened creds (begun.tie_breaker side) uses (first side) session each in
         subst (λ (h : HomeRecord). Replies [] side h) (sym is) (record {
           ready = λ p waits m reads success. elim waits [
             | inl w ↦ let wrong_ : None ≡ Some p = sym none ∙ w in absurd (cc)
@@ -271,13 +278,13 @@ module _ (paths : Paths) (trades : Trades) (new : Fresh) (turn : Turns) where
           queue = λ q has. absurd (subst (λ (a : Held). Has a.queue q) agent_is has);
         })
 
-    replies : (some : List Turn) (last : Side → HomeRecord) → Sessions first some last → AllKeep some → AreCarried some → HaveFreshIds some → (side : Side) → Replies some side (last side)
-    replies [] last same_homes keeps carried ids side = first_replies side (last side) (same_homes side)
-    replies (x ∷ before) last (mid, session, does, others) keeps carried ids side =
-        let earlier = replies before mid session (λ y h. keeps y (inr h)) carried.1 ids.1 in
-        let k = knows before mid session (λ y h. keeps y (inr h)) carried.1 ids.1 in
+    replies : (some : List Turn) (last : Side → HomeRecord) → Sessions first some last → AreCarried some → HaveFreshIds some → (side : Side) → Replies some side (last side)
+    replies [] last same_homes carried ids side = first_replies side (last side) (same_homes side)
+    replies (x ∷ before) last (mid, session, does, others) carried ids side =
+        let earlier = replies before mid session carried.1 ids.1 in
+        let k = knows before mid session carried.1 ids.1 in
         let h = k.half x.side in
-        let sound = sound_run paths trades new turn (creds_of paths trades new turn first greater turns fair x.side) (fair.tie_breaker x.side) h.log (mid x.side).agent h.run in
+        let sound = sound_run paths trades new turn (creds_of paths trades new turn first turns begun x.side) (begun.tie_breaker x.side) h.log (mid x.side).agent h.run in
         elim (one_side side x.side) [
           | inl is ↦ subst (λ (s : Side). Replies (x ∷ before) s (last s)) (sym is) (replies_next paths trades x before (mid x.side) (last x.side) does sound (earlier x.side))
           | inr is ↦ subst (λ (s : Side). Replies (x ∷ before) s (last s)) (sym is) (subst (λ (o : HomeRecord). Replies (x ∷ before) (other x.side) o) (sym others) (record {
@@ -288,13 +295,10 @@ module _ (paths : Paths) (trades : Trades) (new : Fresh) (turn : Turns) where
 
     module _ (last : Side → HomeRecord) (session : Sessions first turns last) (side : Side) (path : Path) where
       k : After turns last
-      k = knows turns last session (all_keep paths trades new turn first greater turns fair) (all_carried paths trades new turn first greater turns fair) (all_fresh paths trades new turn first greater turns fair)
-
-      keeps_within : (some : List Turn) → ((y : Turn) → Has some y → Has turns y) → AllKeep some
-      keeps_within some within y has = all_keep paths trades new turn first greater turns fair y (within y has)
+      k = knows turns last session (all_carried paths trades new turn first turns begun) (all_fresh paths trades new turn first turns begun)
 
       -- the check that the other one accepted is the one of the path
-      check_given : (id : List ℕ) → IsNoted (opening paths trades new turn first greater turns fair) (only paths trades new turn first greater turns fair) side path k.ns id
+      check_given : (id : List ℕ) → IsNoted (opening paths trades new turn first turns begun) (only paths trades new turn first turns begun) side path k.ns id
           → (x : Turn) (earlier : List Turn) → Place first turns x earlier → AskedBy (other side) id x earlier → TakesCheck side path id x earlier
       check_given id (role, noted) x earlier at (via, check, x_side, (now, protocol, source, destination, bytes, export, path_is, reads, ok), request, id_is) = (
         via,
@@ -311,18 +315,18 @@ module _ (paths : Paths) (trades : Trades) (new : Fresh) (turn : Turns) where
           gives w yet there (to, w_side, gets) =
               let mine : w.side ≡ side = w_side ∙ (ap other x_side ∙ other_back side) in
               let fact = (k.half side).got w to bytes check there.has mine gets reads in
-              let (sent_role, claims, has, greatest) : Fact (setting paths trades new turn first greater turns fair) k.ns side to class.Request check =
-              subst (λ (c : Class). Fact (setting paths trades new turn first greater turns fair) k.ns side to c check) request fact in
-              let one_note : note side check.id to sent_role ≡ note side id path role = distinct_notes turns k.ns k.notes (all_fresh paths trades new turn first greater turns fair) _ _ has noted id_is in
+              let (sent_role, has, claims) : Fact unranked k.ns side to class.Request check =
+              subst (λ (c : Class). Fact unranked k.ns side to c check) request fact in
+              let one_note : note side check.id to sent_role ≡ note side id path role = distinct_notes turns k.ns k.notes (all_fresh paths trades new turn first turns begun) _ _ has noted id_is in
               (bytes, search mine, search (subst (λ (p : Path). Gets w.used p bytes) (ap (λ (n : Note). n.path) one_note) gets), reads)
 
       answer_given : (answer : Message) → answer.class ≡ class.Success
-          → IsNoted (opening paths trades new turn first greater turns fair) (only paths trades new turn first greater turns fair) side path k.ns answer.id
+          → IsNoted (opening paths trades new turn first turns begun) (only paths trades new turn first turns begun) side path k.ns answer.id
           → (bytes : List ℕ) → Reads bytes answer → (y : Turn) (earlier : List Turn) → Place first turns y earlier → Gave (other side) bytes y earlier
           → GivesAnswer side path answer y earlier
       answer_given answer success noted bytes reads y earlier at (to, y_side, gets) =
           let (p, waits, via, contents) = given_before y.used (at.mid y.side) (at.last y.side) to bytes at.does gets in
-          let asked = (replies earlier at.mid at.session (keeps_within earlier at.within) at.carried.1 at.ids.1 y.side).ready p waits answer
+          let asked = (replies earlier at.mid at.session at.carried.1 at.ids.1 y.side).ready p waits answer
           (subst (λ (bs : List ℕ). Reads bs answer) (sym contents) reads) success in (
             to,
             bytes,
@@ -334,7 +338,7 @@ module _ (paths : Paths) (trades : Trades) (new : Fresh) (turn : Turns) where
           )
 
       answer_taken : (z : Turn) (earlier : List Turn) → Place first turns z earlier
-          → Found (opening paths trades new turn first greater turns fair) (only paths trades new turn first greater turns fair) side path k.ns z earlier → TakesAnswer side path z earlier
+          → Found (opening paths trades new turn first turns begun) (only paths trades new turn first turns begun) side path k.ns z earlier → TakesAnswer side path z earlier
       answer_taken z earlier at (back, answer, z_side, (now, protocol, source, destination, bytes, export, path_is, reads, ok), success, goes, noted) = (
         back,
         answer,
@@ -348,15 +352,16 @@ module _ (paths : Paths) (trades : Trades) (new : Fresh) (turn : Turns) where
 
   pub selected_traced : WaitingAreAnswered {H = _} {P = Preference} mac_of answers → SelectedAreTraced
   unfolding knows k
-  selected_traced law first last greater side turns u home path fair session modern does selects =
-      let known_all = knows first greater turns fair turns last session (all_keep paths trades new turn first greater turns fair) (all_carried paths trades new turn first greater turns fair) (all_fresh paths trades new turn first greater turns fair) in
+  selected_traced law first last tie_breaker side turns u home path begins carried fresh session modern does selects =
+      let begun : IsBegun first turns = record { tie_breaker = tie_breaker; begins = begins; carried = search carried; fresh = search fresh } in
+      let known_all = knows first turns begun turns last session (all_carried paths trades new turn first turns begun) (all_fresh paths trades new turn first turns begun) in
       let h = known_all.half side in
-      let open_calls = opening paths trades new turn first greater turns fair in
-      let roles_only = only paths trades new turn first greater turns fair in
-      let creds = creds_of paths trades new turn first greater turns fair side in
+      let open_calls = opening paths trades new turn first turns begun in
+      let roles_only = only paths trades new turn first turns begun in
+      let creds = creds_of paths trades new turn first turns begun side in
       let always : (x : Turn) → Has turns x → x.side ≡ side → keeps_modern x.used.export ≡ true = search modern in
       let each = modern_calls open_calls roles_only side turns always in
-      let found_it = law (newborn creds (fair.tie_breaker side)) (last side).agent h.log (is_new creds (fair.tie_breaker side)) (full_log (calls open_calls side turns) h.log h.logs each) h.run path
+      let found_it = law (newborn creds (begun.tie_breaker side)) (last side).agent h.log (is_new creds (begun.tie_breaker side)) (full_log (calls open_calls side turns) h.log h.logs each) h.run path
       (waited u (last side) home path does selects) in
-      placed first turns (Found open_calls roles_only side path known_all.ns) (TakesAnswer side path) (answer_taken first greater turns fair last session side path) turns last session (all_carried paths trades new turn first greater turns fair) (all_fresh paths trades new turn first greater turns fair)
+      placed first turns (Found open_calls roles_only side path known_all.ns) (TakesAnswer side path) (answer_taken first turns begun last session side path) turns last session (all_carried paths trades new turn first turns begun) (all_fresh paths trades new turn first turns begun)
       (λ y has. has) (found open_calls roles_only side path known_all.ns turns h.log h.logs (λ id is. h.issued path id is) (selected_in h.log path found_it))

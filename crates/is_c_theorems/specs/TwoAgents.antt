@@ -146,10 +146,11 @@ TakesAnswer side path x before =
     (back : Path) × (answer : Message) × (x.side ≡ side) × Accepts x.used back answer × (answer.class ≡ class.Success) × (goes_back back path ≡ true)
     × Before (GivesAnswer side path answer) before
 
--- Each path that C gets by a `NominatedSend`, from a side that always has the profile `Modern`.
+-- Each path that C gets by a `NominatedSend`, from a side that always has the profile `Modern` and is never lite. The other one may be lite, and both
+-- may have any roles.
 abbrev pub SelectedAreTraced : Type 0
 SelectedAreTraced =
-    (first last : Side → HomeRecord) (greater side : Side) (turns : List Turn) (used : Used) (home : HomeRecord) (path : Path)
-    → IsFair first greater turns → Sessions first turns last
+    (first last : Side → HomeRecord) (tie_breaker : Side → ℕ) (side : Side) (turns : List Turn) (used : Used) (home : HomeRecord) (path : Path)
+    → ((z : Side) → Begins (tie_breaker z) (first z)) → AreCarried turns → HaveFreshIds turns → Sessions first turns last
     → ((x : Turn) → Has turns x → x.side ≡ side → keeps_modern x.used.export ≡ true)
     → Does used.export (last side) used.code home → Selects used path → Before (TakesAnswer side path) turns

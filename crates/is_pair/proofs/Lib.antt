@@ -5,3 +5,4 @@ mod PriorityOrder
 pub mod DueTimes
 pub mod ConsentTimes
 pub mod RemovedPairs
+pub mod EvictedBlock

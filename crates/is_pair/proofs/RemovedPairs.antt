@@ -81,3 +81,13 @@ removed-then test some reason pairs left start old new every among before after 
     either : (r : RemovedPair) → Has old r ⊎ Reason some reason left r → Has start r ⊎ Reason test reason pairs r
     either r (inl had) = before.1 r had
     either r (inr (p, has, passes, is, why)) = inr (p, among p has, every p, is, why)
+
+-- more of the same pairs are removed
+pub removed-again : (test : PairRecord → Bool) (reason : PairRecord → Removal) (pairs : List PairRecord) (start old new : List RemovedPair)
+    → AreRemoved test reason pairs start old → AreRemoved test reason pairs old new → AreRemoved test reason pairs start new
+removed-again test reason pairs start old new before after =
+    ((λ few. after.0 (before.0 few)), λ r h. either r (after.1 r h))
+  where
+    either : (r : RemovedPair) → Has old r ⊎ Reason test reason pairs r → Has start r ⊎ Reason test reason pairs r
+    either r (inl had) = before.1 r had
+    either r (inr its) = inr its

@@ -11,8 +11,10 @@ mod checks;
 mod entries;
 mod evicting;
 mod expired;
+mod giving_back;
 mod index;
 mod listed;
+mod lowest;
 mod pair_change;
 mod pair_test;
 mod ranks;
@@ -134,6 +136,19 @@ impl Checklist {
         ranks::put(&mut self.ranks, rank);
     }
 
+    /// Removes the pairs that pass the test, without a trace.
+    fn drop_where<T: PairTest>(&mut self, test: &T)
+        ensures left { multiset_of self.new ≡ without (T.passes test.now) (multiset_of self.old) }
+        ensures room { (n : ℕ) → HasRoom n self.old → HasRoom n self.new }
+        ensures check_room { (n : ℕ) → HasCheckRoom n self.old → HasCheckRoom n self.new }
+        ensures below { (n : ℕ) → are_below n (multiset_of self.old) ≡ true → are_below n (multiset_of self.new) ≡ true }
+        ensures removed { removed_of self.new ≡ removed_of self.old }
+    {
+        listed::drop_passing(&mut self.pairs, test);
+        index::keep_known(&mut self.index, &self.pairs);
+        ranks::keep_known(&mut self.ranks, &self.pairs);
+    }
+
     /// Removes the pairs that pass the test.
     pub fn remove_where<T: PairRemoval>(&mut self, test: &T)
         ensures left { multiset_of self.new ≡ without (T.passes test.now) (multiset_of self.old) }
@@ -143,9 +158,19 @@ impl Checklist {
         ensures removed { AreRemoved (T.passes test.now) (T.reason test.now) (multiset_of self.old) (removed_of self.old) (removed_of self.new) }
     {
         removed::keep_passing(&mut self.removed, &self.pairs, test);
-        listed::drop_passing(&mut self.pairs, test);
-        index::keep_known(&mut self.index, &self.pairs);
-        ranks::keep_known(&mut self.ranks, &self.pairs);
+        self.drop_where(test);
+    }
+
+    /// Removes the pairs that pass the test. Of those that are kept, the pairs of greatest priority are the last ones.
+    pub fn remove_by_priority<T: PairRemoval>(&mut self, test: &T)
+        ensures left { multiset_of self.new ≡ without (T.passes test.now) (multiset_of self.old) }
+        ensures room { (n : ℕ) → HasRoom n self.old → HasRoom n self.new }
+        ensures check_room { (n : ℕ) → HasCheckRoom n self.old → HasCheckRoom n self.new }
+        ensures below { (n : ℕ) → are_below n (multiset_of self.old) ≡ true → are_below n (multiset_of self.new) ≡ true }
+        ensures removed { AreRemoved (T.passes test.now) (T.reason test.now) (multiset_of self.old) (removed_of self.old) (removed_of self.new) }
+    {
+        removed::keep_ranked(&mut self.removed, &self.pairs, &self.ranks, test);
+        self.drop_where(test);
     }
 
     /// Removes the pair with the number, if there is one, for this reason.

@@ -13,8 +13,10 @@ pub mod Limit
 pub mod Each
 pub mod Kinds
 pub mod Evicting
+pub mod Shares
 pub mod Forming
 pub mod FormingView
+pub mod Slots
 pub mod Cuts
 pub mod Remote
 pub mod Questions

@@ -14,13 +14,18 @@ ghost use Rattle.is_rules.specs.FormingView.{sides_view};
 ghost use Rattle.is_rules.specs.Cuts.{KindsStay};
 
 use crate::kind_table::KindTable;
+use crate::lowest::evict_many;
 use crate::sides::Sides;
 use is_candidate::Candidate;
 use is_pair::checklist::{Checklist, PairTest, Removal};
 use is_pair::pair::CandidatePair;
 
 /// How many pairs each kind has.
-fn kind_counts(pairs: &Checklist, kinds: &KindTable<'_>, remote: &[Candidate]) -> [usize; 16]
+pub(crate) fn kind_counts(
+    pairs: &Checklist,
+    kinds: &KindTable<'_>,
+    remote: &[Candidate],
+) -> [usize; 16]
     requires placed { are_placed kinds.now.local.now remote.now (multiset_of pairs.now) ≡ true }
     ensures { AreCounted (kind_of kinds.now.local.now remote.now) (multiset_of pairs.now) result }
 {
@@ -32,7 +37,7 @@ fn kind_counts(pairs: &Checklist, kinds: &KindTable<'_>, remote: &[Candidate]) -
 }
 
 /// The kind with the most pairs.
-fn most_numerous(counts: &[usize; 16]) -> u8
+pub(crate) fn most_numerous(counts: &[usize; 16]) -> u8
     ensures within { result < KINDS }
     ensures most { (kind : ℕ) → kind < KINDS → slice_index counts.now kind ≤ slice_index counts.now result }
 {
@@ -118,6 +123,7 @@ fn evict_of_most(pairs: &mut Checklist, limit: usize, local: &[Candidate], remot
         return;
     }
     let kinds = KindTable::new(local);
+    evict_many(pairs, limit, &kinds, remote);
     let mut counts = kind_counts(pairs, &kinds, remote);
     while pairs.len() > limit {
         if !evict_one(pairs, &mut counts, &kinds, remote) {

@@ -15,11 +15,13 @@ ghost use Rattle.is_rules.specs.Forming.{is_alive, is_alive_at, is_partner, is_p
 ghost use Rattle.is_rules.specs.Forming.{local_combinations, live_row, live_combinations, is_redundant, combined_priority, pair_of};
 ghost use Rattle.is_rules.specs.Forming.{formed_as, AreIn, Tries, FormsEach, HasNumbers};
 ghost use Rattle.is_rules.specs.FormingView.{sides_view};
+ghost use Rattle.is_rules.specs.Slots.{AreHeld};
 ghost use Rattle.is_rules.specs.Cuts.{EvictionCuts};
 
 use crate::evicting::evict;
 use crate::places::{address_at, base_at, candidate_at, kind_at, priority_at, proto_at};
 use crate::sides::Sides;
+use crate::slots::{find_redundant, hold_at, slots_of};
 use is_candidate::Candidate;
 use is_candidate::candidate::address::{same_address, same_protocol, same_version};
 use is_candidate::candidate::internals::is_discarded;
@@ -31,7 +33,7 @@ use std::alloc::{AllocError, Global};
 // ---- one combination
 
 /// A pair has the same path as a combination.
-fn is_redundant(sides: Sides<'_>, at: (usize, usize), pair: &CandidatePair) -> bool
+pub(crate) fn is_redundant(sides: Sides<'_>, at: (usize, usize), pair: &CandidatePair) -> bool
     requires placed { is_placed sides.local.now sides.remote.now pair.now ≡ true }
     requires local { at.0 < length sides.local.now }
     requires remote { at.1 < length sides.remote.now }
@@ -67,8 +69,8 @@ impl PairTest for Redundant<'_> {
     }
 }
 
-/// The redundant pair of greatest priority.
-fn top_redundant<'a>(
+/// The redundant pair of greatest priority, searched among all pairs.
+pub(crate) fn top_redundant<'a>(
     pairs: &'a Checklist,
     sides: Sides<'_>,
     at: (usize, usize),
@@ -133,10 +135,12 @@ fn try_one(
     at: (usize, usize),
     pairs: &mut Checklist,
     next_number: &mut u64,
+    held: &[u64],
 )
     requires local { at.0 < length sides.local.now }
     requires remote { at.1 < length sides.remote.now }
     requires placed { are_placed sides.local.now sides.remote.now (multiset_of pairs.old) ≡ true }
+    requires held { AreHeld (sides_view sides) held.now (multiset_of pairs.old) }
     requires room { HasRoom 1 pairs.old }
     requires number { next_number.old < MAX }
     requires last { are_below next_number.old (multiset_of pairs.old) ≡ true }
@@ -147,7 +151,7 @@ fn try_one(
     ensures below { are_below next_number.new (multiset_of pairs.new) ≡ true }
 {
     let mut pair = pair_of(alloc, sides, at, *next_number);
-    match top_redundant(pairs, sides, at) {
+    match find_redundant(held, pairs, sides, at) {
         None => add(pairs, next_number, pair),
         Some(found) => {
             if found.prio() >= pair.prio() {
@@ -158,6 +162,62 @@ fn try_one(
             pairs.remove(number, Removal::Replaced);
             add(pairs, next_number, pair)
         }
+    }
+}
+
+/// The same, and the slot of a new pair holds it.
+fn try_next(
+    alloc: Global,
+    sides: Sides<'_>,
+    at: (usize, usize),
+    pairs: &mut Checklist,
+    next_number: &mut u64,
+    held: &mut [u64],
+)
+    requires local { at.0 < length sides.local.now }
+    requires remote { at.1 < length sides.remote.now }
+    requires placed { are_placed sides.local.now sides.remote.now (multiset_of pairs.old) ≡ true }
+    requires held { AreHeld (sides_view sides) held.old (multiset_of pairs.old) }
+    requires room { HasRoom 1 pairs.old }
+    requires number { next_number.old < MAX }
+    requires last { are_below next_number.old (multiset_of pairs.old) ≡ true }
+    ensures placed { are_placed sides.entry.local.now sides.entry.remote.now (multiset_of pairs.new) ≡ true }
+    ensures held { AreHeld (sides_view sides.entry) held.new (multiset_of pairs.new) }
+    ensures tries { Tries (sides_view sides.entry) at (formed_as (multiset_of pairs.old) next_number.old) (formed_as (multiset_of pairs.new) next_number.new) }
+    ensures room { (n : ℕ) → HasRoom (n + 1) pairs.old → HasRoom n pairs.new }
+    ensures next { next_number.new ≤ next_number.old + 1 }
+    ensures below { are_below next_number.new (multiset_of pairs.new) ≡ true }
+{
+    let number = *next_number;
+    try_one(alloc, sides, at, pairs, next_number, held);
+    if *next_number == number {
+        return;
+    }
+    hold_at(held, sides, at, number);
+}
+
+/// Tries each combination in turn, with slots.
+fn try_all(
+    alloc: Global,
+    sides: Sides<'_>,
+    all: &[(usize, usize)],
+    pairs: &mut Checklist,
+    next_number: &mut u64,
+    held: &mut [u64],
+)
+    requires within { AreIn (length sides.local.now) (length sides.remote.now) all.now }
+    requires placed { are_placed sides.local.now sides.remote.now (multiset_of pairs.old) ≡ true }
+    requires held { AreHeld (sides_view sides) held.old (multiset_of pairs.old) }
+    requires room { HasRoom (length all.now) pairs.old }
+    requires numbers { HasNumbers next_number.old (length all.now) }
+    requires last { are_below next_number.old (multiset_of pairs.old) ≡ true }
+    ensures placed { are_placed sides.entry.local.now sides.entry.remote.now (multiset_of pairs.new) ≡ true }
+    ensures forms { Each (Tries (sides_view sides.entry)) all.now (formed_as (multiset_of pairs.old) next_number.old)
+        (formed_as (multiset_of pairs.new) next_number.new) }
+    ensures below { are_below next_number.new (multiset_of pairs.new) ≡ true }
+{
+    for at in all {
+        try_next(alloc, sides, *at, pairs, next_number, held);
     }
 }
 
@@ -179,9 +239,8 @@ fn try_each(
         (formed_as (multiset_of pairs.new) next_number.new) }
     ensures below { are_below next_number.new (multiset_of pairs.new) ≡ true }
 {
-    for at in all {
-        try_one(alloc, sides, *at, pairs, next_number);
-    }
+    let mut held = slots_of(alloc, sides, pairs, all.len());
+    try_all(alloc, sides, all, pairs, next_number, &mut held);
 }
 
 /// As many pairs stay as the limit allows, and no removed pair has a higher priority than one that stays.

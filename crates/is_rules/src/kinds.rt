@@ -229,9 +229,46 @@ fn earlier<'a>(
     }
 }
 
+/// Whether a pair is due.
+#[derive(Clone, Copy)]
+struct Due<'a> {
+    now: Instant,
+    timing: &'a StunTiming,
+}
+
+impl PairTest for Due<'_> {
+    ghost use Rattle.is_pair.specs.Due.{is_due};
+
+    ghost passes = { λ t p. is_due t.now.0 t.timing.now p };
+
+    fn passes(&self, pair: &CandidatePair) -> bool {
+        due_time_of(pair, self.now, self.timing) <= self.now
+    }
+}
+
 /// Returns the pair to check ahead: of the due pairs, those that come first, else those of the kind that comes first from `next` on, and of
-/// these the one that is due first. None if no pair is due.
+/// these the one that is due first. None if no pair is due: most calls of an agent with few pairs find none, and need no kinds.
 pub fn next_ahead<'a>(
+    pairs: &'a Checklist,
+    local: &[Candidate],
+    remote: &[Candidate],
+    precedence: Precedence,
+    next: u8,
+    now: Instant,
+    timing: &StunTiming,
+) -> Option<&'a CandidatePair>
+    requires placed { are_placed local.now remote.now (multiset_of pairs.now) ≡ true }
+    ensures { IsNextAhead local.now remote.now precedence next now.0 timing.now (multiset_of pairs.now) (option_copied result) }
+{
+    match pairs.first(&Due { now, timing }) {
+        None => None,
+        Some(_) => next_by_turns(pairs, local, remote, precedence, next, now, timing),
+    }
+}
+
+/// The same by looking at all pairs. It is a separate function, so that calls that find no pair due do not pay for the table of kinds.
+#[inline(never)]
+fn next_by_turns<'a>(
     pairs: &'a Checklist,
     local: &[Candidate],
     remote: &[Candidate],

@@ -17,4 +17,5 @@ mod RenominatedPaths
 mod PunctualTimeouts
 mod ConnectedConsent
 mod SettledStates
+mod CheckCounts
 mod WorkedExamples

@@ -53,3 +53,5 @@ pub mod AtOnceCourses
 pub mod SelectedInTime
 pub mod TimedSelections
 pub mod TimedSteadyRounds
+pub mod CheckRate
+pub mod SilentPairs

@@ -6,6 +6,7 @@
 #![tactic(auto)]
 
 pub mod consent;
+pub mod counting;
 pub mod exchanging;
 pub mod flooding;
 pub mod logs;

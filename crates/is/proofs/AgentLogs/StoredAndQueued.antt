@@ -1,6 +1,6 @@
 -- What an agent stores, and what waits in it, along a log. The preconditions that mutants/specifications changes are read by tactics where they
 -- are used: if one of them is weaker, that goal stays unproved.
-use Rattle.std.proofs.Common.{◌≡◌, ℕ, false, List, [], ◌∷◌, ◌++◌, refl, subst}
+use Rattle.std.proofs.Common.{◌≡◌, ℕ, ◌≤◌, false, List, [], ◌∷◌, ◌++◌, refl, subst}
 use Rattle.rand_core.specs.Stream.{Stream}
 use Rattle.is_proto.specs.Lists.{Has}
 use Rattle.is_candidate.specs.Candidates.{CandidateRecord}
@@ -12,9 +12,9 @@ use Rattle.is_theorems.specs.Runs.{IsFresh, run_to, shared_run}
 use Rattle.is_theorems.proofs.ExecutionLogs.PointsOfSegments.{deeper, later_point}
 use Rattle.is_theorems.specs.Limited.{DiscoveriesStayFew, FormsFewAt, IsLimitedAt, ListsStayBounded, PairsStayFew}
 use Rattle.is_theorems.specs.Shared.{IsNewlyCreated, BeforeEach}
-use Rattle.is_theorems.specs.Waiting.{IsShort, QueuesAreShort}
+use Rattle.is_theorems.specs.Waiting.{IsShort, QueuesAreShort, discovery_count}
 use Rattle.is.specs.declared.world_events.Side.{Side}
-use Rattle.is.specs.Floods.{QueuesStayShort, DiscoveriesAreFew, BothAreBounded, BothHaveFewPairs, BothAreShort, BothDiscoverFew}
+use Rattle.is.specs.Floods.{QueuesStayShort, DiscoveriesAreFew, IsLimitedFor, BothAreBounded, BothHaveFewPairs, BothAreShort, BothDiscoverFew}
 use Rattle.is.specs.AcceptedNominationsIn.{Occurrence, occurrences_in}
 use Rattle.is.specs.Sides.{own_at, own_log}
 use Rattle.is.specs.World.{WorldRecord, Streams, LoggedEvent, WorldRun, at}
@@ -46,8 +46,11 @@ module _ {H P : Type 0} (mac : H → List ℕ → List ℕ → List ℕ) (answer
       → DiscoveriesAreFew mac answers first s log
   discoveries_are_few law first s log fresh most limited before mid after x point =
       let run = run_to mac answers first s log before mid x after point in
+      let limits : IsLimited mac answers most first s log = search limited in
+      let few : discovery_count after.events ≤ most =
       law most first after (x ∷ before) (new_first first fresh) (shared_run mac answers first s (x ∷ before) after point.following run)
-      (before_each most first after s point.following (x ∷ before) run (λ b m a y p. limited b m a y (deeper mac answers first s log (x ∷ before) point.rest b m y a point.split p)))
+      (before_each most first after s point.following (x ∷ before) run (λ b m a y p. limits b m a y (deeper mac answers first s log (x ∷ before) point.rest b m y a point.split p))) in
+      search few
 
   -- ---- two agents
 
@@ -80,5 +83,7 @@ module _ {H P : Type 0} (mac : H → List ℕ → List ℕ → List ℕ) (answer
 
   pub both_discover_few : DiscoveriesStayFew {H = H} mac answers → (first : WorldRecord H P) (s : Streams) (log : List (LoggedEvent P)) → BothDiscoverFew mac answers first s log
   both_discover_few law first s log last t run before rest x side new split most limited =
-      let k = own_run (IsLimitedAt most) first s log last t run before rest x side split (λ z has y own. search (limited z has y own)) in
-      law most (at side first) (at side x.following) (own_log side [] (before ++ x ∷ [])) (new side) k.0 k.1
+      let limits : IsLimitedFor side most (before ++ x ∷ []) = search limited in
+      let k = own_run (IsLimitedAt most) first s log last t run before rest x side split (λ z has y own. search (limits z has y own)) in
+      let few : discovery_count (at side x.following).events ≤ most = law most (at side first) (at side x.following) (own_log side [] (before ++ x ∷ [])) (new side) k.0 k.1 in
+      search few

@@ -40,13 +40,14 @@ pub not-self : (b : Bool) → not b ≡ b → ⊥
 not-self true h = cc
 not-self false h = cc
 
--- which side has the greater tie-breaker, the tie-breakers, that side's role, and the sides that never become
--- ICE-lite
+-- the tie-breakers; whether roles are spoken of, and then which side has the greater tie-breaker, and its role; and the sides that never
+-- become ICE-lite
 pub record Setting : Type 0 where
   pub tie : Side → ℕ
+  pub ranked : Bool
   pub greater : Side
   pub role : Bool
-  pub greatest : tie (other greater) < tie greater
+  pub greatest : ranked ≡ true → tie (other greater) < tie greater
   pub full : Side → Bool
 
 -- ---- what is known of ids
@@ -81,13 +82,13 @@ pub record IsCheck (z : Setting) (es : List Emitted) (side : Side) (id : List �
   pub role : Bool
   pub claims : Claims controlling controlled role (z.tie side)
   pub gone : Gone es side id role
-  pub greater : side ≡ z.greater → role ≡ z.role
+  pub greater : z.ranked ≡ true → side ≡ z.greater → role ≡ z.role
 
 -- what is known of a message that the side sent, by its class
 abbrev pub Fact : Setting → List Emitted → Side → Class → Mail → Type 0
 Fact z es side class.Request m = IsCheck z es side m.id m.ice_controlling m.ice_controlled
 Fact z es side class.Success m = Replied es side m.id
-Fact z es side class.Failure m = (side ≡ z.greater) × Gone es (other side) m.id z.role
+Fact z es side class.Failure m = z.ranked ≡ true → (side ≡ z.greater) × Gone es (other side) m.id z.role
 Fact z es side class.Indication m = ⊥
 Fact z es side class.Unknown m = ⊥
 
@@ -115,7 +116,7 @@ pub record Half (z : Setting) (es : List Emitted) (side : Side) (s : RoleState) 
 pub record Carried (z : Setting) (es : List Emitted) (w : Seen) : Type 0 where
   pub half : (s : Side) → Half z es s (at s w)
   pub network : (l : InFlight) (m : Mail) → Has w.network l → l.mail ≡ Some m → Fact z es l.sender m.class m
-  pub role : (at z.greater w).controlling ≡ z.role
+  pub role : z.ranked ≡ true → (at z.greater w).controlling ≡ z.role
 
 -- ---- the log grows
 
@@ -151,7 +152,7 @@ module _ (z : Setting) (es : List Emitted) (e : Emitted) where
   pub fact-grow : (side : Side) (c : Class) (m : Mail) → Fact z es side c m → Fact z (es ++ e ∷ []) side c m
   fact-grow side class.Request m f = check-grow side m.id m.ice_controlling m.ice_controlled f
   fact-grow side class.Success m f = replied-grow side m.id f
-  fact-grow side class.Failure m f = (f.0, gone-grow (other side) m.id z.role f.1)
+  fact-grow side class.Failure m f = λ ranked. (let k = f ranked in (k.0, gone-grow (other side) m.id z.role k.1))
   fact-grow side class.Indication m f = f
   fact-grow side class.Unknown m f = f
 
@@ -186,7 +187,7 @@ pub record Brought (z : Setting) (es : List Emitted) (side : Side) (e : Emitted)
 
 pub record Turn (z : Setting) (es : List Emitted) (side : Side) (old : RoleState) (d : RoleEvent) (e : Emitted) (new : RoleState) : Type 0 where
   pub effect : RoleEffect old d new
-  pub compares : old.keeps ≡ false
+  pub compares : z.ranked ≡ true → old.keeps ≡ false
   pub brought : (m : Mail) → d.accepts ≡ Some m → Brought z es side e m
   pub not_set : d.sets ≡ false
   pub full : z.full side ≡ true → d.makes_lite ≡ false
@@ -248,7 +249,7 @@ module _ (z : Setting) (es : List Emitted) (side : Side) (old new : RoleState) (
   ]
 
   -- the contents of a message that is sent
-  says_fact : (path : Path) (m : Mail) (c : Class) → (side ≡ z.greater → old.controlling ≡ z.role) → d.issued ≡ Some record { path = path; class = c; id = m.id }
+  says_fact : (path : Path) (m : Mail) (c : Class) → (z.ranked ≡ true → side ≡ z.greater → old.controlling ≡ z.role) → d.issued ≡ Some record { path = path; class = c; id = m.id }
       → Conveys c old d m new.controlling → Fact z (es ++ e ∷ []) side c m
   says_fact path m class.Request greater issued says = record {
     role = old.controlling;
@@ -266,23 +267,23 @@ module _ (z : Setting) (es : List Emitted) (side : Side) (old new : RoleState) (
         reply = issues_now class.Success q.id path new.controlling (rw id_is issued) refl;
         in_order = r.in_time;
       })
-  says_fact path m class.Failure greater issued (q, serving, id_is, insisting, stays) =
+  says_fact path m class.Failure greater issued (q, serving, id_is, insisting, stays) = λ ranked. (
       let r = arrived q serving in
-      let k = sends_487-claims old q r.check.role (z.tie (other side)) t.compares r.check.claims insisting in
+      let k = sends_487-claims old q r.check.role (z.tie (other side)) (t.compares ranked) r.check.claims insisting in
       let le : z.tie (other side) ≤ z.tie side = subst (λ n. z.tie (other side) ≤ n) h.tie k.1 in
       let side_greater : side ≡ z.greater = elim (sides side z.greater) [
         | inl is ↦ is
         | inr lesser ↦ (
-            let lt = z.greatest in
+            let lt = z.greatest ranked in
             let back : z.tie z.greater ≤ z.tie (other z.greater) = subst (λ s. z.tie s ≤ z.tie (other z.greater)) (ap other lesser ∙ other-other z.greater) (subst (λ s. z.tie (other side) ≤ z.tie s) lesser le) in
             let none : ⊥ = omega (arith, lt, back) in
             absurd none)
       ] in
-      let role_is : r.check.role ≡ z.role = sym k.0 ∙ greater side_greater in (
+      let role_is : r.check.role ≡ z.role = sym k.0 ∙ greater ranked side_greater in (
         side_greater,
         subst (λ id. Gone (es ++ e ∷ []) (other side) id z.role) id_is
             (subst (λ b. Gone (es ++ e ∷ []) (other side) q.id b) role_is (gone-grow z es e (other side) q.id r.check.role r.check.gone)),
-      )
+      ))
   says_fact path m class.Indication greater issued says = says
   says_fact path m class.Unknown greater issued says = says
 
@@ -326,7 +327,7 @@ module _ (z : Setting) (es : List Emitted) (side : Side) (old new : RoleState) (
         no_clear = no_clear-grow es e q.number side (λ _. go) q.no_clear;
       }
 
-  pub half_turn : (side ≡ z.greater → old.controlling ≡ z.role) → DistinctChecks es → Half z (es ++ e ∷ []) side new
+  pub half_turn : (z.ranked ≡ true → side ≡ z.greater → old.controlling ≡ z.role) → DistinctChecks es → Half z (es ++ e ∷ []) side new
   half_turn greater distinct = record {
     tie = t.effect.tie_breaker t.not_set ∙ h.tie;
     lite = λ full. t.effect.lite (h.lite full) (t.full full);
@@ -373,63 +374,64 @@ module _ (z : Setting) (es : List Emitted) (side : Side) (old new : RoleState) (
 
   -- ---- roles
 
-  -- the greater keeps its role
-  pub greater_turn : side ≡ z.greater → old.controlling ≡ z.role → new.controlling ≡ z.role
-  greater_turn is role = elim (t.effect.role t.not_set) [
-    | inl stays ↦ stays ∙ role
-    | inr switches ↦ elim switches [
-      | inl yielding ↦ (
-          let r = arrived yielding.0 yielding.1 in
-          let k = switches_role-claims old yielding.0 r.check.role (z.tie (other side)) t.compares r.check.claims yielding.2 in
-          let lt = z.greatest in
-          let back : z.tie z.greater < z.tie (other z.greater) = subst (λ s. z.tie s < z.tie (other s)) is (subst (λ n. n < z.tie (other side)) h.tie k.1) in
-          let none : ⊥ = omega (arith, lt, back) in
-          absurd none)
-      | inr by ↦ (
-          let b = t.brought by.mail by.accepted in
-          let f = subst (λ c. Fact z es (other side) c by.mail) by.class b.fact in
-          absurd (not-other side (f.0 ∙ sym is)))
+  module _ (ranked : z.ranked ≡ true) where
+    -- the greater keeps its role
+    pub greater_turn : side ≡ z.greater → old.controlling ≡ z.role → new.controlling ≡ z.role
+    greater_turn is role = elim (t.effect.role t.not_set) [
+      | inl stays ↦ stays ∙ role
+      | inr switches ↦ elim switches [
+        | inl yielding ↦ (
+            let r = arrived yielding.0 yielding.1 in
+            let k = switches_role-claims old yielding.0 r.check.role (z.tie (other side)) (t.compares ranked) r.check.claims yielding.2 in
+            let lt = z.greatest ranked in
+            let back : z.tie z.greater < z.tie (other z.greater) = subst (λ s. z.tie s < z.tie (other s)) is (subst (λ n. n < z.tie (other side)) h.tie k.1) in
+            let none : ⊥ = omega (arith, lt, back) in
+            absurd none)
+        | inr by ↦ (
+            let b = t.brought by.mail by.accepted in
+            let f = subst (λ c. Fact z es (other side) c by.mail) by.class b.fact ranked in
+            absurd (not-other side (f.0 ∙ sym is)))
+      ]
     ]
-  ]
 
-  -- a 487 that a side accepts is for a check that carried the greater's role
-  rejected_role : DistinctChecks es → MeetsConflict old d new → new.controlling ≡ not z.role
-  rejected_role distinct by =
-      let m = by.mail in
-      let b = t.brought m by.accepted in
-      let f = subst (λ c. Fact z es (other side) c m) by.class b.fact in
-      let gone : Gone es side m.id z.role = subst (λ s. Gone es s m.id z.role) (other-other side) f.1 in
-      let k : Kept = record { path = by.kept.0; id = m.id; controlling = by.role } in
-      let q = h.kept k by.kept.1 in
-      let same_number = distinct q.number gone.number m.id k.path gone.path side side by.role z.role q.check gone.check in
-      let same_entry : q.check.entry ≡ gone.check.entry = (let x = q.check.found in let y = gone.check.found in cc) in
-      let role : by.role ≡ z.role = sym q.check.role_is ∙ ap (λ (y : Emitted). role_at side y.roles) same_entry ∙ gone.check.role_is in
-      by.removes_expired ∙ ap not role
+    -- a 487 that a side accepts is for a check that carried the greater's role
+    rejected_role : DistinctChecks es → MeetsConflict old d new → new.controlling ≡ not z.role
+    rejected_role distinct by =
+        let m = by.mail in
+        let b = t.brought m by.accepted in
+        let f = subst (λ c. Fact z es (other side) c m) by.class b.fact ranked in
+        let gone : Gone es side m.id z.role = subst (λ s. Gone es s m.id z.role) (other-other side) f.1 in
+        let k : Kept = record { path = by.kept.0; id = m.id; controlling = by.role } in
+        let q = h.kept k by.kept.1 in
+        let same_number = distinct q.number gone.number m.id k.path gone.path side side by.role z.role q.check gone.check in
+        let same_entry : q.check.entry ≡ gone.check.entry = (let x = q.check.found in let y = gone.check.found in cc) in
+        let role : by.role ≡ z.role = sym q.check.role_is ∙ ap (λ (y : Emitted). role_at side y.roles) same_entry ∙ gone.check.role_is in
+        by.removes_expired ∙ ap not role
 
-  -- a request that the lesser serves carries the greater's role
-  request_role : side ≡ other z.greater → (q : RequestRecord) → (serving : d.serves ≡ Some q) → (arrived q serving).check.role ≡ z.role
-  request_role is q serving = (arrived q serving).check.greater (ap other is ∙ other-other z.greater)
+    -- a request that the lesser serves carries the greater's role
+    request_role : side ≡ other z.greater → (q : RequestRecord) → (serving : d.serves ≡ Some q) → (arrived q serving).check.role ≡ z.role
+    request_role is q serving = (arrived q serving).check.greater ranked (ap other is ∙ other-other z.greater)
 
-  -- the lesser one does not switch back
-  pub lesser_turn : DistinctChecks es → side ≡ other z.greater → old.controlling ≡ not z.role → new.controlling ≡ not z.role
-  lesser_turn distinct is role = elim (t.effect.role t.not_set) [
-    | inl stays ↦ stays ∙ role
-    | inr switches ↦ elim switches [
-      | inl yielding ↦ (
-          let r = arrived yielding.0 yielding.1 in
-          let k = switches_role-claims old yielding.0 r.check.role (z.tie (other side)) t.compares r.check.claims yielding.2 in
-          absurd (not-self z.role (sym role ∙ k.0 ∙ request_role is yielding.0 yielding.1)))
-      | inr by ↦ rejected_role distinct by
+    -- the lesser one does not switch back
+    pub lesser_turn : DistinctChecks es → side ≡ other z.greater → old.controlling ≡ not z.role → new.controlling ≡ not z.role
+    lesser_turn distinct is role = elim (t.effect.role t.not_set) [
+      | inl stays ↦ stays ∙ role
+      | inr switches ↦ elim switches [
+        | inl yielding ↦ (
+            let r = arrived yielding.0 yielding.1 in
+            let k = switches_role-claims old yielding.0 r.check.role (z.tie (other side)) (t.compares ranked) r.check.claims yielding.2 in
+            absurd (not-self z.role (sym role ∙ k.0 ∙ request_role is yielding.0 yielding.1)))
+        | inr by ↦ rejected_role distinct by
+      ]
     ]
-  ]
 
-  -- and it has the other role once it met the greater's
-  pub met_turn : DistinctChecks es → side ≡ other z.greater
-      → ((q : RequestRecord) × (d.serves ≡ Some q) × (old.passes q ≡ true)) ⊎ ((m : Mail) × (d.accepts ≡ Some m) × (m.class ≡ class.Failure) × (m.is_conflict ≡ true))
-      → new.controlling ≡ not z.role
-  met_turn distinct is (inl (q, serving, passing)) =
-      let r = arrived q serving in
-      let less : old.tie_breaker < z.tie (other side) =
-      subst (λ n. n < z.tie (other side)) (sym h.tie) (subst (λ s. z.tie s < z.tie (other s)) (sym is) (subst (λ s. z.tie (other z.greater) < z.tie s) (sym (other-other z.greater)) z.greatest)) in
-      t.effect.settled q serving passing ∙ settled-claims old q r.check.role (z.tie (other side)) t.compares r.check.claims less ∙ ap not (request_role is q serving)
-  met_turn distinct is (inr (m, accepts, class_is, conflict)) = rejected_role distinct (t.effect.expired t.compares m accepts class_is conflict)
+    -- and it has the other role once it met the greater's
+    pub met_turn : DistinctChecks es → side ≡ other z.greater
+        → ((q : RequestRecord) × (d.serves ≡ Some q) × (old.passes q ≡ true)) ⊎ ((m : Mail) × (d.accepts ≡ Some m) × (m.class ≡ class.Failure) × (m.is_conflict ≡ true))
+        → new.controlling ≡ not z.role
+    met_turn distinct is (inl (q, serving, passing)) =
+        let r = arrived q serving in
+        let less : old.tie_breaker < z.tie (other side) =
+        subst (λ n. n < z.tie (other side)) (sym h.tie) (subst (λ s. z.tie s < z.tie (other s)) (sym is) (subst (λ s. z.tie (other z.greater) < z.tie s) (sym (other-other z.greater)) (z.greatest ranked))) in
+        t.effect.settled q serving passing ∙ settled-claims old q r.check.role (z.tie (other side)) (t.compares ranked) r.check.claims less ∙ ap not (request_role is q serving)
+    met_turn distinct is (inr (m, accepts, class_is, conflict)) = rejected_role distinct (t.effect.expired (t.compares ranked) m accepts class_is conflict)

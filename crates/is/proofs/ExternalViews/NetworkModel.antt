@@ -78,11 +78,10 @@ pub record IsAwaited (s : RoleState) (d : RoleEvent) (id : List ℕ) : Type 0 wh
   pub back : (via.source ≡ path.destination) × (via.destination ≡ path.source)
 
 -- the side does something; each packet that it adds to the multiset was in its queue
-pub record Moves (w : Seen) (side : Side) (d : RoleEvent) (e : Emitted) (w' : Seen) : Type 0 where
+pub record Moves (w : Seen) (side : Side) (d : RoleEvent) (keeps : Bool) (e : Emitted) (w' : Seen) : Type 0 where
   pub new : RoleState
   pub effect : RoleEffect (at side w) d new
-  -- it is no lite agent that keeps its role
-  pub compares : (at side w).keeps ≡ false
+  pub keeps_is : (at side w).keeps ≡ keeps
   pub posted : List InFlight
   pub world : w' ≡ record (put side new w) { network = w.network ++ posted }
   pub from_queue : (l : InFlight) → Has posted l → (l.sender ≡ side) × Has (at side w).packets l.mail
@@ -106,10 +105,10 @@ pub record Persists (w : Seen) (e : Emitted) (w' : Seen) : Type 0 where
   pub clear_is : e.clear ≡ false
   pub roles_are : e.roles ≡ roles_of w'
 
--- what happens: nothing, or a side does something
+-- what happens: nothing, or a side does something; and whether this is a lite agent that keeps its role
 pub data Kind : Type 0 where
   Still : Kind
-  Move : Side → RoleEvent → Kind
+  Move : Side → RoleEvent → Bool → Kind
 
 pub record Happening : Type 0 where
   pub kind : Kind
@@ -117,7 +116,7 @@ pub record Happening : Type 0 where
 
 abbrev pub Happens : Seen → Kind → Emitted → Seen → Type 0
 Happens w Still e w' = Persists w e w'
-Happens w (Move side d) e w' = Moves w side d e w'
+Happens w (Move side d keeps) e w' = Moves w side d keeps e w'
 
 -- the log, in order, may be that of an execution from the first network model to the last
 abbrev pub Run : Seen → List Happening → Seen → Type 0
@@ -184,17 +183,29 @@ DistinctChecks es =
 
 -- ---- the preconditions
 
--- `greater` has the greater tie-breaker, and no two checks have the same id
-pub record Preconditions (first : Seen) (greater : Side) (es : List Emitted) : Type 0 where
+-- both agents are new, and no two checks have the same id
+pub record Start (first : Seen) (es : List Emitted) : Type 0 where
   pub new : (s : Side) → IsNewRoleState (at s first)
   pub empty : first.network ≡ []
-  pub tie : (at (other greater) first).tie_breaker < (at greater first).tie_breaker
   pub distinct : DistinctChecks es
+
+-- so it is, and `greater` has the greater tie-breaker
+pub record Preconditions (first : Seen) (greater : Side) (es : List Emitted) : Type 0 where
+  pub start : Start first es
+  pub tie : (at (other greater) first).tie_breaker < (at greater first).tie_breaker
+
+-- no lite agent that keeps its role does anything
+abbrev pub Compares : Kind → Type 0
+Compares Still = Unit {0}
+Compares (Move side d keeps) = keeps ≡ false
+
+abbrev pub AllCompare : List Happening → Type 0
+AllCompare log = AllByRecursion (λ x. Compares x.kind) log
 
 -- the side does not become ICE-lite
 abbrev pub StaysFull : Side → Kind → Type 0
 StaysFull side Still = Unit {0}
-StaysFull side (Move s d) = s ≡ side → d.makes_lite ≡ false
+StaysFull side (Move s d keeps) = s ≡ side → d.makes_lite ≡ false
 
 abbrev pub NeverLite : Side → List Happening → Type 0
 NeverLite side log = AllByRecursion (λ x. StaysFull side x.kind) log
@@ -207,17 +218,19 @@ roles_along side es = map (λ e. role_at side e.roles) es
 -- the greater's role is the same after every event
 abbrev pub KeepsRole : Seen → List Happening → Type 0
 KeepsRole first log =
-    (greater : Side) → Preconditions first greater (emitted_of log) → AllByRecursion (λ e. role_at greater e.roles ≡ (at greater first).controlling) (emitted_of log)
+    (greater : Side) → Preconditions first greater (emitted_of log) → AllCompare log
+    → AllByRecursion (λ e. role_at greater e.roles ≡ (at greater first).controlling) (emitted_of log)
 
 -- the other's changes in at most one event
 abbrev pub SwitchesOnceIn : Seen → List Happening → Type 0
 SwitchesOnceIn first log =
-    (greater : Side) → Preconditions first greater (emitted_of log) → changes (at (other greater) first).controlling (roles_along (other greater) (emitted_of log)) ≤ 1
+    (greater : Side) → Preconditions first greater (emitted_of log) → AllCompare log
+    → changes (at (other greater) first).controlling (roles_along (other greater) (emitted_of log)) ≤ 1
 
 -- the side serves a request after the tests of its USERNAME and its destination, or accepts a 487
 abbrev pub Meets : Side → Seen → Kind → Type 0
 Meets side w Still = ⊥
-Meets side w (Move s d) =
+Meets side w (Move s d keeps) =
     (s ≡ side)
     × (((q : RequestRecord) × (d.serves ≡ Some q) × ((at side w).passes q ≡ true))
     ⊎ ((m : Mail) × (d.accepts ≡ Some m) × (m.class ≡ class.Failure) × (m.is_conflict ≡ true)))
@@ -234,18 +247,18 @@ pub record Point (first : Seen) (log before : List Happening) (mid : Seen) (x : 
 -- from the event on at which the lesser one met the greater's role, the roles differ
 abbrev pub DifferOnceMet : Seen → List Happening → Type 0
 DifferOnceMet first log =
-    (greater : Side) → Preconditions first greater (emitted_of log) → (before : List Happening) (mid : Seen) (x : Happening) (rest : List Happening)
+    (greater : Side) → Preconditions first greater (emitted_of log) → AllCompare log → (before : List Happening) (mid : Seen) (x : Happening) (rest : List Happening)
     → Point first log before mid x rest → Meets (other greater) mid x.kind → AllByRecursion (λ e. e.roles.a ≢ e.roles.b) (emitted_of (x ∷ rest))
 
 -- each path that a side selected which was never ICE-lite was answered by the other agent
 abbrev pub Traced : Seen → List Happening → Type 0
 Traced first log =
-    (greater side : Side) → Preconditions first greater (emitted_of log) → NeverLite side log → (before : List Happening) (mid : Seen) (x : Happening) (rest : List Happening)
+    (side : Side) → Start first (emitted_of log) → NeverLite side log → (before : List Happening) (mid : Seen) (x : Happening) (rest : List Happening)
     → Point first log before mid x rest → (path : Path) → x.emitted.side ≡ Some side → Has x.emitted.selected_paths path → Trace (emitted_of before ++ x.emitted ∷ []) side path
 
 -- each success response that a side accepted came back on the path of a check with its id
 abbrev pub AnswersComeBack : Seen → List Happening → Type 0
 AnswersComeBack first log =
-    (greater side : Side) → Preconditions first greater (emitted_of log) → (before : List Happening) (mid : Seen) (x : Happening) (rest : List Happening)
+    (side : Side) → Start first (emitted_of log) → (before : List Happening) (mid : Seen) (x : Happening) (rest : List Happening)
     → Point first log before mid x rest → (id : List ℕ) → x.emitted.side ≡ Some side → x.emitted.accepted ≡ true
     → x.emitted.moved ≡ Some record { class = class.Success; id = id } → Back (emitted_of before) side id x.emitted.via

@@ -264,8 +264,9 @@ module _ {H P : Type 0} where
 pub record Comes {H P : Type 0} (w w' : WorldRecord H P) (x : LoggedEvent P) : Type 0 where
   pub kind : Kind
   pub happens : seen.Happens (seen_of w) kind (emitted_at x) (seen_of w')
-  pub made : (side : Side) (c : agent.Call P) → Makes w x.event side c → kind ≡ Move side (role_event_of (world.at side w) c x.outcome.entry)
+  pub made : (side : Side) (c : agent.Call P) → Makes w x.event side c → kind ≡ Move side (role_event_of (world.at side w) c x.outcome.entry) (keeps_role (world.at side w))
   pub full : (side : Side) → StaysFull side x.event → seen.StaysFull side kind
+  pub compares : NoneKeeps w → seen.Compares kind
   pub sound : AreSound w'
 
 -- what a side does, and the in-flight packets that are added to the multiset
@@ -289,12 +290,12 @@ map-append f [] ys = refl
 map-append f (x ∷ xs) ys = ap (λ zs. f x ∷ zs) (map-append f xs ys)
 
 module _ {H P : Type 0} where
-  moves_so : (w : WorldRecord H P) (side : Side) (d : RoleEvent) (e : Emitted) (new : AgentRecord H P) (network posted : List InFlightRecord) → NoneKeeps w → Did w side d e new network posted
-      → Moves (seen_of w) side d e (seen_of (record (world.put side new w) { network = network }))
-  moves_so w side d e new network posted free k = record {
+  moves_so : (w : WorldRecord H P) (side : Side) (d : RoleEvent) (e : Emitted) (new : AgentRecord H P) (network posted : List InFlightRecord) → Did w side d e new network posted
+      → Moves (seen_of w) side d (keeps_role (world.at side w)) e (seen_of (record (world.put side new w) { network = network }))
+  moves_so w side d e new network posted k = record {
     new = role_state_of new;
     effect = subst (λ s. RoleEffect s d (role_state_of new)) (sym (at_side side w)) k.effect;
-    compares = subst (λ s. s.keeps ≡ false) (sym (at_side side w)) (free side);
+    keeps_is = ap (λ s. s.keeps) (at_side side w);
     posted = map in_flight_as posted;
     world = put_side side new w network ∙ ap (λ b. record (seen.put side (role_state_of new) (seen_of w)) { network = b }) (ap (map in_flight_as) k.multiset_is ∙ map-append in_flight_as w.network posted);
     from_queue = λ l has. (let o = k.from l has in (o.0, subst (λ s. Has s.packets l.mail) (sym (at_side side w)) o.1));
@@ -332,6 +333,7 @@ module _ {H P : Type 0} where
     };
     made = λ s c made. absurd (no_one s c made);
     full = λ s h. tt;
+    compares = λ none. tt;
     sound = sound;
   })
 
@@ -349,8 +351,8 @@ module _ {H P : Type 0} where
       made : (s : Side) (d : agent.Call P) → Makes w x.event s d → (side ≡ s) × (c ≡ d)
       full : (s : Side) → StaysFull s x.event → side ≡ s → sets_lite c ≡ false
 
-    turns : (w w' : WorldRecord H P) (s t : Streams) (side : Side) (c : agent.Call P) (x : LoggedEvent P) → AreSound w → NoneKeeps w → TakesTurn mac answers w s side c x.outcome w' t → Packets w side c x → Comes w w' x
-    turns w w' s t side c x sound free k p =
+    turns : (w w' : WorldRecord H P) (s t : Streams) (side : Side) (c : agent.Call P) (x : LoggedEvent P) → AreSound w → TakesTurn mac answers w s side c x.outcome w' t → Packets w side c x → Comes w w' x
+    turns w w' s t side c x sound k p =
         let old = world.at side w in
         let d = role_event_of old c x.outcome.entry in
         let path = paths old k.new (world.source_of side s) k.left c x.outcome.entry (sound side) k.given k.step in
@@ -371,18 +373,20 @@ module _ {H P : Type 0} where
           roles_are = ap roles_as (k.roles ∙ ap world.roles_of (k.world ∙ sym (same_multiset side k.new w)));
         } in
         subst (λ v. Comes w v x) (sym (k.world ∙ sym (same_multiset side k.new w))) (record {
-          kind = Move side d;
-          happens = moves_so w side d (emitted_at x) k.new w.network [] free did;
+          kind = Move side d (keeps_role old);
+          happens = moves_so w side d (emitted_at x) k.new w.network [] did;
           made = λ s' c' made.
               let is = p.made s' c' made in
-              ap (λ y. Move y (role_event_of (world.at y w) c x.outcome.entry)) is.0 ∙ ap (λ y. Move s' (role_event_of (world.at s' w) y x.outcome.entry)) is.1;
+              ap (λ y. Move y (role_event_of (world.at y w) c x.outcome.entry) (keeps_role (world.at y w))) is.0
+              ∙ ap (λ y. Move s' (role_event_of (world.at s' w) y x.outcome.entry) (keeps_role (world.at s' w))) is.1;
           full = p.full;
+          compares = λ none. none side;
           sound = sound_put side k.new w w.network sound path.1;
         })
 
-    called : (w w' : WorldRecord H P) (s t : Streams) (side : Side) (c : agent.Call P) (x : LoggedEvent P) → AreSound w → NoneKeeps w → x.event ≡ world.Call side c → in_world c ≡ true
+    called : (w w' : WorldRecord H P) (s t : Streams) (side : Side) (c : agent.Call P) (x : LoggedEvent P) → AreSound w → x.event ≡ world.Call side c → in_world c ≡ true
         → TakesTurn mac answers w s side c x.outcome w' t → Comes w w' x
-    called w w' s t side c x sound free event_is is k = turns w w' s t side c x sound free k (record {
+    called w w' s t side c x sound event_is is k = turns w w' s t side c x sound k (record {
       delivered = λ m accepted. absurd (let none = unaccepting c x.outcome.entry.answer is in cc);
       accepts = λ y yes moved. absurd (let none = ap (option_map moved_as) (k.moved ∙ unmoving c is) in cc);
       awaited = λ m accepted success. absurd (let none = unaccepting c x.outcome.entry.answer is in cc);
@@ -397,16 +401,16 @@ module _ {H P : Type 0} where
     other-other B = refl
 
     delivers : (o : Option InFlightRecord) (w w' : WorldRecord H P) (s t : Streams) (place now : ℕ) (via : Path) (x : LoggedEvent P) → x.event ≡ world.Deliver place now via → slice_get w.network place ≡ o
-        → AreSound w → NoneKeeps w → Delivers mac answers w s o now via x.outcome w' t → Comes w w' x
-    delivers None w w' s t place now via x event_is found sound free k =
+        → AreSound w → Delivers mac answers w s o now via x.outcome w' t → Comes w w' x
+    delivers None w w' s t place now via x event_is found sound k =
         persists_still w w' x agent.NoSuchPacket None sound k.2 k.0
         (λ s' c made. (let m : Makes w (world.Deliver place now via) s' c = subst (λ v. Makes w v s' c) event_is made in let found_one = m.1 in cc))
-    delivers (Some l) w w' s t place now via x event_is found sound free k =
+    delivers (Some l) w w' s t place now via x event_is found sound k =
         let side = other l.sender in
         let bytes = l.packet.contents in
         let c : agent.Call P = agent.ReceivePacket now via bytes in
         let old = world.at side w in
-        turns w w' s t side c x sound free k (record {
+        turns w w' s t side c x sound k (record {
           delivered = λ m accepted. (
               let is = when_is x.outcome.entry.answer (mail_read bytes) m accepted in
               (l, Has-get w.network place l found, other-other l.sender, is.1, ap is_yes is.0, ap (option_map moved_as) k.moved ∙ mail_moved (fault_of bytes) (message_of bytes) m is.1));
@@ -445,8 +449,8 @@ module _ {H P : Type 0} where
 
     -- ---- a poll
 
-    polls : (w w' : WorldRecord H P) (s t : Streams) (side : Side) (x : LoggedEvent P) → AreSound w → NoneKeeps w → x.event ≡ world.Poll side → Polls mac answers w s side x.outcome w' t → Comes w w' x
-    polls w w' s t side x sound free event_is k = subst (λ v. Comes w v x) (sym k.world) (by k.new k.network k.answer k.polled (k.emitted ∙ ap (λ v. plain k.answer (Some side) (world.roles_of v)) k.world)) where
+    polls : (w w' : WorldRecord H P) (s t : Streams) (side : Side) (x : LoggedEvent P) → AreSound w → x.event ≡ world.Poll side → Polls mac answers w s side x.outcome w' t → Comes w w' x
+    polls w w' s t side x sound event_is k = subst (λ v. Comes w v x) (sym k.world) (by k.new k.network k.answer k.polled (k.emitted ∙ ap (λ v. plain k.answer (Some side) (world.roles_of v)) k.world)) where
       no_one : (s' : Side) (c : agent.Call P) → Makes w x.event s' c → ⊥
       no_one s' c made = subst (λ v. Makes w v s' c) event_is made
 
@@ -479,10 +483,11 @@ module _ {H P : Type 0} where
             roles_are = ap (λ (o : Outcome). roles_as o.controlling) is;
           } in
           record {
-            kind = Move side d;
-            happens = moves_so w side d (emitted_at x) new network posted free did;
+            kind = Move side d (keeps_role old);
+            happens = moves_so w side d (emitted_at x) new network posted did;
             made = λ s' c made. absurd (no_one s' c made);
             full = λ s' full same. refl;
+            compares = λ none. none side;
             sound = sound_put side new w network sound path.1;
           }
 
@@ -503,17 +508,17 @@ module _ {H P : Type 0} where
 
     -- ---- executions
 
-    pub event : (w w' : WorldRecord H P) (s t : Streams) (x : LoggedEvent P) → AreSound w → NoneKeeps w → Happens mac answers w s x.event x.outcome w' t → Comes w w' x
-    event w w' s t x sound free h = by x.event refl h where
+    pub event : (w w' : WorldRecord H P) (s t : Streams) (x : LoggedEvent P) → AreSound w → Happens mac answers w s x.event x.outcome w' t → Comes w w' x
+    event w w' s t x sound h = by x.event refl h where
       by : (v : Event P) → x.event ≡ v → Happens mac answers w s v x.outcome w' t → Comes w w' x
       by (world.Call side c) is k =
           elim (in_world c) as (λ b. in_world c ≡ b → MatchBool b (TakesTurn mac answers w s side c x.outcome w' t) (Persists mac answers w s agent.NotInWorld (Some side) x.outcome w' t) → Comes w w' x) [
-            | true ↦ λ within turn. called w w' s t side c x sound free is within turn
+            | true ↦ λ within turn. called w w' s t side c x sound is within turn
             | false ↦ λ without persisted. persists_still w w' x agent.NotInWorld (Some side) sound persisted.2 persisted.0
                 (λ s' d made. (let m : Makes w (world.Call side c) s' d = subst (λ v. Makes w v s' d) is made in let no = m.2 in cc))
           ] refl k
-      by (world.Poll side) is k = polls w w' s t side x sound free is k
-      by (world.Deliver place now via) is k = delivers (slice_get w.network place) w w' s t place now via x is refl sound free k
+      by (world.Poll side) is k = polls w w' s t side x sound is k
+      by (world.Deliver place now via) is k = delivers (slice_get w.network place) w w' s t place now via x is refl sound k
       by (world.Stray side now via bytes) is (answer, left, (same, kept, was)) = persists_still w w' x answer (Some side) sound was same
           (λ s' d made. subst (λ v. Makes w v s' d) is made)
 
@@ -556,33 +561,36 @@ module _ {H P : Type 0} where
       by (world.Stray side now via bytes) leaves (answer, left, (still, kept, was)) = same still
 
     -- an execution, as it is observed
-    pub record Follows (how : Side → Bool) (first : WorldRecord H P) (log : List (LoggedEvent P)) (last : WorldRecord H P) : Type 0 where
+    pub record Follows (first : WorldRecord H P) (log : List (LoggedEvent P)) (last : WorldRecord H P) : Type 0 where
       pub seen_log : List Happening
       pub ran : seen.Run (seen_of first) seen_log (seen_of last)
       pub emitted : emitted_of seen_log ≡ map emitted_at log
       pub full : (side : Side) → IsNeverLite side log → NeverLite side seen_log
       pub sound : AreSound last
-      pub compares : BothCompare how last
+      pub compares : (how : Side → Bool) → BothCompare how first → ((side : Side) → AllByRecursion (λ x. Leaves (how side) side x.event) log)
+          → seen.AllCompare seen_log × BothCompare how last
 
-    pub follow : (how : Side → Bool) (log : List (LoggedEvent P)) (first last : WorldRecord H P) (s t : Streams) (n : ℕ) → AreSound first → BothCompare how first
-        → ((side : Side) → AllByRecursion (λ x. Leaves (how side) side x.event) log) → world.WorldRun mac answers first s n log last t → Follows how first log last
-    follow how [] first last s t n sound compares leaves (is, _) = record {
+    pub follow : (log : List (LoggedEvent P)) (first last : WorldRecord H P) (s t : Streams) (n : ℕ) → AreSound first → world.WorldRun mac answers first s n log last t
+        → Follows first log last
+    follow [] first last s t n sound (is, _) = record {
       seen_log = [];
       ran = ap seen_of is;
       emitted = refl;
       full = λ side h. tt;
       sound = subst AreSound (sym is) sound;
-      compares = subst (λ v. BothCompare how v) (sym is) compares;
+      compares = λ how compare leaves. (tt, subst (λ v. BothCompare how v) (sym is) compare);
     }
-    follow how (x ∷ log) first last s t n sound compares leaves (mid, u, number, happens, ran) =
-        let c = event first mid s u x sound (none_keeps how first compares) happens in
-        let next = compares_on how first mid s u x sound compares (λ side. (let k = leaves side in k.0)) happens in
-        let more = follow how log mid last u t (suc n) c.sound next (λ side. (let k = leaves side in k.1)) ran in
+    follow (x ∷ log) first last s t n sound (mid, u, number, happens, ran) =
+        let c = event first mid s u x sound happens in
+        let more = follow log mid last u t (suc n) c.sound ran in
         record {
           seen_log = record { kind = c.kind; emitted = emitted_at x } ∷ more.seen_log;
           ran = (seen_of mid, c.happens, more.ran);
           emitted = ap (λ es. emitted_at x ∷ es) more.emitted;
           full = λ side never. (c.full side never.0, more.full side never.1);
           sound = more.sound;
-          compares = more.compares;
+          compares = λ how compare leaves. (
+              let next = compares_on how first mid s u x sound compare (λ side. (let k = leaves side in k.0)) happens in
+              let later = more.compares how next (λ side. (let k = leaves side in k.1)) in
+              ((c.compares (none_keeps how first compare), later.0), later.1));
         }

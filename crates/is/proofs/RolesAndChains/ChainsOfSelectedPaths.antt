@@ -1,4 +1,4 @@
--- Each selected path has a causal chain, and its response came back on the path.
+-- Each selected path has a causal chain, and its response came back on the path. What mutants/specifications changes is read by tactics.
 use Rattle.std.proofs.Common.{◌≡◌, ℕ, zero, suc, ◌<◌, ◌≤◌, Bool, true, false, List, [], ◌∷◌, ◌++◌, map, length, Option, Some, None, option_map, ◌⊎◌, inl, inr, refl, ap, sym, ◌∙◌, subst, arith}
 use Rattle.std.specs.Prelude.{MatchBool, slice_get}
 use Rattle.std.specs.List.{AllByRecursion}
@@ -25,13 +25,13 @@ use Rattle.is.specs.Views.{answer_view}
 use Rattle.is.specs.World as world
 use Rattle.is.specs.declared.world_events.WorldLog.{WorldLog}
 use Rattle.is.specs.World.{WorldRecord, Event, LoggedEvent, logged_as, logged, other, IsWorldLog, Streams}
-use Rattle.is.specs.WorldRoles.{HaveDistinctIds, IsFairWorld, IsNeverLite, Point, role_in, changes, GreaterKeeps, LesserSwitchesOnce}
+use Rattle.is.specs.WorldRoles.{HaveDistinctIds, IsNewWorld, IsNeverLite, Point, role_in, changes, GreaterKeeps, LesserSwitchesOnce}
 use Rattle.is.specs.Traces.{Issues, TakesMessage, SelectsPathAt, IsAt, IsUncleared, IsTrace, ComesBack, SelectedAreTraced}
 use Rattle.is.proofs.ExternalViews.NetworkModel as seen
 use Rattle.is.proofs.ExternalViews.NetworkModel.{Moved, Emitted, emitted_of}
 use Rattle.is.proofs.ExternalViews.PreservedByEvents as runs
 use Rattle.is.proofs.ExternalViews.ViewsOfExecutions.{seen_of, moved_as, is_yes, via_in, emitted_at}
-use Rattle.is.proofs.RolesAndChains.RolesAndChainsOfViews.{get-map_back, how_of, issued_back, leaves_all, preconditions_seen, sound_first, compares_first, Sight, sight, greater_keeps, lesser_switches_once}
+use Rattle.is.proofs.RolesAndChains.RolesAndChainsOfViews.{get-map_back, issued_back, start_seen, sound_first, Sight, sight, greater_keeps, lesser_switches_once}
 
 -- ---- lists
 
@@ -108,7 +108,10 @@ moved_back (Some m) c id h =
 
 came_back : {P : Type 0} (path via : Path) (v : Event P) → via_in v ≡ Some via → (via.source ≡ path.destination) × (via.destination ≡ path.source) → ComesBack path v
 came_back path via (world.Deliver place now w) came back =
-    let same : w ≡ via = cc in (ap (λ (x : Path). x.source) same ∙ back.0, ap (λ (x : Path). x.destination) same ∙ back.1)
+    let same : w ≡ via = cc in
+    let source : w.source ≡ path.destination = ap (λ (x : Path). x.source) same ∙ back.0 in
+    let destination : w.destination ≡ path.source = ap (λ (x : Path). x.destination) same ∙ back.1 in
+    (search source, search destination)
 came_back path via (world.Call side c) came back = absurd (let wrong : None ≡ Some via = came in cc)
 came_back path via (world.Poll side) came back = absurd (let wrong : None ≡ Some via = came in cc)
 came_back path via (world.Stray side now w bytes) came back = absurd (let wrong : None ≡ Some via = came in cc)
@@ -171,7 +174,7 @@ module _ {H P : Type 0} (mac : H → List ℕ → List ℕ → List ℕ) (answer
 
   module _ (paths : PathTheorem {H = H} {P = P} mac answers) (roles : RoleTheorem {H = H} {P = P} mac answers) (fresh_sound : FreshIsSound H P)
       (events : List (TwoAgentsEvent P)) (entries : List WorldEntry) (count : length entries ≡ length events)
-      (first last : WorldRecord H P) (s t : Streams) (ran : world.WorldRun mac answers first s 0 (logged events entries) last t) (greater : Side) (fair : IsFairWorld first greater (logged events entries)) where
+      (first last : WorldRecord H P) (s t : Streams) (ran : world.WorldRun mac answers first s 0 (logged events entries) last t) (start : IsNewWorld first (logged events entries)) where
     abbrev Log : List (LoggedEvent P)
     Log = logged events entries
 
@@ -201,8 +204,7 @@ module _ {H P : Type 0} (mac : H → List ℕ → List ℕ → List ℕ) (answer
         record {
           cut = cut;
           mid = k.mid;
-          sees = sight mac answers paths roles fresh_sound first k.mid s Log cut.rest x (how_of first greater Log fair) (sound_first fresh_sound first greater Log fair)
-              (compares_first first greater Log fair) (leaves_all first greater Log fair) point;
+          sees = sight mac answers paths roles fresh_sound first k.mid s Log cut.rest x (sound_first fresh_sound first Log start) point;
         }
 
     -- ---- entries up to a number
@@ -282,9 +284,9 @@ module _ {H P : Type 0} (mac : H → List ℕ → List ℕ → List ℕ) (answer
               delivery = (takes_at t.delivered (other side) class.Request t.id t.delivery).0;
               reply = (reply.0.0, reply.0.1, (t.reply_path, reply.0.2));
               answer = answer.0;
-              in_order = (t.in_order.0, t.in_order.1, t.in_order.2, answer.1);
+              in_order = (t.in_order.0, search t.in_order.1, search t.in_order.2, answer.1);
             };
-            uncleared = uncleared t.checked side t.no_clear;
+            uncleared = search (uncleared t.checked side t.no_clear);
           }
 
     -- ---- the theorem
@@ -295,7 +297,7 @@ module _ {H P : Type 0} (mac : H → List ℕ → List ℕ → List ℕ) (answer
         let x = logged_as o.0 e in
         let here = at_number n x o.1 in
         let k = here.sees in
-        let t = runs.traced (seen_of first) k.whole greater side (preconditions_seen first greater Log (emitted_of k.whole) k.emitted fair) (k.full side never)
+        let t = runs.traced (seen_of first) k.whole side (start_seen first Log (emitted_of k.whole) k.emitted start) (k.full side never)
         k.before (seen_of here.mid) k.here k.following k.point path
         (ap (λ (y : Emitted). y.side) k.emitted_here ∙ side_is) (subst (λ (y : Emitted). Has y.selected_paths path) (sym k.emitted_here) (paths_has e.announced place path selected_paths)) in
         (_, traced_by n x here side path t)
@@ -307,7 +309,7 @@ module _ {H P : Type 0} (mac : H → List ℕ → List ℕ → List ℕ) (answer
         let x = logged_as o.0 e in
         let here = at_number t.answered x o.1 in
         let k = here.sees in
-        let back = runs.answers_come_back (seen_of first) k.whole greater side (preconditions_seen first greater Log (emitted_of k.whole) k.emitted fair) k.before (seen_of here.mid) k.here k.following k.point trace.id.0
+        let back = runs.answers_come_back (seen_of first) k.whole side (start_seen first Log (emitted_of k.whole) k.emitted start) k.before (seen_of here.mid) k.here k.following k.point trace.id.0
         (ap (λ (y : Emitted). y.side) k.emitted_here ∙ side_is)
         (ap (λ (y : Emitted). y.accepted) k.emitted_here ∙ ap (λ a. is_yes (answer_view a)) accepted)
         (ap (λ (y : Emitted). y.moved) k.emitted_here ∙ ap (option_map moved_as) moved) in
@@ -317,7 +319,7 @@ module _ {H P : Type 0} (mac : H → List ℕ → List ℕ → List ℕ) (answer
         let (f, f_found, (f_side, f_issued)) = trace.check in
         let p = logged_at events entries count t.checked f f_found in
         let y = logged_as p.0 f in
-        let same_path = one_path Log fair.distinct back.number t.checked trace.id.0 back.path path sent.0 y there p.1 issued f_issued in
+        let same_path = one_path Log (search start.distinct) back.number t.checked trace.id.0 back.path path sent.0 y there p.1 issued f_issued in
         let came : via_in x.event ≡ Some back.via = ap (λ (z : Emitted). z.via) (sym k.emitted_here) ∙ back.came in
         (x, o.1, came_back path back.via x.event came (subst (λ (q : Path). (back.via.source ≡ q.destination) × (back.via.destination ≡ q.source)) same_path back.back))
 
@@ -357,10 +359,12 @@ module _ {H P : Type 0} (mac : H → List ℕ → List ℕ → List ℕ) (answer
 
     pub log_traced : (first last : WorldRecord H P) (s t : Streams) (events : List (TwoAgentsEvent P)) (log : WorldLog) → IsWorldLog mac answers first s events log last t
         → SelectedAreTraced first (logged events log.entries.items) log.entries.items
-    log_traced first last s t events log h greater side fair never n place path at = elim (ran_or_none first last s t events log h) [
-      | inl none ↦ absurd (empty_at log.entries.items none n at.0 at.1)
-      | inr ran ↦ selected_are_traced mac answers paths roles fresh_sound events log.entries.items ran.0 first last s t ran.1 greater fair side never n place path at
-    ]
+    log_traced first last s t events log h side start never n place path at =
+        let full : IsNeverLite side (logged events log.entries.items) = search never in
+        elim (ran_or_none first last s t events log h) [
+          | inl none ↦ absurd (empty_at log.entries.items none n at.0 at.1)
+          | inr ran ↦ selected_are_traced mac answers paths roles fresh_sound events log.entries.items ran.0 first last s t ran.1 start side full n place path at
+        ]
       where
         empty_at : (es : List WorldEntry) → es ≡ [] → (n : ℕ) (e : WorldEntry) → slice_get es n ≡ Some e → ⊥
         empty_at [] is n e found = (let wrong : None ≡ Some e = found in cc)

@@ -1,4 +1,5 @@
--- Roles of two agents, and causal chains of the paths that they select, from executions with external views.
+-- Roles of two agents, and causal chains of the paths that they select, from executions with external views. What mutants/specifications
+-- changes is read by tactics.
 use Rattle.std.proofs.Common.{◌≡◌, ℕ, zero, suc, ◌<◌, ◌≤◌, Bool, true, false, List, [], ◌∷◌, ◌++◌, map, Option, Some, None, is_some, option_map, ◌⊎◌, inl, inr, refl, ap, sym, ◌∙◌, subst, not, arith}
 use Rattle.std.specs.Prelude.{◌≢◌, ◌&&◌, slice_get}
 use Rattle.std.specs.List.{AllByRecursion}
@@ -14,6 +15,7 @@ use Rattle.is_rules.specs.declared.emitted.Issued.{Issued}
 use Rattle.is_rules.specs.declared.emitted.Path.{Path}
 use Rattle.is_rules.specs.Places.{local_place}
 use Rattle.is_rules.specs.Request.{RequestRecord, request_in}
+use Rattle.is_rules.specs.Roles.{keeps_role}
 use Rattle.is_rules.specs.Steps.{Entry}
 use Rattle.is_theorems.specs.RoleState.{Sent, IsNewRoleState}
 use Rattle.is_rules.specs.Agent.{AgentRecord}
@@ -29,11 +31,12 @@ use Rattle.is.specs.declared.world_events.Side.{Side}
 use Rattle.is.specs.declared.world_events.Side.TheVariants.{A, B}
 use Rattle.is.specs.World as world
 use Rattle.is.specs.World.{WorldRecord, LoggedEvent, other, Streams}
-use Rattle.is.specs.WorldRoles.{IsNewAgent, HaveDistinctIds, IsFairWorld, IsNeverLite, StaysFull, ComparesTies, role_at, role_in, changes, GreaterKeeps, LesserSwitchesOnce, Makes, Point, RolesDifferOnceMet}
+use Rattle.is.specs.WorldRoles.{IsNewAgent, HaveDistinctIds, IsNewWorld, IsFairWorld, IsNeverLite, StaysFull, ComparesTies, role_at, role_in, changes, GreaterKeeps, LesserSwitchesOnce, Makes, Point, RolesDifferOnceMet}
 use Rattle.is.proofs.ExternalViews.NetworkModel as seen
-use Rattle.is.proofs.ExternalViews.NetworkModel.{Seen, Emitted, Kind, Move, Happening, emitted_of, roles_along, NeverLite}
+use Rattle.is.proofs.ExternalViews.NetworkModel.{Seen, Emitted, Kind, Move, Happening, Compares, AllCompare, emitted_of, roles_along, NeverLite}
 use Rattle.is.proofs.ExternalViews.PreservedByEvents as runs
-use Rattle.is.proofs.ExternalViews.ViewsOfExecutions.{seen_of, in_flight_as, roles_as, emitted_at, AreSound, Leaves, BothCompare, Compares, follow, event, none_keeps, compares_on}
+use Rattle.is.proofs.ExternalViews.ViewsOfExecutions as views
+use Rattle.is.proofs.ExternalViews.ViewsOfExecutions.{seen_of, in_flight_as, roles_as, emitted_at, AreSound, Leaves, BothCompare, follow, event, none_keeps, compares_on}
 
 -- ---- entries, as they are seen
 
@@ -82,25 +85,33 @@ sound_new sound a (creds, tie, role, is) =
       based = s.based;
     })
 
+pub start_seen : {H P : Type 0} (first : WorldRecord H P) (log : List (LoggedEvent P)) (es : List Emitted) → es ≡ map emitted_at log → IsNewWorld first log → seen.Start (seen_of first) es
+start_seen first log es same p =
+    let none : first.network ≡ [] = search p.empty in
+    let distinct : HaveDistinctIds log = search p.distinct in
+    record {
+      new = new_at;
+      empty = ap (map in_flight_as) none;
+      distinct = subst seen.DistinctChecks (sym same) (distinct_seen log distinct);
+    }
+  where
+    new_at : (s : Side) → IsNewRoleState (seen.at s (seen_of first))
+    new_at A = new_seen first.a (search (p.new A))
+    new_at B = new_seen first.b (search (p.new B))
+
 pub preconditions_seen : {H P : Type 0} (first : WorldRecord H P) (greater : Side) (log : List (LoggedEvent P)) (es : List Emitted) → es ≡ map emitted_at log → IsFairWorld first greater log
     → seen.Preconditions (seen_of first) greater es
 preconditions_seen first greater log es same p = record {
-  new = new_at;
-  empty = ap (map in_flight_as) p.empty;
+  start = start_seen first log es same p.start;
   tie = less greater (omega (arith, p.tie));
-  distinct = subst seen.DistinctChecks (sym same) (distinct_seen log p.distinct);
 }
   where
-    new_at : (s : Side) → IsNewRoleState (seen.at s (seen_of first))
-    new_at A = new_seen first.a (p.new A)
-    new_at B = new_seen first.b (p.new B)
-
     less : (g : Side) → (world.at (other g) first).tie_breaker < (world.at g first).tie_breaker → (seen.at (other g) (seen_of first)).tie_breaker < (seen.at g (seen_of first)).tie_breaker
     less A h = h
     less B h = h
 
-pub sound_first : {H P : Type 0} → FreshIsSound H P → (first : WorldRecord H P) (greater : Side) (log : List (LoggedEvent P)) → IsFairWorld first greater log → AreSound first
-sound_first sound first greater log p side = sound_new sound (world.at side first) (p.new side)
+pub sound_first : {H P : Type 0} → FreshIsSound H P → (first : WorldRecord H P) (log : List (LoggedEvent P)) → IsNewWorld first log → AreSound first
+sound_first sound first log p side = sound_new sound (world.at side first) (search (p.new side))
 
 -- ---- neither keeps its role as a lite agent
 
@@ -122,8 +133,8 @@ leaves_all first greater log p side = by (p.compares side) where
   by (inr off) = off
 
 pub compares_first : {H P : Type 0} (first : WorldRecord H P) (greater : Side) (log : List (LoggedEvent P)) (p : IsFairWorld first greater log) → BothCompare (how_of first greater log p) first
-compares_first first greater log p side = by (how_of first greater log p side) (p.new side) where
-  by : (b : Bool) → IsNewAgent (world.at side first) → Compares b (world.at side first)
+compares_first first greater log p side = by (how_of first greater log p side) (search (p.start.new side)) where
+  by : (b : Bool) → IsNewAgent (world.at side first) → views.Compares b (world.at side first)
   by true (creds, tie, role, is) = ap (λ a. a.lite) is
   by false (creds, tie, role, is) = ap (λ a. is_modern a.timing) is
 
@@ -195,7 +206,7 @@ module _ {H P : Type 0} where
   passes_so : (old : AgentRecord H P) (q : RequestRecord) → IsServedPastTests old q → (role_state_of old).passes q ≡ true
   passes_so old q (named, (place, is)) = ap (λ b. not b && is_some (local_place old.local q)) named ∙ ap (λ o. is_some o) is
 
-  pub met_seen : (side : Side) (w : WorldRecord H P) (c : agent.Call P) (e : Entry) (kind : Kind) → kind ≡ Move side (role_event_of (world.at side w) c e)
+  pub met_seen : (side : Side) (w : WorldRecord H P) (c : agent.Call P) (e : Entry) (kind : Kind) → kind ≡ Move side (role_event_of (world.at side w) c e) (keeps_role (world.at side w))
       → ((q : RequestRecord) × IsServing (world.at side w) c e q × IsServedPastTests (world.at side w) q)
       ⊎ ((now : ℕ) × (via : Path) × (m : Message) × Brings c e now via m × (m.class ≡ class.Failure) × (is_role_conflict m ≡ true))
       → seen.Meets side (seen_of w) kind
@@ -222,35 +233,33 @@ module _ {H P : Type 0} where
     pub emitted_before : emitted_of before ≡ map emitted_at front
     pub emitted_here : here.emitted ≡ emitted_at x
     pub emitted_after : emitted_of following ≡ map emitted_at rest
-    pub made : (side : Side) (c : agent.Call P) → Makes mid x.event side c → here.kind ≡ Move side (role_event_of (world.at side mid) c x.outcome.entry)
+    pub made : (side : Side) (c : agent.Call P) → Makes mid x.event side c → here.kind ≡ Move side (role_event_of (world.at side mid) c x.outcome.entry) (keeps_role (world.at side mid))
     pub full : (side : Side) → IsNeverLite side log → NeverLite side whole
+    pub compares : (how : Side → Bool) → BothCompare how first → LeaveAll how log → AllCompare whole
 
   module _ (mac : H → List ℕ → List ℕ → List ℕ) (answers : P → CandidateRecord → ℕ → ℕ → Type 0) (paths : PathTheorem {H = H} {P = P} mac answers) (roles : RoleTheorem {H = H} {P = P} mac answers) (fresh_sound : FreshIsSound H P) where
     pub greater_keeps : (first last : WorldRecord H P) (s t : Streams) (n : ℕ) (log : List (LoggedEvent P)) → world.WorldRun mac answers first s n log last t → GreaterKeeps first log
     greater_keeps first last s t n log ran greater p =
-        let k = follow mac answers paths roles (how_of first greater log p) log first last s t n (sound_first fresh_sound first greater log p) (compares_first first greater log p)
-        (leaves_all first greater log p) ran in
-        let all = runs.keeps_role (seen_of first) (seen_of last) k.seen_log k.ran greater (preconditions_seen first greater log (emitted_of k.seen_log) k.emitted p) in
+        let k = follow mac answers paths roles log first last s t n (sound_first fresh_sound first log p.start) ran in
+        let compared = k.compares (how_of first greater log p) (compares_first first greater log p) (leaves_all first greater log p) in
+        let all = runs.keeps_role (seen_of first) (seen_of last) k.seen_log k.ran greater (preconditions_seen first greater log (emitted_of k.seen_log) k.emitted p) compared.0 in
         all_keep greater (world.at greater first).controlling log
         (subst (λ r. AllByRecursion (λ (e : Emitted). seen.role_at greater e.roles ≡ r) (map emitted_at log)) (role_of greater first)
         (subst (λ es. AllByRecursion (λ (e : Emitted). seen.role_at greater e.roles ≡ (seen.at greater (seen_of first)).controlling) es) k.emitted all))
 
     pub lesser_switches_once : (first last : WorldRecord H P) (s t : Streams) (n : ℕ) (log : List (LoggedEvent P)) → world.WorldRun mac answers first s n log last t → LesserSwitchesOnce first log
     lesser_switches_once first last s t n log ran greater p =
-        let k = follow mac answers paths roles (how_of first greater log p) log first last s t n (sound_first fresh_sound first greater log p) (compares_first first greater log p)
-        (leaves_all first greater log p) ran in
-        let once = runs.switches_role_once (seen_of first) (seen_of last) k.seen_log k.ran greater (preconditions_seen first greater log (emitted_of k.seen_log) k.emitted p) in
+        let k = follow mac answers paths roles log first last s t n (sound_first fresh_sound first log p.start) ran in
+        let compared = k.compares (how_of first greater log p) (compares_first first greater log p) (leaves_all first greater log p) in
+        let once = runs.switches_role_once (seen_of first) (seen_of last) k.seen_log k.ran greater (preconditions_seen first greater log (emitted_of k.seen_log) k.emitted p) compared.0 in
         subst (λ r. changes r (map (role_in (other greater)) log) ≤ 1) (role_of (other greater) first)
         (subst (λ rs. changes (seen.at (other greater) (seen_of first)).controlling rs ≤ 1) (ap (roles_along (other greater)) k.emitted ∙ along (other greater) log) once)
 
-    pub sight : (first mid : WorldRecord H P) (s : Streams) (log rest : List (LoggedEvent P)) (x : LoggedEvent P) (how : Side → Bool) → AreSound first → BothCompare how first → LeaveAll how log → (point : Point mac answers first s log mid x rest) → Sight first log point.before mid x rest
-    sight first mid s log rest x how sound compares leaves point =
-        let parts = λ (side : Side). all-cut (λ (y : LoggedEvent P). Leaves (how side) side y.event) point.before (x ∷ rest)
-        (subst (λ xs. AllByRecursion (λ y. Leaves (how side) side y.event) xs) point.split (leaves side)) in
-        let one = follow mac answers paths roles how point.before first mid s point.u 0 sound compares (λ side. (let k = parts side in k.0)) point.led in
-        let two = event mac answers paths roles mid point.after point.u point.v x one.sound (none_keeps how mid one.compares) point.happens in
-        let next = compares_on mac answers paths roles how mid point.after point.u point.v x one.sound one.compares (λ side. (let k = parts side in k.1.0)) point.happens in
-        let three = follow mac answers paths roles how rest point.after point.last point.v point.t point.n two.sound next (λ side. (let k = parts side in k.1.1)) point.leads in
+    pub sight : (first mid : WorldRecord H P) (s : Streams) (log rest : List (LoggedEvent P)) (x : LoggedEvent P) → AreSound first → (point : Point mac answers first s log mid x rest) → Sight first log point.before mid x rest
+    sight first mid s log rest x sound point =
+        let one = follow mac answers paths roles point.before first mid s point.u 0 sound point.led in
+        let two = event mac answers paths roles mid point.after point.u point.v x one.sound point.happens in
+        let three = follow mac answers paths roles rest point.after point.last point.v point.t point.n two.sound point.leads in
         let h : Happening = record { kind = two.kind; emitted = emitted_at x } in
         record {
           whole = one.seen_log ++ h ∷ three.seen_log;
@@ -268,11 +277,19 @@ module _ {H P : Type 0} where
           full = λ side never. (
               let parts = all-cut (λ (y : LoggedEvent P). StaysFull side y.event) point.before (x ∷ rest) (subst (λ xs. IsNeverLite side xs) point.split never) in
               all-join (λ (y : Happening). seen.StaysFull side y.kind) one.seen_log (h ∷ three.seen_log) (one.full side parts.0) (two.full side parts.1.0, three.full side parts.1.1));
+          compares = λ how compare leaves. (
+              let parts = λ (side : Side). all-cut (λ (y : LoggedEvent P). Leaves (how side) side y.event) point.before (x ∷ rest)
+              (subst (λ xs. AllByRecursion (λ y. Leaves (how side) side y.event) xs) point.split (leaves side)) in
+              let before = one.compares how compare (λ side. (let k = parts side in k.0)) in
+              let next = compares_on mac answers paths roles how mid point.after point.u point.v x one.sound before.1 (λ side. (let k = parts side in k.1.0)) point.happens in
+              let later = three.compares how next (λ side. (let k = parts side in k.1.1)) in
+              all-join (λ (y : Happening). Compares y.kind) one.seen_log (h ∷ three.seen_log) before.0 (two.compares (none_keeps how mid before.1), later.0));
         }
 
     pub roles_differ_once_met : (first : WorldRecord H P) (s : Streams) (log : List (LoggedEvent P)) → RolesDifferOnceMet mac answers first s log
     roles_differ_once_met first s log greater p mid x rest point (c, makes, met) =
-        let k = sight first mid s log rest x (how_of first greater log p) (sound_first fresh_sound first greater log p) (compares_first first greater log p) (leaves_all first greater log p) point in
+        let k = sight first mid s log rest x (sound_first fresh_sound first log p.start) point in
+        let compared = k.compares (how_of first greater log p) (compares_first first greater log p) (leaves_all first greater log p) in
         let meeting = met_seen (other greater) mid c x.outcome.entry k.here.kind (k.made (other greater) c makes) met in
-        let all = runs.differ_once_met (seen_of first) k.whole greater (preconditions_seen first greater log (emitted_of k.whole) k.emitted p) k.before (seen_of mid) k.here k.following k.point meeting in
+        let all = runs.differ_once_met (seen_of first) k.whole greater (preconditions_seen first greater log (emitted_of k.whole) k.emitted p) compared k.before (seen_of mid) k.here k.following k.point meeting in
         all_differ (x ∷ rest) (subst (λ es. AllByRecursion (λ (e : Emitted). e.roles.a ≢ e.roles.b) es) (ap (λ e. e ∷ emitted_of k.following) k.emitted_here ∙ ap (λ es. emitted_at x ∷ es) k.emitted_after) all)

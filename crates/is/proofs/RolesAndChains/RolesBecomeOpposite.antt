@@ -32,7 +32,7 @@ use Rattle.is.proofs.TwoAgentEvents.ExchangedChecks.{sent-check, carried-check, 
 use Rattle.is.proofs.ExternalViews.ViewsOfExecutions.{seen_of, emitted_at, AreSound, BothCompare, event, none_keeps, compares_on}
 use Rattle.is.proofs.TwoAgentEvents.OwnExecutions.{twice, role_after}
 use Rattle.is.proofs.ExternalViews.NetworkModel as seen
-use Rattle.is.proofs.ExternalViews.NetworkModel.{Seen, Happening, emitted_of}
+use Rattle.is.proofs.ExternalViews.NetworkModel.{Seen, Happening, Compares, AllCompare, emitted_of}
 use Rattle.is.proofs.ExternalViews.ImpliedByTheLog.{sides}
 use Rattle.is.proofs.ExternalViews.PreservedByEvents.{reaches, event_apart}
 use Rattle.is.proofs.RolesAndChains.RolesAndChainsOfViews.{LeaveAll, how_of, leaves_all, preconditions_seen, sound_first, role_of, met_seen, map-append, compares_first}
@@ -41,6 +41,10 @@ use Rattle.is_rules.specs.Roles.{keeps_role}
 run_on : (first mid last : Seen) (log : List Happening) (x : Happening) → seen.Run first log mid → seen.Happens mid x.kind x.emitted last → seen.Run first (log ++ x ∷ []) last
 run_on first mid last [] x is happens = (last, subst (λ (v : Seen). seen.Happens v x.kind x.emitted last) is happens, refl)
 run_on first mid last (y ∷ log) x (next, there, more) happens = (next, there, run_on next mid last log x more happens)
+
+all_compare_on : (log : List Happening) (x : Happening) → AllCompare log → Compares x.kind → AllCompare (log ++ x ∷ [])
+all_compare_on [] x all now = (now, tt)
+all_compare_on (y ∷ log) x all now = (all.0, all_compare_on log x all.1 now)
 
 one_or_other : (b c : Bool) → (b ≡ c) ⊎ (b ≡ not c)
 one_or_other true true = inl refl
@@ -83,27 +87,29 @@ module _ {H P : Type 0} where
       front : List Happening
       led : seen.Run (seen_of first) front (seen_of w)
       fair : seen.Preconditions (seen_of first) greater (emitted_of front ++ map emitted_at left)
+      compared : AllCompare front
       sound : AreSound w
       compares : BothCompare how w
       leaves : LeaveAll how left
 
     role_kept : (w : WorldRecord H P) (left : List (LoggedEvent P)) → Comes w left → (at greater w).controlling ≡ (at greater first).controlling
-    role_kept w left k = sym (role_of greater w) ∙ (reaches (seen_of first) (seen_of w) k.front (map emitted_at left) greater k.fair k.led).role ∙ role_of greater first
+    role_kept w left k = sym (role_of greater w) ∙ (reaches (seen_of first) (seen_of w) k.front (map emitted_at left) greater k.fair k.compared k.led).role ∙ role_of greater first
 
     tie_kept : (w : WorldRecord H P) (left : List (LoggedEvent P)) (side : Side) → Comes w left → (at side w).tie_breaker ≡ (at side first).tie_breaker
-    tie_kept w left side k = sym (tie_of side w) ∙ (reaches (seen_of first) (seen_of w) k.front (map emitted_at left) greater k.fair k.led).tie side ∙ tie_of side first
+    tie_kept w left side k = sym (tie_of side w) ∙ (reaches (seen_of first) (seen_of w) k.front (map emitted_at left) greater k.fair k.compared k.led).tie side ∙ tie_of side first
 
     module _ (mac : H → List ℕ → List ℕ → List ℕ) (answers : P → CandidateRecord → ℕ → ℕ → Type 0) (paths : PathTheorem {H = H} {P = P} mac answers) (roles : RoleTheorem {H = H} {P = P} mac answers) where
       -- ---- one event
 
       comes_on : (w w' : WorldRecord H P) (s t : Streams) (x : LoggedEvent P) (left : List (LoggedEvent P)) → Comes w (x ∷ left) → Happens mac answers w s x.event x.outcome w' t → Comes w' left
       comes_on w w' s t x left k happens =
-          let c = event mac answers paths roles w w' s t x k.sound (none_keeps how w k.compares) happens in
+          let c = event mac answers paths roles w w' s t x k.sound happens in
           let h : Happening = record { kind = c.kind; emitted = emitted_at x } in record {
             front = k.front ++ h ∷ [];
             led = run_on (seen_of first) (seen_of w) (seen_of w') k.front h k.led c.happens;
             fair = subst (λ es. seen.Preconditions (seen_of first) greater es)
                 (sym (ap (λ es. es ++ map emitted_at left) (map-append (λ (y : Happening). y.emitted) k.front (h ∷ [])) ∙ append_assoc (emitted_of k.front) (emitted_at x ∷ []) (map emitted_at left))) k.fair;
+            compared = all_compare_on k.front h k.compared (c.compares (none_keeps how w k.compares));
             sound = c.sound;
             compares = compares_on mac answers paths roles how w w' s t x k.sound k.compares (λ side. (let l = k.leaves side in l.0)) happens;
             leaves = λ side. (let l = k.leaves side in l.1);
@@ -111,13 +117,15 @@ module _ {H P : Type 0} where
 
       apart_on : (w w' : WorldRecord H P) (s t : Streams) (x : LoggedEvent P) (left : List (LoggedEvent P)) → Comes w (x ∷ left) → Happens mac answers w s x.event x.outcome w' t → Apart w → Apart w'
       apart_on w w' s t x left k happens differs =
-          let c = event mac answers paths roles w w' s t x k.sound (none_keeps how w k.compares) happens in
-          event_apart (seen_of first) (seen_of w) (seen_of w') k.front (map emitted_at left) c.kind (emitted_at x) greater k.fair k.led c.happens (inr differs)
+          let c = event mac answers paths roles w w' s t x k.sound happens in
+          event_apart (seen_of first) (seen_of w) (seen_of w') k.front (map emitted_at left) c.kind (emitted_at x) greater k.fair k.compared (c.compares (none_keeps how w k.compares))
+          k.led c.happens (inr differs)
 
       met_on : (w w' : WorldRecord H P) (s t : Streams) (x : LoggedEvent P) (left : List (LoggedEvent P)) → Comes w (x ∷ left) → Happens mac answers w s x.event x.outcome w' t → Meets (other greater) w x → Apart w'
       met_on w w' s t x left k happens (c, makes, met) =
-          let e = event mac answers paths roles w w' s t x k.sound (none_keeps how w k.compares) happens in
-          event_apart (seen_of first) (seen_of w) (seen_of w') k.front (map emitted_at left) e.kind (emitted_at x) greater k.fair k.led e.happens
+          let e = event mac answers paths roles w w' s t x k.sound happens in
+          event_apart (seen_of first) (seen_of w) (seen_of w') k.front (map emitted_at left) e.kind (emitted_at x) greater k.fair k.compared (e.compares (none_keeps how w k.compares))
+          k.led e.happens
           (inl (met_seen (other greater) w c x.outcome.entry e.kind (e.made (other greater) c makes) met))
 
       -- ---- events
@@ -323,12 +331,13 @@ module _ {H P : Type 0} (mac : H → List ℕ → List ℕ → List ℕ) (answer
       let whole : List (LoggedEvent P) = entries part ++ entries rest in
       let is : log ≡ whole = sym (entries_in first last s t 0 log run) ∙ (ap (λ (xs : List (Occurrence H P)). entries xs) split ∙ map-append (λ (x : Occurrence H P). x.entry) part rest) in
       let fair_whole : IsFairWorld first greater whole = subst (λ (l : List (LoggedEvent P)). IsFairWorld first greater l) is fair in
-      let sound = sound_first new_sound first greater whole fair_whole in
+      let sound = sound_first new_sound first whole fair_whole.start in
       let how : Side → Bool = how_of first greater whole fair_whole in
       let from : Comes first greater how first whole = record {
         front = [];
         led = refl;
         fair = preconditions_seen first greater whole (map emitted_at whole) refl fair_whole;
+        compared = tt;
         sound = sound;
         compares = compares_first first greater whole fair_whole;
         leaves = leaves_all first greater whole fair_whole;
@@ -363,7 +372,8 @@ module _ {H P : Type 0} (mac : H → List ℕ → List ℕ → List ℕ) (answer
       front = [];
       led = refl;
       fair = preconditions_seen first greater whole (map emitted_at whole) refl fair_whole;
-      sound = sound_first new_sound first greater whole fair_whole;
+      compared = tt;
+      sound = sound_first new_sound first whole fair_whole.start;
       compares = compares_first first greater whole fair_whole;
       leaves = leaves_all first greater whole fair_whole;
     }

@@ -323,10 +323,12 @@ module _ {H P : Type 0} (mac : H → List ℕ → List ℕ → List ℕ) (answer
     leading_path leads_last first s log last t run before part rest timeout A its path number segment set is leads =
         let nominated : AreNominatedOn (at B is.check.sent.following) its = search is.nominated in
         let idle : request_at segment.plain.now (at A timeout.before) ≡ None = search segment.plain.serves_none in
+        let greatest : LeadsByNumber (at A timeout.following) number path = search leads in
         both_lead B its (reversed path) before part rest timeout segment.plain.now first last segment.new (subst (λ xs. Follow mac answers first xs last) segment.split (follows mac answers first last s t 0 log run))
-        (λ x has z. search (set x has z)) is.check nominated is.stays segment.plain.event segment.plain.done idle leads_last number leads
+        (λ x has z. search (set x has z)) is.check nominated is.stays segment.plain.event segment.plain.done idle leads_last number greatest
     leading_path leads_last first s log last t run before part rest timeout B its path number segment set is leads =
         let nominated : AreNominatedOn (at A is.check.sent.following) its = search is.nominated in
         let idle : request_at segment.plain.now (at B timeout.before) ≡ None = search segment.plain.serves_none in
+        let greatest : LeadsByNumber (at B timeout.following) number path = search leads in
         both_lead A its (reversed path) before part rest timeout segment.plain.now first last segment.new (subst (λ xs. Follow mac answers first xs last) segment.split (follows mac answers first last s t 0 log run))
-        (λ x has z. search (set x has z)) is.check nominated is.stays segment.plain.event segment.plain.done idle leads_last number leads
+        (λ x has z. search (set x has z)) is.check nominated is.stays segment.plain.event segment.plain.done idle leads_last number greatest

@@ -96,7 +96,7 @@ module _ {H P : Type 0} (mac : H → List ℕ → List ℕ → List ℕ) (answer
         ] where
           begins : IsControllingSegment first all meeting opens.more ((part ++ timeout ∷ []) ++ rest) (other side) opens.first opens.later opens.pair opens.by
           begins = record {
-            new = is.fair.new;
+            new = is.fair.start.new;
             split = is.split ∙ ap (λ xs. meeting ++ (xs ++ ((part ++ timeout ∷ []) ++ rest))) opens.split;
             role = (role opens.first.timeout (in_opening opens.first.timeout (subst (λ xs. Has xs opens.first.timeout) (sym opens.split) (inl refl)))).0.1;
             controlling = subst (λ xs. IsControlling (other side) xs) opens.split steers;
@@ -129,7 +129,7 @@ module _ {H P : Type 0} (mac : H → List ℕ → List ℕ → List ℕ) (answer
         ⊎ (MayEndIn answers side path (part ++ timeout ∷ []) ⊎ MayEndInRounds answers (other side) its (rounds_needed is.leads))
     connected =
         elim (both_connect_by mac answers paths new_sound asks succeeds announce reach served first s log last t run (meeting ++ opening) part rest timeout side path its
-        (record { new = is.fair.new; split = split_part; controlled = obeys; plain = plain; only_pair = search is.only_pair })
+        (record { new = is.fair.start.new; split = split_part; controlled = obeys; plain = plain; only_pair = search is.only_pair })
         (asking is.leads) (answering is.follows)) [
           | inl best ↦ inl (subst (λ xs. SelectsTop mac answers side xs timeout) (append_assoc meeting opening (part ++ timeout ∷ [])) best)
           | inr (inl ended) ↦ inr (inl ended)

@@ -31,8 +31,8 @@ impl Checklist {
         }
     }
 
-    /// Removes pairs of lowest priority until there are no more than the limit.
-    pub fn evict(&mut self, limit: usize)
+    /// Removes pairs of lowest priority, one after another, until there are no more than the limit.
+    fn evict_each(&mut self, limit: usize)
         ensures evicted { Evicts limit (multiset_of self.old) (multiset_of self.new) }
         ensures room { (n : ℕ) → HasRoom n self.old → HasRoom n self.new }
         ensures check_room { (n : ℕ) → HasCheckRoom n self.old → HasCheckRoom n self.new }
@@ -48,5 +48,17 @@ impl Checklist {
                 }
             }
         }
+    }
+
+    /// Removes pairs of lowest priority until there are no more than the limit.
+    pub fn evict(&mut self, limit: usize)
+        ensures evicted { Evicts limit (multiset_of self.old) (multiset_of self.new) }
+        ensures room { (n : ℕ) → HasRoom n self.old → HasRoom n self.new }
+        ensures check_room { (n : ℕ) → HasCheckRoom n self.old → HasCheckRoom n self.new }
+        ensures below { (n : ℕ) → are_below n (multiset_of self.old) ≡ true → are_below n (multiset_of self.new) ≡ true }
+        ensures removed { AreRemoved (λ p. true) (λ p. Evicted) (multiset_of self.old) (removed_of self.old) (removed_of self.new) }
+    {
+        self.evict_block(limit);
+        self.evict_each(limit);
     }
 }

@@ -6,6 +6,7 @@ ghost use Rattle.std.specs.List.{list_any};
 ghost use Rattle.std.specs.Option.{option_copied};
 ghost use Rattle.std.specs.VecDeque.{deque_capacity};
 ghost use Rattle.is_proto.specs.Times.{MAX};
+ghost use Rattle.is_stun.specs.Timing.{consent_of};
 ghost use Rattle.is_pair.specs.Pairs.{PairRecord};
 ghost use Rattle.is_pair.specs.Due.{call_time_of, GoesBefore, IsEarliest};
 ghost use Rattle.is_pair.specs.Multiset.{is_numbered, has_number, pair_numbered, passes_at, rises, change_pair, with_priority, without, keep_fewer};
@@ -16,7 +17,7 @@ use super::rule::PairPriority;
 use crate::pair::attempts::reserve_beyond;
 use crate::pair::{BindingAttempt, CandidatePair};
 use is_proto::Instant;
-use is_stun::stun::StunTiming;
+use is_stun::stun::{Consent, StunTiming};
 use std::alloc::AllocError;
 use std::collections::VecDeque;
 
@@ -156,11 +157,16 @@ pub(super) fn first<'a, T: PairTest>(
     pairs.iter().find(|pair| test.passes(pair))
 }
 
-/// Returns the earliest time at which a pair is due, or its consent ends.
-pub(super) fn earliest_call(pairs: &[CandidatePair], now: Instant, timing: &StunTiming) -> Instant
+/// Returns the earliest time at which a pair is due, or its consent ends, by what the timing says of consent.
+pub(super) fn earliest_call_with(
+    pairs: &[CandidatePair],
+    now: Instant,
+    timing: &StunTiming,
+    consent: Option<Consent>,
+) -> Instant
+    requires { consent ≡ consent_of timing.now }
     ensures { result.0 ≡ fold min MAX (map (call_time_of now.0 timing.now) pairs.now) }
 {
-    let consent = timing.consent();
     let mut first = Instant(u64::MAX);
     for pair in pairs {
         first = first.min(pair.call_time_of(now, timing, consent));

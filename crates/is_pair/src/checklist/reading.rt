@@ -4,6 +4,7 @@ ghost use Rattle.std.specs.Prelude.{◌≡◌, ◌<◌, true, IfSome, find, fold
 ghost use Rattle.std.specs.List.{list_any};
 ghost use Rattle.std.specs.Option.{option_copied};
 ghost use Rattle.is_proto.specs.Times.{MAX};
+ghost use Rattle.is_stun.specs.Timing.{consent_of};
 ghost use Rattle.is_pair.specs.Multiset.{has_number, passes_at, IsGreatest};
 ghost use Rattle.is_pair.specs.Due.{call_time_of, IsNextDue};
 ghost use Rattle.is_pair.specs.Checklists.{multiset_of};
@@ -11,7 +12,7 @@ ghost use Rattle.is_pair.specs.Checklists.{multiset_of};
 use super::{Checklist, PairTest, listed, ranks};
 use crate::pair::CandidatePair;
 use is_proto::Instant;
-use is_stun::stun::StunTiming;
+use is_stun::stun::{Consent, StunTiming};
 
 impl Checklist {
     /// Returns the pairs, in the order of their numbers.
@@ -75,6 +76,19 @@ impl Checklist {
     pub fn earliest_call(&self, now: Instant, timing: &StunTiming) -> Instant
         ensures { result.0 ≡ fold min MAX (map (call_time_of now.0 timing.now) (multiset_of self.now)) }
     {
-        listed::earliest_call(&self.pairs, now, timing)
+        self.earliest_call_with(now, timing, timing.consent())
+    }
+
+    /// The same for a caller that keeps what the timing says of consent.
+    pub fn earliest_call_with(
+        &self,
+        now: Instant,
+        timing: &StunTiming,
+        consent: Option<Consent>,
+    ) -> Instant
+        requires { consent ≡ consent_of timing.now }
+        ensures { result.0 ≡ fold min MAX (map (call_time_of now.0 timing.now) (multiset_of self.now)) }
+    {
+        listed::earliest_call_with(&self.pairs, now, timing, consent)
     }
 }

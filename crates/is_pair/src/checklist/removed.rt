@@ -7,6 +7,7 @@ ghost use Rattle.is_pair.specs.Multiset.{is_numbered, pair_numbered, rises};
 ghost use Rattle.is_pair.specs.Checklists.{multiset_of, HasRoom, HasCheckRoom};
 ghost use Rattle.is_pair.specs.Removed.{removed_of, with_removed, AreRemoved, IsKeptLast, IsOf, MayKeep};
 
+use super::entries::Rank;
 use super::{Checklist, PairTest, listed};
 use crate::pair::{CandidatePair, CheckState};
 use std::collections::VecDeque;
@@ -125,6 +126,38 @@ pub(super) fn keep_passing<T: PairRemoval>(
         if test.passes(pair) {
             keep(removed, RemovedPair::of(pair, test.removal(pair)));
         }
+    }
+}
+
+/// Keeps the pair with the number if it passes the test.
+fn keep_if<T: PairRemoval>(
+    removed: &mut VecDeque<RemovedPair>,
+    pairs: &[CandidatePair],
+    number: u64,
+    test: &T,
+)
+    requires rising { rises pairs.now ≡ true }
+    ensures { AreRemoved (T.passes test.now) (T.reason test.now) pairs.now removed.old.items removed.new.items }
+{
+    if let Some(pair) = listed::get(pairs, number) {
+        if test.passes(pair) {
+            keep(removed, RemovedPair::of(pair, test.removal(pair)));
+        }
+    }
+}
+
+/// Keeps the pairs that pass the test, in this order.
+pub(super) fn keep_ranked<T: PairRemoval>(
+    removed: &mut VecDeque<RemovedPair>,
+    pairs: &[CandidatePair],
+    ranks: &[Rank],
+    test: &T,
+)
+    requires rising { rises pairs.now ≡ true }
+    ensures { AreRemoved (T.passes test.now) (T.reason test.now) pairs.now removed.old.items removed.new.items }
+{
+    for rank in ranks {
+        keep_if(removed, pairs, rank.number, test);
     }
 }
 

@@ -79,7 +79,7 @@ module _ {H P : Type 0} (now : ℕ) (a : AgentRecord H P) where
       (subst (λ b. MatchBool b (None ≡ pair_selected a.selected_pair a.pairs) (IsNextInTurn now a None)) due h)
       (last-fact a.controlling (not a.lite) (numbers a) a.nomination_due (is_some (pair_selected a.selected_pair a.pairs)) due)
 
-  turn-is-due : (p : PairRecord) → IsNextInTurn now a (Some p) → Has a.pairs p × (is_due now a.timing p ≡ true)
+  pub turn-is-due : (p : PairRecord) → IsNextInTurn now a (Some p) → Has a.pairs p × (is_due now a.timing p ≡ true)
   turn-is-due p h = by (is_ahead_turn now a) h where
     by : (b : Bool) → MatchBool b (IsNextAhead a.local a.remote (precedence a) a.next_kind now a.timing a.pairs (Some p)) (IsNextDue now a.timing a.pairs (Some p))
         → Has a.pairs p × (is_due now a.timing p ≡ true)

@@ -67,7 +67,7 @@ module _ {H P : Type 0} where
 
   -- ---- nomination
 
-  nominates-same : (old new : AgentRecord H P) (path : Option Path) → Nominates old path new → Same old new
+  pub nominates-same : (old new : AgentRecord H P) (path : Option Path) → Nominates old path new → Same old new
   nominates-same old new path h = from (selects_path old new path h) where
     from : SelectsPath old path new → Same old new
     from (None, greatest, (is, made)) = made-of old new made
@@ -75,7 +75,7 @@ module _ {H P : Type 0} where
         (λ _ l. made-of old new l.1)
         (λ _ l. made-of _ new l.1)
 
-  gives-up-same : (now : ℕ) (old new : AgentRecord H P) (path : Option Path) → RemovesExpired now old path new → Same old new
+  pub gives-up-same : (now : ℕ) (old new : AgentRecord H P) (path : Option Path) → RemovesExpired now old path new → Same old new
   gives-up-same now old new path h = either (list_any (is_expired now old) old.pairs) h
       (λ _ k. made-of _ new k.2 ∙ nominates-same (expired_gone now old) k.0 path k.1)
       (λ _ k. made-of _ new k.1)
@@ -131,7 +131,7 @@ module _ {H P : Type 0} where
       here None s new emitted h = made-of s new h.1
       here (Some l) s new emitted h = resolves (conflict_of s q) l s new emitted h
 
-      serves : (s new : AgentRecord H P) (emitted : Emitted) → Serves mac q s emitted new → Same s new
+      pub serves : (s new : AgentRecord H P) (emitted : Emitted) → Serves mac q s emitted new → Same s new
       serves s new emitted h = either (names_another s q) h
           (λ _ k. made-of s new k.1)
           (λ _ k. here (local_place s.local q) s new emitted k)

@@ -1,12 +1,19 @@
 use Rattle.is.proofs.AgentLogs.GrowingLog.{run_of, entries_persist}
 use Rattle.is.proofs.AgentLogs.UnacceptedBytes.{packets_are_settled}
 use Rattle.is.proofs.AgentLogs.PollingOrder.{others_issue_none, queues_are_kept}
+use Rattle.is.proofs.AgentLogs.PlainAgents.{plain_never_lite, headline}
 use Rattle.is.proofs.AgentLogs.StoredAndQueued.{queues_stay_short, discoveries_are_few}
 use Rattle.is.proofs.AgentLogs.ReportedPaths.{queued_are_selected, polled_are_selected, polled_are_answered, polled_are_nominated_by_peer, settings_are_those_set}
 use Rattle.is.proofs.runs.run.Goals as goal
 
 pub returns-clause-entries : goal.returns-clause-entries
 returns-clause-entries g c = entries_persist _ _ c.entries_are_points.ensures _ _ _ _ _ (run_of _ _ _ _ _ _ c.args.calls.items c.run_calls.result c.run_calls.ensures)
+
+pub returns-clause-headline : goal.returns-clause-headline
+returns-clause-headline g c = λ fresh plain. (
+    let never = plain_never_lite _ plain in
+    headline _ _ c.settings_are_set.ensures _ _ _ fresh plain (packets_are_settled _ _ _ _ _) (c.selected_are_answered.ensures _ _ _ fresh never)
+    (c.points_are_top.ensures _ _ _ fresh) (c.selected_are_nominated_by_peer.ensures _ _ _ fresh never))
 
 pub returns-clause-unaccepted : goal.returns-clause-unaccepted
 returns-clause-unaccepted g c = packets_are_settled _ _ _ _ _

@@ -1,12 +1,33 @@
-use Rattle.std.proofs.Common.{List, ◌∷◌, [], length, refl, ap, subst, arith}
+use Rattle.std.proofs.Common.{◌≡◌, true, List, ◌∷◌, [], length, refl, ap, sym, subst, arith}
 use Rattle.is_candidate.specs.Candidates.{CandidateRecord}
 use Rattle.is_pair.specs.Multiset.{is_numbered}
 use Rattle.is_pair.specs.Checklists.{multiset_of}
 use Rattle.is_rules.specs.Evicting.{AreCounted, IsLeastOfMost}
+use Rattle.is_rules.specs.Kept.{are_placed}
 use Rattle.is_rules.specs.Kinds.{kind_of}
+use Rattle.is_rules.specs.Shares.{EvictsSomeOfMost}
 use Rattle.is_rules.proofs.PairLists.PairsInLists.{placed-without}
 use Rattle.is_rules.proofs.PairLists.RemovedInTurn.{shorter}
 use Rattle.is_rules.proofs.evicting.evict_of_most.Goals as goal
+
+pub loop-kinds-init : goal.loop-kinds-init
+loop-kinds-init c =
+    let remote = c.args.remote.now in
+    let mid = multiset_of c.evict_many.new.pairs in
+    let some : EvictsSomeOfMost (kind_of c.args.local.now remote) c.args.limit (multiset_of c.args.pairs.now) mid =
+    subst (λ (l : List CandidateRecord). EvictsSomeOfMost (kind_of l remote) c.args.limit (multiset_of c.args.pairs.now) mid) c.new-kinds.ensures c.evict_many.ensures.evicted in
+    record {
+      drops = λ gone end h. some end (gone, h);
+      same = c.new-kinds.ensures;
+      counted = subst (λ (l : List CandidateRecord). AreCounted (kind_of l remote) mid c.kind_counts-counts.result) c.new-kinds.ensures c.kind_counts-counts.ensures;
+      placed = subst (λ (l : List CandidateRecord). are_placed l remote mid ≡ true) c.new-kinds.ensures c.evict_many.ensures.placed;
+      below = c.evict_many.ensures.below;
+    }
+
+pub evict_one-requires-clause-counted : goal.evict_one-requires-clause-counted
+evict_one-requires-clause-counted c =
+    subst (λ (l : List CandidateRecord). AreCounted (kind_of l c.args.remote.now) (multiset_of c.loop-kinds.pairs) c.loop-kinds.counts) (sym c.loop-kinds.invariant.same)
+    c.loop-kinds.invariant.counted
 
 pub loop-kinds-smaller : goal.loop-kinds-smaller
 loop-kinds-smaller c =

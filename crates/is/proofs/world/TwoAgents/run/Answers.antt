@@ -1,6 +1,11 @@
 use Rattle.is.proofs.AgentLogs.StoredAndQueued.{both_are_bounded, both_have_few_pairs, both_are_short, both_discover_few}
 use Rattle.is.proofs.AgentLogs.ReportedPaths.{both_report_selected, both_report_answered, both_keep_settings}
+use Rattle.is.proofs.RolesAndChains.OriginalAgents.{roles_headline}
 use Rattle.is.proofs.world.TwoAgents.run.Goals as goal
+
+pub returns-clause-headline : goal.returns-clause-headline
+returns-clause-headline g c = roles_headline _ _ _ _ _ (c.greater_keeps.ensures _ _ _ _ _ c.run_events.result c.run_events.ensures)
+    (c.lesser_switches_once.ensures _ _ _ _ _ c.run_events.result c.run_events.ensures) (c.roles_differ_once_met.ensures _ _ _)
 
 pub returns-clause-keeps : goal.returns-clause-keeps
 returns-clause-keeps g c = c.greater_keeps.ensures _ _ _ _ _ c.run_events.result c.run_events.ensures

@@ -11,6 +11,7 @@ invariant_of-self g c =
       credentials_fit = self.credentials_fit;
       none_too_high = self.none_too_high;
       retransmits = self.retransmits;
+      consent_kept = self.consent_kept;
       local_key_kept = self.local_key_kept;
       remote_key_kept = self.remote_key_kept;
       numbered = below-grown self.next_number c.max-self.result (multiset_of self.pairs) more self.numbered;

@@ -5,7 +5,7 @@ use Rattle.is_pair.specs.Pairs.{PairRecord}
 use Rattle.is_pair.specs.Multiset.{are_below, EvictsInTurn}
 use Rattle.is_pair.specs.Checklists.{multiset_of, HasRoom, HasCheckRoom}
 use Rattle.is_pair.specs.Removed.{removed_of, AreRemoved}
-use Rattle.is_pair.proofs.checklist.Checklist.evict.Given as goal
+use Rattle.is_pair.proofs.checklist.Checklist.evict_each.Given as goal
 
 abbrev pub invariant-loop-self : goal.invariant-loop-self
 invariant-loop-self l = record {

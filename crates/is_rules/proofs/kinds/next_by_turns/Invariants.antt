@@ -3,7 +3,7 @@ use Rattle.std.specs.Option.{option_copied}
 use Rattle.is_pair.specs.Pairs.{PairRecord}
 use Rattle.is_pair.specs.Checklists.{multiset_of}
 use Rattle.is_rules.proofs.FunctionProofs.NextAhead.{IsVisited}
-use Rattle.is_rules.proofs.kinds.next_ahead.Given as goal
+use Rattle.is_rules.proofs.kinds.next_by_turns.Given as goal
 
 -- the first among the pairs visited so far
 abbrev pub invariant-loop-pair : goal.invariant-loop-pair

@@ -1,7 +1,7 @@
 use Rattle.std.proofs.Common.{◌≡◌, map, fold, min, drop}
 use Rattle.is_proto.specs.Times.{MAX}
 use Rattle.is_pair.specs.Due.{call_time_of}
-use Rattle.is_pair.proofs.checklist.listed.earliest_call.Given as goal
+use Rattle.is_pair.proofs.checklist.listed.earliest_call_with.Given as goal
 
 -- the least of what is left and of what was visited is the least of all
 abbrev pub invariant-loop-pair : goal.invariant-loop-pair

@@ -2,7 +2,7 @@ use Rattle.std.proofs.Common.{◌≡◌, ◌<◌, ◌+◌, ◌-◌, ◌∷◌, �
 use Rattle.std.proofs.Math.Seq.{drop-cons}
 use Rattle.is_pair.specs.Checklists.{multiset_of, HasRoom}
 use Rattle.is_rules.specs.Forming.{formed_as}
-use Rattle.is_rules.proofs.forming.try_each.Goals as goal
+use Rattle.is_rules.proofs.forming.try_all.Goals as goal
 
 drop-next : {X : Type 0} (xs : List X) (i : ℕ) (d : X) → i < length xs → drop i xs ≡ get_or xs i d ∷ drop (i + 1) xs
 drop-next xs i d within =
@@ -14,11 +14,12 @@ loop-at-preserved c =
     let all = length c.args.all.now in let i = c.loop-at.at-index in
     let within : i < all = search rules in
     let next : all - i ≡ (all - (i + 1)) + 1 = omega (arith, within) in
-    let mid = formed_as (multiset_of c.try_one.new.pairs) c.try_one.new.next_number in
+    let mid = formed_as (multiset_of c.try_next.new.pairs) c.try_next.new.next_number in
     record {
-      goes = λ end rest. c.loop-at.invariant.goes end (rw (drop-next c.args.all.now i (0, 0) within) (mid, c.try_one.ensures.tries, rest));
-      room = c.try_one.ensures.room (all - (i + 1)) (subst (λ n. HasRoom n c.loop-at.pairs) next c.loop-at.invariant.room);
+      goes = λ end rest. c.loop-at.invariant.goes end (rw (drop-next c.args.all.now i (0, 0) within) (mid, c.try_next.ensures.tries, rest));
+      room = c.try_next.ensures.room (all - (i + 1)) (subst (λ n. HasRoom n c.loop-at.pairs) next c.loop-at.invariant.room);
       numbers = search rules;
-      last = c.try_one.ensures.below;
-      placed = c.try_one.ensures.placed;
+      last = c.try_next.ensures.below;
+      placed = c.try_next.ensures.placed;
+      held = c.try_next.ensures.held;
     }

@@ -6,7 +6,8 @@ use Rattle.is_rules.specs.Each.{Each}
 use Rattle.is_rules.specs.Kept.{are_placed}
 use Rattle.is_rules.specs.Forming.{Formed, Tries, formed_as}
 use Rattle.is_rules.specs.FormingView.{sides_view}
-use Rattle.is_rules.proofs.forming.try_each.Given as goal
+use Rattle.is_rules.specs.Slots.{AreHeld}
+use Rattle.is_rules.proofs.forming.try_all.Given as goal
 
 -- however it goes on from here, it goes so from the start
 abbrev pub invariant-loop-at : goal.invariant-loop-at
@@ -17,4 +18,5 @@ invariant-loop-at l = record {
   numbers : l.next_number + length l.all ≤ MAX + l.at-index;
   last : are_below l.next_number (multiset_of l.pairs) ≡ true;
   placed : are_placed l.sides.local.now l.sides.remote.now (multiset_of l.pairs) ≡ true;
+  held : AreHeld (sides_view l.sides) l.held (multiset_of l.pairs);
 }

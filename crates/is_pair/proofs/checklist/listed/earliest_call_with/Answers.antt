@@ -3,7 +3,7 @@ use Rattle.std.proofs.lemmas.List.{drop_all}
 use Rattle.is_pair.specs.Pairs.{PairRecord}
 use Rattle.is_pair.specs.Due.{call_time_of}
 use Rattle.is_pair.proofs.PairEntries.VisitedPairs.{left-more}
-use Rattle.is_pair.proofs.checklist.listed.earliest_call.Goals as goal
+use Rattle.is_pair.proofs.checklist.listed.earliest_call_with.Goals as goal
 
 pub loop-pair-preserved : goal.loop-pair-preserved
 loop-pair-preserved c =

@@ -1,0 +1,20 @@
+use Rattle.std.proofs.Common.{◌≡◌, ℕ, ◌<◌, ◌+◌, true, drop, filter, length, slice_index}
+use Rattle.is_pair.specs.Checklists.{multiset_of}
+use Rattle.is_rules.specs.Evicting.{kind_count}
+use Rattle.is_rules.specs.Kept.{are_placed}
+use Rattle.is_rules.specs.Kinds.{kind_of, KINDS}
+use Rattle.is_rules.specs.Shares.{is_low_of_kind}
+use Rattle.is_rules.proofs.lowest.going_counts.Given as goal
+
+-- the pairs so far that go and those that are left to go are all
+abbrev pub invariant-loop-pair : goal.invariant-loop-pair
+invariant-loop-pair l = record {
+  counted : (kind : ℕ) → kind < KINDS
+      → slice_index l.counts kind
+      + kind_count (kind_of l.going.kinds.now.local.now l.going.remote.now)
+      (filter (is_low_of_kind l.going.kinds.now.local.now l.going.remote.now l.going.last.now.priorities l.going.last.now.numbers) (drop l.pair-index l.pair-items)) kind
+      ≡ kind_count (kind_of l.going.kinds.now.local.now l.going.remote.now)
+      (filter (is_low_of_kind l.going.kinds.now.local.now l.going.remote.now l.going.last.now.priorities l.going.last.now.numbers) (multiset_of l.pairs)) kind;
+  long : length l.counts ≡ KINDS;
+  placed : are_placed l.going.kinds.now.local.now l.going.remote.now (drop l.pair-index l.pair-items) ≡ true;
+}

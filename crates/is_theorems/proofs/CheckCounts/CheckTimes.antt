@@ -1,0 +1,102 @@
+-- When checks of a pair from which nothing arrives are sent at the earliest.
+use Rattle.std.proofs.Common.{◌≡◌, ℕ, zero, suc, ◌+◌, ◌-◌, ◌*◌, ◌/◌, ◌^◌, ◌<◌, ◌≤◌, ◌&&◌, Bool, true, false, min, nat_lt, inl, inr, refl, arith, if◌then◌else◌}
+use Rattle.std.proofs.lemmas.Bool.{cases_lt}
+use Rattle.std.proofs.lemmas.Bool.Decides.{nat_tests}
+use Rattle.std.proofs.Math.Nat.{pow-le-pow_right, mul-le-mul_left}
+use Rattle.is_proto.specs.Times.{MAX, MILLISECOND, later}
+use Rattle.is_stun.specs.declared.timing.StunTiming.{StunTiming}
+use Rattle.is_stun.specs.Timing.{EARLY_RETRANSMITS, delay_millis, early_delay, is_modern, resend_delay}
+use Rattle.is_pair.specs.Due.{early_time}
+use Rattle.is_theorems.specs.SilentPairs.{check_time, least_delay, rto_after}
+
+-- ---- the RTO
+
+rto-of : (t : StunTiming) (n : ℕ) → 0 < n → resend_delay t n ≡ min (t.initial_rto.0 / MILLISECOND * 2 ^ min (n - 1) t.max_retransmits) (t.max_rto.0 / MILLISECOND) * MILLISECOND
+unfolding delay_millis
+rto-of t n some = grind (arith, nat_tests)
+
+-- it is not longer than the longest one, and does not fall
+rto-below : (t : StunTiming) (n : ℕ) → resend_delay t n ≤ t.max_rto.0
+rto-below t zero = omega arith
+rto-below t (suc n) = let delay = rto-of t (suc n) (omega arith) in omega (arith, delay)
+
+pub rto-rising : (t : StunTiming) (few many : ℕ) → few ≤ many → resend_delay t few ≤ resend_delay t many
+rto-rising t zero many less = omega arith
+rto-rising t (suc few) many less =
+    let times : min (suc few - 1) t.max_retransmits ≤ min (many - 1) t.max_retransmits = omega (arith, less) in
+    let power : 2 ^ min (suc few - 1) t.max_retransmits ≤ 2 ^ min (many - 1) t.max_retransmits = pow-le-pow_right (omega arith) times in
+    let product = mul-le-mul_left (t.initial_rto.0 / MILLISECOND) power in
+    let first = rto-of t (suc few) (omega arith) in
+    let second = rto-of t many (omega (arith, less)) in
+    omega (arith, product, first, second)
+
+pub rto-within : (t : StunTiming) (n : ℕ) → rto_after t n ≤ t.max_rto.0
+rto-within t n = rto-below t (min n t.max_retransmits)
+
+-- ---- the least delay
+
+-- the shorter delay, as long as the test holds
+abbrev either_delay : (b : Bool) (short long : ℕ) → ℕ
+either_delay b short long = if b then min short long else long
+
+never-longer : (b : Bool) (short long : ℕ) → either_delay b short long ≤ long
+never-longer true short long = omega arith
+never-longer false short long = omega arith
+
+pub least-within : (t : StunTiming) (after n : ℕ) → least_delay t after n ≤ rto_after t n
+least-within t after n = never-longer (is_modern t && nat_lt after (early_time t)) (early_delay n) (rto_after t n)
+
+delays-rise : (m x y : Bool) (short long : ℕ) → (y ≡ true → x ≡ true) → either_delay (m && x) short long ≤ either_delay (m && y) short long
+delays-rise false x y short long h = omega arith
+delays-rise true true true short long h = omega arith
+delays-rise true true false short long h = omega arith
+delays-rise true false false short long h = omega arith
+delays-rise true false true short long h = let no : false ≡ true = h refl in absurd (cc)
+
+sooner-too : (a b e : ℕ) → a ≤ b → nat_lt b e ≡ true → nat_lt a e ≡ true
+sooner-too a b e le h = grind (arith, nat_tests, le, h)
+
+-- later on it is not shorter
+pub least-rising : (t : StunTiming) (n a b : ℕ) → a ≤ b → least_delay t a n ≤ least_delay t b n
+least-rising t n a b le = delays-rise (is_modern t) (nat_lt a (early_time t)) (nat_lt b (early_time t)) (early_delay n) (rto_after t n) (sooner-too a b (early_time t) le)
+
+-- ---- the earliest times
+
+pub time-first : (t : StunTiming) → check_time t 1 ≡ 0
+unfolding check_time
+time-first t = refl
+
+pub time-next : (t : StunTiming) (n : ℕ) → 0 < n → check_time t (suc n) ≡ check_time t n + least_delay t (check_time t n) n
+unfolding check_time
+time-next t zero some = let no : ⊥ = omega (arith, some) in absurd no
+time-next t (suc n) some = refl
+
+-- ---- saturated times
+
+-- a check that is sent so long after another is no sooner than the next one on schedule
+pub later-next : (t : StunTiming) (n first sent now : ℕ) → 0 < n → later first (check_time t n) ≤ sent → later sent (least_delay t (sent - first) n) ≤ now
+    → later first (check_time t (suc n)) ≤ now
+later-next t n first sent now some late due = elim (cases_lt sent MAX) [
+  | inl early ↦
+      (let after : check_time t n ≤ sent - first = omega (arith, late, early) in
+      let least = least-rising t n (check_time t n) (sent - first) after in
+      let next = time-next t n some in
+      omega (arith, late, early, due, least, next))
+  | inr past ↦ omega (arith, past, due)
+]
+
+-- ---- the delays of early checks
+
+-- it does not fall, and no further after the fourth check
+pub early-rising : (few many : ℕ) → min few 4 ≤ many → early_delay few ≤ early_delay many
+early-rising few many le = elim (cases_lt many 4) [
+  | inl small ↦
+      (let fewer : few - EARLY_RETRANSMITS ≤ many - EARLY_RETRANSMITS = omega (arith, le, small) in
+      let power : 2 ^ (few - EARLY_RETRANSMITS) ≤ 2 ^ (many - EARLY_RETRANSMITS) = pow-le-pow_right (omega arith) fewer in
+      omega (arith, power))
+  | inr great ↦
+      (let two : 2 ≤ many - EARLY_RETRANSMITS = omega (arith, great) in
+      let power : 2 ^ 2 ≤ 2 ^ (many - EARLY_RETRANSMITS) = pow-le-pow_right (omega arith) two in
+      let four : 2 ^ 2 ≡ 4 = refl in
+      omega (arith, power, four))
+]

@@ -1,0 +1,212 @@
+-- Each pair without a response is on schedule, and one that is followed from some time on: what the rules and checks leave of that.
+use Rattle.std.proofs.Common.{◌≡◌, ℕ, ◌+◌, ◌<◌, ◌≤◌, Bool, true, false, List, Option, Some, None, inl, inr, ◌⊎◌, refl, ap, sym, ◌∙◌, subst, arith}
+use Rattle.is_proto.specs.Lists.{Has}
+use Rattle.is_proto.specs.Times.{MAX}
+use Rattle.is_stun.specs.declared.timing.StunTiming.{StunTiming}
+use Rattle.is_pair.specs.Checks.{Check}
+use Rattle.is_pair.specs.Due.{asked, due_time_of, is_due, is_possible}
+use Rattle.is_pair.specs.Pairs.{PairRecord, TakesAnswer, checked, is_valid, new_pair, taking_over}
+use Rattle.is_pair.specs.States.{is_valid_state}
+use Rattle.is_rules.specs.Sound.{is_started_state}
+use Rattle.is_theorems.specs.SilentPairs.{EndsWith, IsPastRequests}
+use Rattle.is_theorems.proofs.CallEffects.ChecksAndResponses.{Has-get}
+use Rattle.is_theorems.proofs.CheckCounts.KeptPairs.{IsOfSilent, IsRequested}
+use Rattle.is_theorems.proofs.CheckCounts.SentChecks.{no-case, none-some, some-is, sent-valid, answered-valid, answered-invalid, from-invalid, AreOpen}
+use Rattle.is_theorems.proofs.CheckCounts.OnSchedule.{Watch, IsPast, past-on, new-past, Keeps, few-of, run-as, asked-run, sent-past, sent-keeps}
+
+module _ (t : StunTiming) (most : ℕ) where
+  -- ---- each pair
+
+  -- Without a response: nothing is later, and without a request it is on schedule from its beginning. If it is the one that is followed, it is so
+  -- since then, while no further request arrives.
+  pub record IsFollowed (w : Watch) (by : ℕ) (p : PairRecord) : Type 0 where
+    pub more : w.requests ≤ p.requests
+    pub keeps : p.requests ≡ w.requests → Keeps t most w.count by p
+
+  pub record IsOn (o : Option Watch) (by clock : ℕ) (p : PairRecord) : Type 0 where
+    pub past : IsPast clock p
+    pub unrequested : p.requests ≡ 0 → Keeps t most 0 by p
+    pub followed : (w : Watch) → o ≡ Some w → p.number ≡ w.number → IsFollowed w by p
+
+  abbrev pub IsOnSchedule : Option Watch → ℕ → ℕ → PairRecord → Type 0
+  IsOnSchedule o by clock p = is_valid p ≡ false → IsOn o by clock p
+
+  keeps-on : (base by at : ℕ) (p : PairRecord) → by ≤ at → Keeps t most base by p → Keeps t most base at p
+  keeps-on base by at p le (inl same) = inl same
+  keeps-on base by at p le (inr h) = inr (run-as t most base by at p p.due p.last_error p.priority le h h.planned)
+
+  pub later-on : (o : Option Watch) (by clock at after : ℕ) (p : PairRecord) → by ≤ at → clock ≤ after → IsOnSchedule o by clock p → IsOnSchedule o at after p
+  later-on o by clock at after p le less on invalid = let k = on invalid in record {
+    past = past-on clock after p less k.past;
+    unrequested = λ none. keeps-on 0 by at p le (k.unrequested none);
+    followed = λ w is same. (let f = k.followed w is same in record { more = f.more; keeps = λ still. keeps-on w.count by at p le (f.keeps still) });
+  }
+
+  -- the same pair with another due time, priority or error
+  again-on : (o : Option Watch) (by clock : ℕ) (p : PairRecord) (due error : Option ℕ) (priority : ℕ) → ((due ≡ None) ⊎ (due ≡ p.due)) → IsOnSchedule o by clock p
+      → IsOnSchedule o by clock (record p { due = due; last_error = error; priority = priority })
+  again-on o by clock p due error priority kind on invalid = let k = on invalid in record {
+    past = record {
+      answers = k.past.answers;
+      quiet = k.past.quiet;
+      heard = k.past.heard;
+      first = k.past.first;
+      again = k.past.again;
+      unanswered = k.past.unanswered;
+      started = k.past.started;
+    };
+    unrequested = λ none. keeps 0 (k.unrequested none);
+    followed = λ w is same. (let f = k.followed w is same in record { more = f.more; keeps = λ still. keeps w.count (f.keeps still) });
+  } where
+    keeps : (base : ℕ) → Keeps t most base by p → Keeps t most base by (record p { due = due; last_error = error; priority = priority })
+    keeps base (inl same) = inl same
+    keeps base (inr h) = inr (run-as t most base by by p due error priority (omega arith) h (λ n is. elim kind [
+      | inl none ↦ none-some n (sym none ∙ is)
+      | inr same ↦ h.planned n (sym same ∙ is)
+    ]))
+
+  module _ (o : Option Watch) (floor by clock : ℕ) (apart : (w : Watch) → o ≡ Some w → (w.number < floor) × (w.requests < MAX)) where
+    new-on : (number local remote priority : ℕ) → floor ≤ number → IsOnSchedule o by clock (new_pair number local remote priority)
+    new-on number local remote priority above invalid = record {
+      past = new-past clock number local remote priority;
+      unrequested = λ none. inl refl;
+      followed = λ w is same. absurd (let lt = (apart w is).0 in (let no : ⊥ = omega (arith, lt, above, same) in no));
+    }
+
+    taken-on : (lite : Bool) (other : PairRecord) (number local remote priority : ℕ) → floor ≤ number → IsOnSchedule o by clock other
+        → IsOnSchedule o by clock (taking_over lite other (new_pair number local remote priority))
+    taken-on true other number local remote priority above on invalid =
+        let k = on (from-invalid other.state invalid) in record {
+          past = record {
+            answers = refl;
+            quiet = k.past.quiet;
+            heard = k.past.heard;
+            first = λ at is. none-some at is;
+            again = λ at is. none-some at is;
+            unanswered = λ c has. absurd has;
+            started = λ c has. absurd has;
+          };
+          unrequested = λ none. inl refl;
+          followed = λ w is same. absurd (let lt = (apart w is).0 in (let no : ⊥ = omega (arith, lt, above, same) in no));
+        }
+    taken-on false other number local remote priority above on invalid = record {
+      past = record {
+        answers = refl;
+        quiet = λ _. refl;
+        heard = λ at is. none-some at is;
+        first = λ at is. none-some at is;
+        again = λ at is. none-some at is;
+        unanswered = λ c has. absurd has;
+        started = λ c has. absurd has;
+      };
+      unrequested = λ none. inl refl;
+      followed = λ w is same. absurd (let lt = (apart w is).0 in (let no : ⊥ = omega (arith, lt, above, same) in no));
+    }
+
+    takes-answer : (p after : PairRecord) (now : ℕ) (id : List ℕ) → TakesAnswer p now id after → IsOnSchedule o by clock p → IsOnSchedule o by clock after
+    takes-answer p after now id (place, c, at, took) on = subst (λ (x : PairRecord). IsOnSchedule o by clock x) (sym took) (λ invalid.
+        (let k = on (answered-invalid p.state invalid) in
+        no-case (sym invalid ∙ answered-valid p.state (k.past.started c (Has-get p.checks place c at.0)))))
+
+    -- a request
+    takes-request : (p after : PairRecord) (time : ℕ) → IsRequested p time after → time ≤ clock → IsOnSchedule o by clock p → IsOnSchedule o by clock after
+    takes-request p after time r early on invalid = elim r.state [
+      | inr valid ↦ no-case (sym invalid ∙ valid)
+      | inl same ↦ from same (on (sym (ap (λ s. is_valid_state s) same) ∙ invalid))
+    ] where
+      some : after.requests ≡ 0 → ⊥
+      some none = let is = r.requests in (let no : ⊥ = omega (arith, none, is) in no)
+
+      from : after.state ≡ p.state → IsOn o by clock p → IsOn o by clock after
+      from same k = record {
+        past = record {
+          answers = r.answers ∙ k.past.answers;
+          quiet = λ none. absurd (some none);
+          heard = λ at is. (let it : time ≡ at = some-is time at (sym r.last ∙ is) in omega (arith, it, early));
+          first = λ at is. k.past.first at (sym r.first ∙ is);
+          again = λ at is. k.past.again at (sym r.again ∙ is);
+          unanswered = subst (λ (cs : List Check). AreOpen cs) (sym r.checks) k.past.unanswered;
+          started = λ c has. ap (λ s. is_started_state s) same ∙ k.past.started c (subst (λ (cs : List Check). Has cs c) r.checks has);
+        };
+        unrequested = λ none. absurd (some none);
+        followed = λ w is number. (let f = k.followed w is (sym r.number ∙ number) in let more = f.more in let count = r.requests in let below = (apart w is).1 in record {
+          more = omega (arith, more, count, below);
+          keeps = λ still. absurd (let no : ⊥ = omega (arith, more, count, below, still) in no);
+        });
+      }
+
+    pub of-silent : IsOfSilent floor clock (IsOnSchedule o by clock)
+    of-silent = record {
+      valid = λ p valid invalid. no-case (sym invalid ∙ valid);
+      fresh = λ number local remote priority above. new-on number local remote priority above;
+      taken = λ lite other number local remote priority above on. taken-on lite other number local remote priority above on;
+      fixed = λ p due none on. again-on o by clock p due p.last_error p.priority (inl none) on;
+      noted = λ p code on. again-on o by clock p p.due code p.priority (inr refl) on;
+      ranked = λ p priority on. again-on o by clock p p.due p.last_error priority (inr refl) on;
+      answered = λ p after now id takes on. takes-answer p after now id takes on;
+      requested = λ p after time r early on. takes-request p after time r early on;
+    }
+
+  -- ---- due times and checks
+
+  pub asked-on : (o : Option Watch) (by clock now : ℕ) (p : PairRecord) → by ≤ now → clock ≤ now → IsOnSchedule o by clock p → IsOnSchedule o now now (asked now t p)
+  asked-on o by clock now p passes less on invalid =
+      let k = on invalid in
+      let clean = past-on clock now p less k.past in record {
+        past = record {
+          answers = clean.answers;
+          quiet = clean.quiet;
+          heard = clean.heard;
+          first = clean.first;
+          again = clean.again;
+          unanswered = clean.unanswered;
+          started = clean.started;
+        };
+        unrequested = λ none. asked-run t most 0 by now now p passes clean (k.unrequested none);
+        followed = λ w is same. (let f = k.followed w is same in record { more = f.more; keeps = λ still. asked-run t most w.count by now now p passes clean (f.keeps still) });
+      }
+
+  -- a check of a pair that is due and possible leaves it on schedule
+  pub checked-on : EndsWith t most → 0 < t.max_retransmits → (o : Option Watch) → ((w : Watch) → o ≡ Some w → (w.requests ≡ 0) ⊎ IsPastRequests t most) → (now : ℕ) (c : Bool) (id : List ℕ) (p : PairRecord)
+      → now < MAX → IsOnSchedule o now now p → due_time_of now t p ≤ now → is_possible now t p ≡ true → IsOnSchedule o now now (checked now t c id (asked now t p))
+  checked-on ends limit o fits now c id p goes_on on is_due possible invalid =
+      let k = on (sent-valid p.state invalid) in record {
+        past = sent-past t most ends limit now c id p k.past;
+        unrequested = λ none. sent-keeps t most ends limit now c id p 0 now (omega arith) goes_on k.past (inl none) is_due possible (k.unrequested none);
+        followed = λ w is same. (let f = k.followed w is same in record {
+          more = f.more;
+          keeps = λ still. sent-keeps t most ends limit now c id p w.count now (omega arith) goes_on k.past
+              (elim (fits w is) [ inl none ↦ inl (still ∙ none) | inr long ↦ inr long ]) is_due possible (f.keeps still);
+        });
+      }
+
+  -- due times that are fixed at the time of the last check leave it on schedule
+  pub asked-at : (o : Option Watch) (by clock : ℕ) (p : PairRecord) → IsOnSchedule o by clock p → IsOnSchedule o by clock (asked by t p)
+  asked-at o by clock p on invalid =
+      let k = on invalid in record {
+        past = record {
+          answers = k.past.answers;
+          quiet = k.past.quiet;
+          heard = k.past.heard;
+          first = k.past.first;
+          again = k.past.again;
+          unanswered = k.past.unanswered;
+          started = k.past.started;
+        };
+        unrequested = λ none. asked-run t most 0 by by clock p (omega arith) k.past (k.unrequested none);
+        followed = λ w is same. (let f = k.followed w is same in record { more = f.more; keeps = λ still. asked-run t most w.count by by clock p (omega arith) k.past (f.keeps still) });
+      }
+
+  -- ---- a pair that is followed from here on
+
+  pub watched : (w : Watch) (by clock : ℕ) (p : PairRecord) → IsOnSchedule None by clock p → (p.number ≡ w.number → (p.requests ≡ w.requests) × (p.checks_sent ≡ w.count)) → IsOnSchedule (Some w) by clock p
+  watched w by clock p on its invalid = let k = on invalid in record {
+    past = k.past;
+    unrequested = k.unrequested;
+    followed = λ v is same. subst (λ (x : Watch). IsFollowed x by p) (one v is) (let now = its (same ∙ ap (λ (x : Watch). x.number) (sym (one v is))) in let requests = now.0 in record { more = omega (arith, requests); keeps = λ _. inl now.1 });
+  } where
+    one : (v : Watch) → Some w ≡ Some v → w ≡ v
+    one v is = cc
+
+  pub followed-few : (w : Watch) (by clock : ℕ) (p : PairRecord) → IsOn (Some w) by clock p → p.number ≡ w.number → p.requests ≡ w.requests → p.checks_sent ≤ w.count + most
+  followed-few w by clock p k number requests = few-of t most w.count by p ((k.followed w refl number).keeps requests)

@@ -1,0 +1,98 @@
+-- How fast an agent sends checks (RFC 8445, sections 14.2 and 19.5.1), whatever it receives.
+use Rattle.std.specs.Prelude.{◌≡◌, ℕ, ◌+◌, ◌-◌, ◌*◌, ◌/◌, ◌<◌, ◌≤◌, ◌⊎◌, ◌&&◌, min, Bool, true, false, nat_le, nat_lt, List, [], ◌∷◌, count_by, Some}
+use Rattle.std.specs.Option.{option_map_or}
+use Rattle.is_proto.specs.Times.{MAX, MILLISECOND, SECOND}
+use Rattle.is_candidate.specs.Candidates.{CandidateRecord}
+use Rattle.is_rules.specs.declared.emitted.Issued.{Issued}
+use Rattle.is_rules.specs.Agent.{AgentRecord}
+use Rattle.is_rules.specs.Polls.{LEAST_TA, is_early, pacing_of}
+use Rattle.is_rules.specs.Steps.{Answer, Call, Entry, HandleTimeout, NextTimeout, PollTimeout}
+use Rattle.is_theorems.specs.Logs.{Logged}
+use Rattle.is_theorems.specs.NotStarved.{is_timeout, timeout_count}
+use Rattle.is_theorems.specs.Pending.{is_request}
+use Rattle.is_theorems.specs.Shared.{BeforeEach, IsNewlyCreated, SharedRun}
+
+-- ---- how many checks
+
+-- The call sends a check: it issues a Binding request.
+abbrev pub sends_check : Entry → Bool
+sends_check e = option_map_or (λ (issued : Issued). is_request issued.class) e.emitted.issued false
+
+-- The call is `handle_timeout`, and its time is in the span that begins at `from` and is so long. The end of the span is not in it.
+abbrev pub is_in_span : {P : Type 0} → (from long : ℕ) → Call P → Bool
+is_in_span from long (HandleTimeout now) = nat_le from now && nat_lt now (from + long)
+is_in_span from long _ = false
+
+-- how many checks are sent in the whole log, and in that span
+abbrev pub check_count : {P : Type 0} → List (Logged P) → ℕ
+check_count log = count_by (λ (x : Logged _). sends_check x.entry) log
+
+abbrev pub checks_in_span : {P : Type 0} → (from long : ℕ) → List (Logged P) → ℕ
+checks_in_span from long log = count_by (λ (x : Logged _). is_in_span from long x.call && sends_check x.entry) log
+
+-- how many intervals of this length begin in a span that is so long
+abbrev pub begun_in : (long interval : ℕ) → ℕ
+begun_in long interval = (long + (interval - 1)) / interval
+
+-- ---- a patient caller
+
+-- `poll_timeout` returned no time, or one that has come.
+abbrev pub lets_call : {P : Type 0} → ℕ → Call P → Answer → Bool
+lets_call now PollTimeout (NextTimeout deadline) = option_map_or (λ at. nat_le at now) deadline true
+lets_call now _ _ = false
+
+-- The call is `handle_timeout`, and came so long before.
+abbrev pub is_before : {P : Type 0} → (gap now : ℕ) → Call P → Bool
+is_before gap now (HandleTimeout at) = nat_le (at + gap) now
+is_before gap now _ = false
+
+-- `handle_timeout` may be called at this time: since the last such call of this log `poll_timeout` returned a time that has come, or that call
+-- came so long before. If there was none, any time will do.
+abbrev pub MayCallAt : {P : Type 0} → (gap now : ℕ) → List (Logged P) → Type 0
+MayCallAt gap now [] = Unit {0}
+MayCallAt gap now (x ∷ before) =
+    (lets_call now x.call x.entry.answer ≡ true) ⊎ ((is_before gap now x.call ≡ true) ⊎ ((is_timeout x.call ≡ false) × MayCallAt gap now before))
+
+-- The caller is patient: it makes no `handle_timeout` call sooner than the time that `poll_timeout` returned, unless it comes so long
+-- after the one before. Who goes by `poll_timeout_soon` is so with 5 ms, since that returns no time sooner than both.
+abbrev pub IsPatient : {P : Type 0} → (gap : ℕ) → List (Logged P) → Type 0
+IsPatient gap [] = Unit {0}
+IsPatient gap (x ∷ before) = ((now : ℕ) → x.call ≡ HandleTimeout now → MayCallAt gap now before) × IsPatient gap before
+
+module _ {H P : Type 0} where
+  -- When `poll_timeout` is called after a `handle_timeout` call at `from` or later, the pacing interval is at least `pace`. If there is nothing
+  -- to check, the next call comes after 3 s.
+  abbrev pub IsPacedAt : (from pace : ℕ) → AgentRecord H P → Logged P → Type 0
+  IsPacedAt from pace a x = x.call ≡ PollTimeout → (last : ℕ) → a.last_time ≡ Some last → from ≤ last → pace ≤ min (3 * SECOND) (pacing_of last a)
+
+  -- The pacing interval that is set is at least 50 ms, the default.
+  abbrev pub IsSlowAt : ℕ → AgentRecord H P → Logged P → Type 0
+  IsSlowAt from a x = x.call ≡ PollTimeout → (last : ℕ) → a.last_time ≡ Some last → from ≤ last → 50 * MILLISECOND ≤ a.timing_advance
+
+  -- It is not early: the profile is `Original`, the agent is settled, or no pair is at its beginning.
+  abbrev pub IsLateAt : ℕ → AgentRecord H P → Logged P → Type 0
+  IsLateAt from a x = x.call ≡ PollTimeout → (last : ℕ) → a.last_time ≡ Some last → from ≤ last → is_early last a ≡ false
+
+  module _ (mac : H → List ℕ → List ℕ → List ℕ) (answers : P → CandidateRecord → ℕ → ℕ → Type 0) where
+    -- ---- the theorems
+
+    -- Any caller: only `handle_timeout` sends checks, and each call at most one.
+    abbrev pub TimeoutsCheck : Type 0
+    TimeoutsCheck = (first last : AgentRecord H P) (log : List (Logged P)) → SharedRun mac answers first log last → check_count log ≤ timeout_count log
+
+    -- A patient caller: in any span of time at most as many checks are sent as pacing intervals begin in it. The agent itself sends a check in
+    -- each `handle_timeout` call in which a pair is due, however soon it comes after the one before.
+    abbrev pub ChecksArePaced : Type 0
+    ChecksArePaced =
+        (first last : AgentRecord H P) (log : List (Logged P)) (from long pace : ℕ) → IsNewlyCreated first → (run : SharedRun mac answers first log last)
+        → IsPatient pace log → BeforeEach mac answers (IsPacedAt from pace) first log last run → 0 < pace → from + long ≤ MAX
+        → checks_in_span from long log ≤ begun_in long pace
+
+    -- With the default pacing interval, in any second: at most 200 checks with either profile, also of a caller that goes by
+    -- `poll_timeout_soon`; and 20 of one that goes by `poll_timeout`, while it is not early.
+    abbrev pub SecondsHaveFewChecks : Type 0
+    SecondsHaveFewChecks =
+        (first last : AgentRecord H P) (log : List (Logged P)) (from : ℕ) → IsNewlyCreated first → (run : SharedRun mac answers first log last)
+        → BeforeEach mac answers (IsSlowAt from) first log last run → from + SECOND ≤ MAX
+        → (IsPatient LEAST_TA log → checks_in_span from SECOND log ≤ 200)
+        × (IsPatient (50 * MILLISECOND) log → BeforeEach mac answers (IsLateAt from) first log last run → checks_in_span from SECOND log ≤ 20)
