@@ -20,6 +20,16 @@ fn an_allocation_lapses_at_its_end(rt: HostRuntime) -> Result<(), AllocError> {
     Ok(())
 }
 
+#[test]
+fn a_closed_client_frees_its_allocation(rt: HostRuntime) -> Result<(), AllocError> {
+    let mut side = allocated(rt.alloc())?;
+    side.client.close(at(1000));
+    assert!(rt; side.sends_at(1000) && side.sent(4, true));
+    assert!(rt; side.refresh(1010, 0) == TurnReceived::Own);
+    assert!(rt; side.ends(Why::Closed, None, None));
+    Ok(())
+}
+
 /// What is closed while it asks frees what may have been made.
 #[test]
 fn a_client_that_leaves_frees_its_allocation(rt: HostRuntime) -> Result<(), AllocError> {

@@ -47,7 +47,6 @@ enum Step {
     Answers(u64, Option<u16>),
     /// A 403 to a permission that nobody signed is dropped.
     Forged(u64),
-    Closes(u64),
     Probes(u64),
     /// The event that there is an allocation comes next.
     Allocated,
@@ -168,11 +167,6 @@ fn has(side: &Side, wanted: bool) -> bool {
     }
 }
 
-fn closes(side: &mut Side, now: u64) -> bool {
-    side.client.close(at(now));
-    true
-}
-
 fn probes(side: &mut Side, now: u64) -> bool {
     side.client.probe(at(now));
     true
@@ -237,7 +231,6 @@ fn is_heard(side: &mut Side, step: &Step) -> bool {
 /// Whether the row holds.
 fn holds(side: &mut Side, step: &Step) -> bool {
     match step {
-        Step::Closes(now) => closes(side, *now),
         Step::Probes(now) => probes(side, *now),
         Step::Permits(now, to, wanted) => permits(side, *now, *to) == *wanted,
         Step::Data(now, from, wanted) => takes_data(side, *now, peer(from.0, from.1)) == *wanted,
@@ -283,7 +276,7 @@ const ASKS: Step = Step::Sends(0, 3, false);
 const SIGNS: Step = Step::Sends(10, 3, true);
 
 /// A TURN client allocates, renews and frees, and takes only what the server signed.
-static ALLOCATING: [Session; 14] = [
+static ALLOCATING: [Session; 13] = [
     Session {
         name: "a challenge, then an allocation",
         start: Start::Known,
@@ -379,16 +372,6 @@ static ALLOCATING: [Session; 14] = [
             Step::Fails(480_030, true, 437, None),
             Step::Ends(Why::Lost, Some(437), None),
             Step::Has(false),
-        ],
-    },
-    Session {
-        name: "a closed client frees its allocation",
-        start: Start::Allocated,
-        steps: &[
-            Step::Closes(1000),
-            Step::Sends(1000, 4, true),
-            Step::Refreshes(1010, 0),
-            Step::Ends(Why::Closed, None, None),
         ],
     },
     // RFC 8489, section 6.2.1: the last packet is sent after 31500 ms.
