@@ -36,7 +36,7 @@ enum Step {
     /// The same to Refresh, with this realm.
     Stale(u64, &'static str, Dropped),
     /// An error response to Allocate with this code, signed.
-    Refused(u64, u16),
+    Failed(u64, u16),
     /// A success response to Allocate, signed or not.
     Allocates(u64, bool),
     /// A success response to Refresh with this lifetime, signed.
@@ -140,7 +140,7 @@ fn stale(side: &mut Side, now: u64, realm: &str) -> TurnReceived<'static> {
     side.hear(now, false, message)
 }
 
-fn refused(side: &mut Side, now: u64, code: u16) -> TurnReceived<'static> {
+fn error_response(side: &mut Side, now: u64, code: u16) -> TurnReceived<'static> {
     let message = Builder::new()
         .allocate()
         .failure()
@@ -218,7 +218,7 @@ fn is_heard(side: &mut Side, step: &Step) -> bool {
             is_taken(side.challenge(*now, *code, nonce), dropped)
         }
         Step::Stale(now, realm, dropped) => is_taken(stale(side, *now, realm), dropped),
-        Step::Refused(now, code) => is_taken(refused(side, *now, *code), &None),
+        Step::Failed(now, code) => is_taken(error_response(side, *now, *code), &None),
         Step::Allocates(now, signs) => is_taken(side.allocate(*now, *signs), &None),
         Step::Refreshes(now, lifetime) => is_taken(side.refresh(*now, *lifetime), &None),
         Step::Fails(now, signs, code, dropped) => is_taken(side.fail(*now, *signs, *code), dropped),
@@ -398,7 +398,7 @@ static ALLOCATING: [Session; 13] = [
             ASKS,
             CHALLENGED,
             SIGNS,
-            Step::Refused(20, 486),
+            Step::Failed(20, 486),
             Step::Ends(Why::Failed, Some(486), None),
         ],
     },
