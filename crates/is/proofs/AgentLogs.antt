@@ -5,3 +5,4 @@ pub mod PollingOrder
 pub mod StoredAndQueued
 pub mod ReportedPaths
 pub mod PlainAgents
+pub mod SentChecks

@@ -24,6 +24,7 @@ pub mod Renominations
 pub mod Punctual
 pub mod PunctualSelections
 pub mod WorldTheorems
+pub mod CheckBounds
 pub use Rattle.is_proto.specs.Times
 pub use Rattle.is_proto.specs.Packets
 pub use Rattle.is_proto.specs.Words

@@ -17,6 +17,7 @@ ghost use Rattle.is.specs.Accepted.{PacketsAreSettled};
 ghost use Rattle.is.specs.Queues.{OthersIssueNone, QueuesAreKept};
 ghost use Rattle.is.specs.Floods.{QueuesStayShort, DiscoveriesAreFew};
 ghost use Rattle.is.specs.Headline.{StaysPlain, Headline};
+ghost use Rattle.is.specs.CheckBounds.{ChecksStayPaced, SecondsStayShort, SilentPairsStayFew};
 ghost use Rattle.is.specs.Reported.{QueuedAreSelected, PolledAreSelected, PolledAreAnswered, PolledAreNominatedByPeer, SettingsAreThoseSet};
 
 use crate::calls::{AgentCall, Entry};
@@ -25,6 +26,7 @@ use is_agent::Agent;
 use is_candidate::LocalPreference;
 use is_proto::Sha1HmacProvider;
 use is_theorems::consent::{selected_are_alive, selected_have_consent};
+use is_theorems::counting::{checks_are_paced, silent_pairs_get_few};
 use is_theorems::flooding::{discoveries_stay_few, limits_bound, limits_pairs, queues_are_short};
 use is_theorems::logs::{entries_are_points, parts_are_runs, queues_are_kept, replies_are_among};
 use is_theorems::rounds_to_select::{due_rounds_select, open_rounds_select};
@@ -237,6 +239,18 @@ pub fn run<H: Sha1HmacProvider + Drop, P: LocalPreference, R: Rng>(
     ensures discovered { IsFresh (record_of agent.old)
         → DiscoveriesAreFew H.mac P.answers (record_of agent.old) (R.stream rng.old) (log_of calls.items result) }
 
+    // Up to each call, if `handle_timeout` is called no sooner than the time that `poll_timeout` returned: at most as many checks were sent in a
+    // span of time as pacing intervals begin in it, whatever was received. With the default interval that is 20 in a second, and 200 early on.
+    ensures paced { IsFresh (record_of agent.old)
+        → ChecksStayPaced H.mac P.answers (record_of agent.old) (R.stream rng.old) (log_of calls.items result) }
+    ensures seconds { IsFresh (record_of agent.old)
+        → SecondsStayShort H.mac P.answers (record_of agent.old) (R.stream rng.old) (log_of calls.items result) }
+
+    // After each call a pair from which nothing arrived got at most n checks, for timing settings after whose nth check none follows: 9 with
+    // those of `Original`, 18 with those of `Modern`. Precondition: they stay, and time does not run back.
+    ensures silent { IsFresh (record_of agent.old)
+        → SilentPairsStayFew H.mac P.answers (record_of agent.old) (R.stream rng.old) (log_of calls.items result) }
+
     // Packets and events are polled in the order in which they were issued, and an ICE restart empties both queues before its own
     // events.
     ensures order { QueuesAreKept H.mac P.answers (record_of agent.old) (R.stream rng.old) (log_of calls.items result) }
@@ -256,6 +270,8 @@ pub fn run<H: Sha1HmacProvider + Drop, P: LocalPreference, R: Rng>(
     limits_pairs::<H, P>();
     queues_are_short::<H, P>();
     discoveries_stay_few::<H, P>();
+    checks_are_paced::<H, P>();
+    silent_pairs_get_few::<H, P>();
     answers_select::<H, P>();
     timeouts_select::<H, P>();
     selected_have_consent::<H, P>();

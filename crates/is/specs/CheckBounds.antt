@@ -1,0 +1,35 @@
+-- How many checks an agent sends, along its log.
+use Rattle.std.specs.Prelude.{◌≡◌, ℕ, ◌+◌, ◌*◌, ◌<◌, ◌≤◌, List, ◌∷◌}
+use Rattle.rand_core.specs.Stream.{Stream}
+use Rattle.is_proto.specs.Lists.{Has}
+use Rattle.is_proto.specs.Times.{MAX, MILLISECOND, SECOND}
+use Rattle.is_candidate.specs.Candidates.{CandidateRecord}
+use Rattle.is_pair.specs.Pairs.{PairRecord}
+use Rattle.is_stun.specs.declared.timing.StunTiming.{StunTiming}
+use Rattle.is_rules.specs.Agent.{AgentRecord}
+use Rattle.is_rules.specs.Polls.{LEAST_TA}
+use Rattle.is_theorems.specs.CheckRate.{begun_in, checks_in_span, IsLateAt, IsPacedAt, IsPatient, IsSlowAt}
+use Rattle.is_theorems.specs.Logs.{Logged}
+use Rattle.is_theorems.specs.Runs.{AtEach}
+use Rattle.is_theorems.specs.SilentPairs.{AreInOrder, EndsWith, IsSilent, IsTimedBy}
+
+module _ {H P : Type 0} (mac : H → List ℕ → List ℕ → List ℕ) (answers : P → CandidateRecord → ℕ → ℕ → Type 0) where
+  -- Up to each entry: if the caller was patient, at most as many checks were sent in a span of time as pacing intervals begin in it.
+  abbrev pub ChecksStayPaced : AgentRecord H P → Stream → List (Logged P) → Type 0
+  ChecksStayPaced first s log =
+      (from long pace : ℕ) → AtEach mac answers first s log (λ before mid x after. IsPacedAt from pace mid x) → 0 < pace → from + long ≤ MAX
+      → AtEach mac answers first s log (λ before mid x after. IsPatient pace (x ∷ before) → checks_in_span from long (x ∷ before) ≤ begun_in long pace)
+
+  -- With the default pacing interval, in any second: at most 200 checks, and 20 while the agent is not early.
+  abbrev pub SecondsStayShort : AgentRecord H P → Stream → List (Logged P) → Type 0
+  SecondsStayShort first s log =
+      (from : ℕ) → AtEach mac answers first s log (λ before mid x after. IsSlowAt from mid x) → from + SECOND ≤ MAX
+      → AtEach mac answers first s log (λ before mid x after. IsPatient LEAST_TA (x ∷ before) → checks_in_span from SECOND (x ∷ before) ≤ 200)
+      × (AtEach mac answers first s log (λ before mid x after. IsLateAt from mid x)
+      → AtEach mac answers first s log (λ before mid x after. IsPatient (50 * MILLISECOND) (x ∷ before) → checks_in_span from SECOND (x ∷ before) ≤ 20))
+
+  -- After each entry a pair from which nothing arrived has at most n checks, if none follows the nth with the timing of the log.
+  abbrev pub SilentPairsStayFew : AgentRecord H P → Stream → List (Logged P) → Type 0
+  SilentPairsStayFew first s log =
+      (t : StunTiming) (n : ℕ) → EndsWith t n → AtEach mac answers first s log (λ before mid x after. IsTimedBy t mid x)
+      → AtEach mac answers first s log (λ before mid x after. AreInOrder 0 (x ∷ before) → (p : PairRecord) → Has after.pairs p → IsSilent p → p.checks_sent ≤ n)
