@@ -67,6 +67,12 @@ def verdicts_of(log: Log) -> tuple[dict[str, Verdict], tuple[str, ...]]:
     return verdicts, tuple(session.differences)
 
 
+def prolonged(scenario: Scenario, settle_s: float | None) -> Scenario:
+    """Returns a scenario whose sessions go on this long after the last selection; None: as long as it says."""
+    settle = scenario.coverage_s if settle_s is None else settle_s
+    return replace(scenario, settle_s=max(scenario.settle_s, settle), seconds=max(scenario.seconds, settle * 2))
+
+
 @dataclass(frozen=True)
 class Play:
     """Runs a portion of sessions, and applies the checkers to each. `settle_s`: the sessions go on this long after the last selection;
@@ -76,8 +82,7 @@ class Play:
 
     def prolonged(self, scenario: Scenario) -> Scenario:
         """Returns a scenario whose sessions go on so long."""
-        settle = scenario.coverage_s if self.settle_s is None else self.settle_s
-        return replace(scenario, settle_s=max(scenario.settle_s, settle), seconds=max(scenario.seconds, settle * 2))
+        return prolonged(scenario, self.settle_s)
 
     def __call__(self, portion: Portion) -> list[Covered] | Fault:
         """Returns what was found, up to the first broken guarantee."""

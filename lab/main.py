@@ -8,7 +8,7 @@ import time
 from contextlib import ExitStack
 from pathlib import Path
 
-from . import bars, compare, consent, coverage, figures, headline, hosts, pool, profiles, scenario
+from . import bars, checked, compare, consent, coverage, figures, headline, hosts, pool, profiles, scenario
 from .guarantees import Broken
 from .scenario import BadScenario, Scenario
 
@@ -49,7 +49,12 @@ def _arguments() -> argparse.Namespace:
     deciding.add_argument("scenario", nargs="*", help="as for measure; default: those in which two full agents with opposite roles connect")
     deciding.add_argument("-n", "--sessions", type=int, default=50, help="sessions of each scenario (50)")
     deciding.add_argument("--set", action="append", default=[], metavar="KEY=VALUE", help="as for measure")
-    for command in (measure, comparing, many, each, keeping, covering, deciding):
+    counting = words.add_parser("checks", help="counts the checks that agents send, and compares with the bounds of the theorems")
+    counting.add_argument("scenario", nargs="*", help="as for measure")
+    counting.add_argument("-n", "--sessions", type=int, default=50, help="sessions of each scenario (50)")
+    counting.add_argument("--set", action="append", default=[], metavar="KEY=VALUE", help="as for measure")
+    counting.add_argument("--settle", type=float, metavar="S", help="as for coverage")
+    for command in (measure, comparing, many, each, keeping, covering, deciding, counting):
         command.add_argument("--seed", type=int, default=0, help="the first seed (0)")
         command.add_argument("-j", "--processes", type=int, default=1, help="number of processes (1)")
         command.add_argument("-q", "--quiet", action="store_true", help="no progress bar")
@@ -87,6 +92,12 @@ def _decide(options: argparse.Namespace) -> None:
     print(headline.table([s.name for s in scenarios], found))
 
 
+def _count(options: argparse.Namespace) -> None:
+    scenarios = [scenario.load(name, tuple(options.set)) for name in options.scenario or scenario.names()]
+    found = pool.run_by(checked.Play(options.settle), scenarios, options.sessions, options.seed, options.processes, options.quiet)
+    print(checked.table([s.name for s in scenarios], found))
+
+
 def _plot(options: argparse.Namespace, scenarios: list[Scenario], told: dict[str, figures.Figures]) -> None:
     rows = [bars.Bar(s.title, bars.quantiles(told[s.name].first)) for s in scenarios]
     bars.write(options.plot, "When both sides have a path", "seconds from the first signaling message, logarithmic",
@@ -106,6 +117,8 @@ def main() -> int:
             _cover(options)
         elif options.word == "headline":
             _decide(options)
+        elif options.word == "checks":
+            _count(options)
         elif options.word == "hosts":
             hosts.run(options.sessions, options.seed, options.processes, options.quiet, options.plot, options.own_svg, options.document)
         elif options.word == "profiles":

@@ -165,7 +165,7 @@ FOLLOWED = {"add_local_candidate": True, "add_remote_candidate": True, "invalida
             "set_renomination": False, "set_settings": False, **dict.fromkeys(TIMING, False), "set_timing_advance": False}
 
 
-def _is_soon(old: Agent, new: Agent, entry: Entry) -> bool | None:
+def comes_soon(old: Agent, new: Agent, entry: Entry) -> bool | None:
     """Returns whether `handle_timeout` comes soon after the call. None: nothing follows it, since it changed nothing."""
     call, returned = entry.call, entry.returned
     if call == "handle_timeout":
@@ -185,7 +185,7 @@ def _next(agent: Agent, entry: Entry, seen: Issued | None, is_waiting: bool) -> 
 
 def followed(old: Agent, new: Agent, entry: Entry) -> Agent:
     """Returns the agent, which was `old` before the call and is `new` after it, after what follows the call."""
-    soon = _is_soon(old, new, entry)
+    soon = comes_soon(old, new, entry)
     kept = replace(new, deadline=None) if entry.call == "handle_timeout" else new
     return kept if soon is None else kept.fixed_after(soon)
 

@@ -16,13 +16,16 @@ C_co = TypeVar("C_co", covariant=True)
 class Verdict:
     """What a checker found. `since` and `bound` are times; the conclusion was due by `bound`. `failed`: preconditions, or "" if all held.
 
-    `fact`: when what the clause concludes came to be; None: it did not. `rounds`: how many rounds of one side the choice has."""
+    `fact`: when what the clause concludes came to be; None: it did not. `rounds`: how many rounds of one side the choice has. `count`: the
+    number of checks that the clause bounds, and `limit` its bound, where the session came closest to that."""
 
     failed: str = ""
     since: int | None = None
     bound: int | None = None
     fact: int | None = None
     rounds: int = 0
+    count: int = 0
+    limit: int | None = None
 
     @property
     def held(self) -> bool:
@@ -66,6 +69,29 @@ def first_of_all(choices: Iterable[C], lacking: Callable[[C], Lacks], verdict: C
             return found
         held = held or found
     return held or Verdict(", ".join(least) if least is not None else otherwise)
+
+
+def closest_of_all(choices: Iterable[C], lacking: Callable[[C], Lacks], verdict: Callable[[C], Verdict], otherwise: str) -> Verdict:
+    """Returns the same; but the verdict in which the number of checks is closest to its bound."""
+    closest: Verdict | None = None
+    least: Lacks | None = None
+    for choice in choices:
+        missing = lacking(choice)
+        if missing:
+            least = missing if least is None or len(missing) < len(least) else least
+            continue
+        found = verdict(choice)
+        assert found.limit is not None
+        if found.is_broken:
+            return found
+        if closest is None or closest.limit is None or found.count * closest.limit > closest.count * found.limit:
+            closest = found
+    return closest or Verdict(", ".join(least) if least is not None else otherwise)
+
+
+def counted(since: int, until: int, count: int, limit: int) -> Verdict:
+    """Returns the verdict on a number of checks in a span of time."""
+    return Verdict("", since, until, until if count <= limit else None, 0, count, limit)
 
 
 def first_in(indices: list[int], part: range) -> int | None:

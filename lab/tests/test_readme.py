@@ -6,6 +6,8 @@ import re
 import unittest
 from pathlib import Path
 
+from lab import checked
+
 LAB = Path(__file__).parent.parent
 README = (LAB / "README.md").read_text(encoding="utf-8")
 # Names of parts that the table has under the name of their definition.
@@ -53,6 +55,12 @@ class Readme(unittest.TestCase):
                      "served_are_checked_soon", "courses_reach_served", "served_select_in_time", "served_in_time"):
             self.assertIn(f"| `{path}.py` |", README)
             self.assertTrue(callable(importlib.import_module(f"lab.clauses.{path}").lacking))
+
+    def test_each_theorem_on_checks_has_a_row(self) -> None:
+        rows = README.split("## How many checks agents send")[1].split("## What the clauses")[0]
+        named = re.findall(r"^\| `.*?` \| `(\w+)\.(\w+)`", rows, re.M)
+        found = [getattr(importlib.import_module(f"lab.clauses.{module}"), name) for module, name in named]
+        self.assertEqual(found, list(checked.CLAUSES.values()))
 
 
 if __name__ == "__main__":

@@ -1,0 +1,205 @@
+"""The theorems `timeouts_check` (`TimeoutsCheck`) and `checks_are_paced` (`ChecksArePaced`, `SecondsHaveFewChecks`): how many checks an
+agent sends, and how fast, whatever it receives.
+
+Which checks are sent, and when, is what is polled. The model only says what the agent's own `poll_timeout` returns, whether the agent is
+early, and its pacing interval."""
+
+from __future__ import annotations
+
+from bisect import bisect_left
+from collections.abc import Iterator
+from dataclasses import dataclass
+
+from ..candidates import LEAST_ADVANCE
+from ..clock import MILLISECOND, SECOND
+from ..model import Agent
+from ..replay import comes_soon
+from ..scenario import SIDES
+from ..stun import message_of
+from .execution import MAX, Execution, Lacks, lacks
+from .fair import is_new_agent
+from .verdict import Verdict, closest_of_all, counted
+
+# The default pacing interval, and how many checks a second has at most with the least one and with the default.
+DEFAULT_ADVANCE = 50 * MILLISECOND
+MOST, MOST_LATE = 200, 20
+
+
+# ---- what is counted
+
+def check_times(x: Execution, side: str) -> list[int]:
+    """Returns when the side sent its checks: the times at which they are polled, which is after each call."""
+    return [s.entry.time for s in x.steps if s.entry.side == side and s.entry.call == "poll_transmit"
+            and message_of(s.entry.returned.contents).kind == "request"]
+
+
+def begun_in(long: int, interval: int) -> int:
+    """Returns how many intervals of this length begin in a span that is so long (`begun_in`)."""
+    return (long + interval - 1) // interval
+
+
+# ---- a patient caller
+
+@dataclass(frozen=True)
+class Poll:
+    """A `poll_timeout` call on the agent itself, which follows the entry at this index, with the agent then, and what it returned."""
+
+    at: int
+    agent: Agent
+    deadline: int | None
+
+    @property
+    def pace(self) -> int:
+        """The pacing interval, or 3 s if that is less; as long as there was no `handle_timeout`, any (`IsPacedAt`)."""
+        return MAX if self.agent.last is None else min(3 * SECOND, self.agent.pacing(self.agent.last))
+
+
+def own_polls(x: Execution, side: str) -> list[Poll]:
+    """Returns the `poll_timeout` calls on the agent itself. With `Original` they are those of the log. With `Modern` the library makes one
+    after each call that may make something due, and its own `poll_timeout` is a query."""
+    found, waiting = [], 0
+    for step in (s for s in x.steps if s.entry.side == side):
+        old, new = step.before[side], step.after[side]
+        waiting = max(0, waiting + (step.issued is not None) - (step.entry.call == "poll_transmit"))
+        waiting = 0 if step.entry.call == "ice_restart" else waiting
+        if step.entry.call == "poll_timeout" and not new.modern:
+            found.append(Poll(step.at, old, step.entry.returned))
+        if new.modern and comes_soon(old, new, step.entry) is not None:
+            found.append(Poll(step.at, new, new.poll_timeout(waiting > 0)[1]))
+    return found
+
+
+def lets_call(now: int, poll: Poll) -> bool:
+    """Whether it returned no time, or one that has come (`lets_call`)."""
+    return poll.deadline is None or poll.deadline <= now
+
+
+class Caller:
+    """What one side called, and what its agent sent."""
+
+    def __init__(self, x: Execution, side: str) -> None:
+        self.side, self.timeouts, self.checks, self.polls = side, x.timeouts[side], check_times(x, side), own_polls(x, side)
+        self.is_new = is_new_agent(x.state(0, side))
+        self.patience = self._patience(x)
+        self._timed = sorted((p for p in self.polls if p.agent.last is not None), key=lambda p: p.agent.last or 0)
+        self._lasts = [p.agent.last or 0 for p in self._timed]
+        self._paces = _least_from([p.pace for p in self._timed])
+        self._advances = _least_from([p.agent.advance for p in self._timed])
+        self._early = max((last for p, last in zip(self._timed, self._lasts) if p.agent.is_early(last)), default=-1)
+
+    def _patience(self, x: Execution) -> int:
+        """Returns the greatest gap with which the caller is patient (`IsPatient`): the least one between two `handle_timeout` calls, of
+        which the later one is no call that a poll between both lets it make (`MayCallAt`)."""
+        gap = MAX
+        for before, at in zip(self.timeouts, self.timeouts[1:]):
+            now, first = x.now(at), bisect_left(self.polls, before, key=lambda p: p.at)
+            between = self.polls[first:bisect_left(self.polls, at, key=lambda p: p.at)]
+            if not any(lets_call(now, p) for p in between):
+                gap = min(gap, now - x.now(before))
+        return gap
+
+    def least_pace(self, start: int) -> int:
+        """Returns the least pacing interval at a poll after a `handle_timeout` at this time or later (`IsPacedAt`)."""
+        return self._paces[bisect_left(self._lasts, start)]
+
+    def least_advance(self, start: int) -> int:
+        """Returns the least one that is set then (`IsSlowAt`)."""
+        return self._advances[bisect_left(self._lasts, start)]
+
+    def is_late(self, start: int) -> bool:
+        """Whether the agent is early at none of these polls (`IsLateAt`)."""
+        return self._early < start
+
+
+def _least_from(values: list[int]) -> list[int]:
+    """Returns for each place the least of the values from there on."""
+    found = [MAX]
+    for value in reversed(values):
+        found.append(min(found[-1], value))
+    return found[::-1]
+
+
+# ---- `timeouts_check`
+
+def timeouts_check(x: Execution) -> Verdict:
+    """Returns whether after each call at most as many checks were sent as there were `handle_timeout` calls (`TimeoutsCheck`). There is no
+    precondition."""
+    def verdict(side: str) -> Verdict:
+        checks, calls, row = 0, 0, [s for s in x.steps if s.entry.side == side]
+        for step in row:
+            calls += step.is_timeout
+            checks += step.entry.call == "poll_transmit" and message_of(step.entry.returned.contents).kind == "request"
+            if checks > calls:
+                return counted(row[0].entry.time, step.entry.time, checks, calls)
+        return counted(row[0].entry.time, row[-1].entry.time, checks, calls)
+
+    return closest_of_all((side for side in SIDES if x.timeouts[side]), lambda side: [], verdict, "handle_timeout")
+
+
+# ---- `checks_are_paced`
+
+@dataclass(frozen=True)
+class Choice:
+    """What one side called, and a time from which on checks are counted: that of a check. A span that begins before it has no more."""
+
+    caller: Caller
+    start: int
+
+    def pace(self) -> int:
+        """Returns the longest interval with which the preconditions hold."""
+        return min(self.caller.patience, self.caller.least_pace(self.start))
+
+
+def choices(x: Execution) -> Iterator[Choice]:
+    """Proposes each check of each side."""
+    for side in SIDES:
+        caller = Caller(x, side)
+        yield from (Choice(caller, start) for start in dict.fromkeys(caller.checks))
+
+
+def lacking_pace(c: Choice) -> Lacks:
+    """Returns the preconditions of `ChecksArePaced` that do not hold, with the longest interval; `IsPatient` and `IsPacedAt` choose it."""
+    return lacks(IsNewlyCreated=c.caller.is_new, pace=c.pace() > 0)
+
+
+def closest_span(c: Choice) -> Verdict:
+    """Returns the span from the time on in which the number of checks is closest to that of the intervals that begin in it, or above."""
+    times, pace = c.caller.checks, c.pace()
+    first = bisect_left(times, c.start)
+    found = counted(c.start, c.start, 0, 1)
+    for place in range(first, len(times)):
+        count, limit = place - first + 1, begun_in(times[place] - c.start + 1, pace)
+        if count > limit:
+            return counted(c.start, times[place], count, limit)
+        if place > first and count * (found.limit or 1) > found.count * limit:
+            found = counted(c.start, times[place], count, limit)
+    return found
+
+
+def checks_are_paced(x: Execution) -> Verdict:
+    """Returns the span in which the number of checks is closest to that of the pacing intervals (`ChecksArePaced`)."""
+    return closest_of_all(choices(x), lacking_pace, closest_span, "check")
+
+
+def lacking_few(c: Choice, gap: int, late: bool) -> Lacks:
+    """Returns the preconditions of one half of `SecondsHaveFewChecks` that do not hold."""
+    is_slow, is_patient = DEFAULT_ADVANCE <= c.caller.least_advance(c.start), gap <= c.caller.patience
+    is_late = not late or c.caller.is_late(c.start)
+    return lacks(IsNewlyCreated=c.caller.is_new, IsSlowAt=is_slow, IsPatient=is_patient, IsLateAt=is_late)
+
+
+def in_second(c: Choice, limit: int) -> Verdict:
+    """Returns how many checks the second from the time on has."""
+    times = c.caller.checks
+    count = bisect_left(times, c.start + SECOND) - bisect_left(times, c.start)
+    return counted(c.start, c.start + SECOND, count, limit)
+
+
+def seconds_have_few(x: Execution) -> Verdict:
+    """Returns the second with the most checks of a caller that is patient with 5 ms: it has at most 200 (`SecondsHaveFewChecks`)."""
+    return closest_of_all(choices(x), lambda c: lacking_few(c, LEAST_ADVANCE, False), lambda c: in_second(c, MOST), "check")
+
+
+def late_seconds_have_few(x: Execution) -> Verdict:
+    """Returns that of a caller that is patient with 50 ms, once the agent is never early: it has at most 20 (`SecondsHaveFewChecks`)."""
+    return closest_of_all(choices(x), lambda c: lacking_few(c, DEFAULT_ADVANCE, True), lambda c: in_second(c, MOST_LATE), "check")
