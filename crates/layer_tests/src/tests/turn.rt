@@ -3,6 +3,7 @@
 mod allocating;
 mod binding;
 mod lapsing;
+mod leasing;
 mod messages;
 mod progress;
 mod relaying;
