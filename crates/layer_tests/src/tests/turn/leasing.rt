@@ -277,7 +277,7 @@ impl Played {
         place < PLACES && self.given[place].until.is_some()
     }
 
-    fn hears(&mut self, now: u64, is_bound: bool) -> bool {
+    fn receives(&mut self, now: u64, is_bound: bool) -> bool {
         let from = peer(self.last, 1000);
         if !is_bound {
             return takes_data(&mut self.side, now, from);
@@ -302,7 +302,7 @@ impl Played {
             0x16
         };
         sends(&mut self.side, now, peer(self.last, 1000), &MEDIA) == Some(number)
-            && self.hears(now, is_bound)
+            && self.receives(now, is_bound)
     }
 
     /// Once, while each permission waits to be renewed, the user asks whether there is an allocation.
