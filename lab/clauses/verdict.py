@@ -55,8 +55,9 @@ def first_that_holds(choices: Iterable[C], lacking: Callable[[C], Lacks], verdic
     return Verdict(", ".join(least) if least is not None else otherwise)
 
 
-def first_of_all(choices: Iterable[C], lacking: Callable[[C], Lacks], verdict: Callable[[C], Verdict], otherwise: str) -> Verdict:
-    """Returns the same; but of all choices that lack nothing one whose conclusion did not come true, if there is one."""
+def best_of_all(choices: Iterable[C], lacking: Callable[[C], Lacks], verdict: Callable[[C], Verdict], otherwise: str,
+                is_better: Callable[[Verdict, Verdict], bool]) -> Verdict:
+    """Returns the same; but of all choices that lack nothing one whose conclusion did not come true, if there is one, else the best one."""
     held: Verdict | None = None
     least: Lacks | None = None
     for choice in choices:
@@ -67,26 +68,19 @@ def first_of_all(choices: Iterable[C], lacking: Callable[[C], Lacks], verdict: C
         found = verdict(choice)
         if found.is_broken:
             return found
-        held = held or found
+        held = found if held is None or is_better(found, held) else held
     return held or Verdict(", ".join(least) if least is not None else otherwise)
 
 
+def first_of_all(choices: Iterable[C], lacking: Callable[[C], Lacks], verdict: Callable[[C], Verdict], otherwise: str) -> Verdict:
+    """Returns the same; of those that came true the first."""
+    return best_of_all(choices, lacking, verdict, otherwise, lambda found, held: False)
+
+
 def closest_of_all(choices: Iterable[C], lacking: Callable[[C], Lacks], verdict: Callable[[C], Verdict], otherwise: str) -> Verdict:
-    """Returns the same; but the verdict in which the number of checks is closest to its bound."""
-    closest: Verdict | None = None
-    least: Lacks | None = None
-    for choice in choices:
-        missing = lacking(choice)
-        if missing:
-            least = missing if least is None or len(missing) < len(least) else least
-            continue
-        found = verdict(choice)
-        assert found.limit is not None
-        if found.is_broken:
-            return found
-        if closest is None or closest.limit is None or found.count * closest.limit > closest.count * found.limit:
-            closest = found
-    return closest or Verdict(", ".join(least) if least is not None else otherwise)
+    """Returns the same; of those that came true the one whose number of checks is closest to its bound."""
+    return best_of_all(choices, lacking, verdict, otherwise,
+                       lambda found, held: found.count * (held.limit or 0) > held.count * (found.limit or 0))
 
 
 def counted(since: int, until: int, count: int, limit: int) -> Verdict:
