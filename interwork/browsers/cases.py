@@ -38,7 +38,7 @@ class Case:
 
 def _case(name: str, setup: Setup, play: Callable[..., Awaitable[Outcome]] = plays.connect, *expected: str) -> Case:
     return Case(name, lambda browser, _: play(browser, setup), expected or ("connected",), mdns=setup.mdns, ipv6=setup.ipv6,
-                relays=setup.relays_only)
+                relays=bool(setup.relays_only))
 
 
 def _cut(name: str, seconds: float, setup: Setup, *expected: str, play: Callable[..., Awaitable[Outcome]] = plays.cut,
@@ -97,13 +97,15 @@ RESTARTS = [
 
 # Neither side has anything but relayed candidates: iceTransportPolicy "relay", and `relay_only` of the agent's loop.
 RELAYS = [
-    _case("relays only, browser offers", Setup(True, relays_only=True)),
-    _case("relays only, agent offers", Setup(False, relays_only=True)),
-    _case("relays only, browser offers, candidates 300 ms late", Setup(True, relays_only=True, late=True)),
-    _case("relays only, agent offers, candidates 300 ms late", Setup(False, relays_only=True, late=True)),
-    _case("relays only, restart by the browser", Setup(True, relays_only=True), _restart_by_browser, "connected again"),
-    _case("relays only, restart by the agent", Setup(False, relays_only=True), _restart_by_agent, "connected again"),
-    Case("relays only, nothing happens for 60 s", lambda browser, _: plays.peace(browser, Setup(True, relays_only=True), 60), ("kept",),
+    _case("relays only, browser offers", Setup(True, relays_only="udp")),
+    _case("relays only, agent offers", Setup(False, relays_only="udp")),
+    _case("relays only, browser offers, candidates 300 ms late", Setup(True, relays_only="udp", late=True)),
+    _case("relays only, agent offers, candidates 300 ms late", Setup(False, relays_only="udp", late=True)),
+    _case("relays only, over TCP, browser offers", Setup(True, relays_only="tcp")),
+    _case("relays only, over TCP, agent offers", Setup(False, relays_only="tcp")),
+    _case("relays only, restart by the browser", Setup(True, relays_only="udp"), _restart_by_browser, "connected again"),
+    _case("relays only, restart by the agent", Setup(False, relays_only="udp"), _restart_by_agent, "connected again"),
+    Case("relays only, nothing happens for 60 s", lambda browser, _: plays.peace(browser, Setup(True, relays_only="udp"), 60), ("kept",),
          sessions=5, quick=0, waits=True, relays=True),
 ]
 

@@ -20,14 +20,14 @@ def why_not() -> str:
     return turn_servers.Coturn.why_not() or ""
 
 
-def entry() -> dict[str, Any]:
-    """Returns the server as an entry of a browser's iceServers."""
+def entry(transport: str) -> dict[str, Any]:
+    """Returns the server over UDP or TCP, as an entry of a browser's iceServers."""
     if not _running:
         server = turn_servers.Coturn(host=host_addresses(True, False)[0])
         server.start()
         _running.append(server)
     host, port = _running[0].address
-    return {"urls": f"turn:{host}:{port}", "username": turn_servers.USER, "credential": turn_servers.PASSWORD}
+    return {"urls": f"turn:{host}:{port}?transport={transport}", "username": turn_servers.USER, "credential": turn_servers.PASSWORD}
 
 
 def stop() -> None:

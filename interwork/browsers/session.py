@@ -42,7 +42,8 @@ class Session:
         session = cls(browser, Side(setup), setup)
         for ipv6 in (setup.ipv6, not setup.ipv6)[:1 + setup.both]:
             await (session.gather() if setup.relays_only else session.bind(ipv6))
-        await session.call("create", False, None, setup.option, relays.entry() if setup.relays_only else None)
+        relay = relays.entry(setup.relays_only) if setup.relays_only else None
+        await session.call("create", False, None, setup.option, relay)
         await session._signal()
         return session
 

@@ -35,7 +35,7 @@ class Setup:
     only_ipv4: bool = False  # the agent gets no IPv6 candidate of the browser by signaling
     checks: int | None = None  # unanswered checks before the agent removes a pair; None: the default
     lite_timeout: int | None = None  # seconds without a check until a lite agent removes a pair; None: the default
-    relays_only: bool = False  # both sides have relayed candidates only
+    relays_only: str = ""  # "udp" or "tcp": both sides have relayed candidates only, and reach the server over it
 
     @property
     def controlling(self) -> bool:
@@ -86,7 +86,8 @@ class Side:
             self.agent.set_max_stun_retransmits(setup.checks)
         if setup.lite_timeout:
             self.agent.set_lite_timeout(setup.lite_timeout * 1_000_000_000)
-        self.loop = CutLoop(self.agent, self._on_event, self._on_stun, [relays.entry()] if setup.relays_only else [])
+        servers = [relays.entry(setup.relays_only)] if setup.relays_only else []
+        self.loop = CutLoop(self.agent, self._on_event, self._on_stun, servers)
         self.states: list[tuple[float, str]] = []
         self.paths: list[tuple[float, NominatedSend]] = []
         self.dropped = 0  # STUN messages that the agent did not accept

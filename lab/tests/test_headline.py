@@ -203,8 +203,8 @@ class Preconditions(Altered):
         self._assert_unfair({side: replace(record, tie_breaker=1) for side, record in self.records.items()}, is_begun=True)
 
     def test_it_sets_the_role(self) -> None:
-        setting = {side: replace(r, witness=replace(r.witness, sets_role=True)) for side, r in self.records.items()}
-        self._assert_unfair(setting, is_begun=True)
+        sets = {side: replace(r, witness=replace(r.witness, sets_role=True)) for side, r in self.records.items()}
+        self._assert_unfair(sets, is_begun=True)
 
     def _assert_unfair(self, records: Records, is_begun: bool = False) -> None:
         """No clause decides them; if no message is forged, and random bytes are fresh, only `SelectedAreTraced` does."""

@@ -3,6 +3,7 @@
 from __future__ import annotations
 
 import re
+import shutil
 import subprocess
 import sys
 import unittest
@@ -31,8 +32,8 @@ class Examples(unittest.TestCase):
         self.assertEqual(len(modern), 2)
         self.assertLess(max(modern), 100)
 
-    def play_chats(self, test: str) -> None:
-        command = [sys.executable, str(PLAYS_CHATS / test), sys.executable, str(EXAMPLES / "chat.py")]
+    def play_chats(self, test: str, *words: str) -> None:
+        command = [sys.executable, str(PLAYS_CHATS / test), *words, sys.executable, str(EXAMPLES / "chat.py")]
         ran = subprocess.run(command, capture_output=True, text=True, timeout=300 * PATIENCE)
         self.assertEqual(ran.returncode, 0, ran.stdout + ran.stderr)
 
@@ -46,6 +47,12 @@ class Examples(unittest.TestCase):
     def test_chats_connect_through_turn_servers(self) -> None:
         """Behind symmetric NATs, if this machine can play them."""
         self.play_chats("chat_relays.py")
+
+    @unittest.skipUnless((PLAYS_CHATS / "chat_relays.py").exists(), "there is no c/tests/chat_relays.py")
+    @unittest.skipUnless(shutil.which("openssl"), "openssl is not installed")
+    def test_chats_connect_over_tls(self) -> None:
+        """From networks that let no UDP out, also through a server that the first one names."""
+        self.play_chats("chat_relays.py", "--case", "tls", "--case", "tls_redirected")
 
     def test_calls_are_measured(self) -> None:
         self.assertEqual(len(re.findall(r": \d+ ns$", output("calls.py", "1"), re.M)), 6)

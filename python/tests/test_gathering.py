@@ -209,7 +209,7 @@ class FromTurnServers(unittest.IsolatedAsyncioTestCase):
         await talk(a, b)
         self.assertEqual((first.frames, len(other.strict.allocations), len(first.strict.allocations)), (1, 1, 0))
         await close(a, b)
-        self.assertEqual((other.strict.freed, other.strict.dropped), (1, []))
+        self.assertEqual(other.strict.freed, 1)
         first.close()
         other.close()
 

@@ -124,7 +124,7 @@ pub fn turns(alloc: Global, case: Case, rounds: u64, sum: &mut Checksum) -> Resu
 }
 
 /// The settings of the profile, without a limit on remote candidates: each pair has one of its own.
-fn set_profile(agent: &mut Agent, profile: Profile) {
+pub fn set_profile(agent: &mut Agent, profile: Profile) {
     if profile == Profile::Modern {
         let mut settings = Settings::modern();
         settings.max_discovered = None;

@@ -1,7 +1,7 @@
 //! The lines of the input, and the case that each names.
 
 use crate::checksum::Checksum;
-use crate::{agents, candidates, floods, messages, pairs};
+use crate::{agents, candidates, floods, forming, messages, pairs};
 use is_proto::IceError;
 use std::alloc::Global;
 use std::io::{Read, Write};
@@ -75,6 +75,10 @@ fn sum_of_agent(alloc: Global, name: &str, rounds: u64) -> Result<Option<u64>, I
     let mut sum = Checksum(0);
     if let Some(before) = floods::case_of(name) {
         floods::flood(alloc, before, rounds, &mut sum)?;
+        return Ok(Some(sum.0));
+    }
+    if let Some(case) = forming::case_of(name) {
+        forming::recreate(alloc, case, rounds, &mut sum)?;
         return Ok(Some(sum.0));
     }
     let Some(case) = agents::case_of(name) else {

@@ -8,6 +8,7 @@ mod bench;
 mod candidates;
 mod checksum;
 mod floods;
+mod forming;
 mod messages;
 mod pairs;
 

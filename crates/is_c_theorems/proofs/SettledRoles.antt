@@ -117,8 +117,15 @@ pub record IsBegun (first : Side → HomeRecord) (turns : List Turn) : Type 0 wh
   pub carried : AreCarried turns
   pub fresh : HaveFreshIds turns
 
+carried_of : (first : Side → HomeRecord) (greater : Side) (turns : List Turn) → IsFair first greater turns → AreCarried turns
+carried_of first greater turns fair = search fair.carried
+
+fresh_of : (first : Side → HomeRecord) (greater : Side) (turns : List Turn) → IsFair first greater turns → HaveFreshIds turns
+fresh_of first greater turns fair = search fair.fresh
+
 abbrev begun_of : (first : Side → HomeRecord) (greater : Side) (turns : List Turn) → IsFair first greater turns → IsBegun first turns
-begun_of first greater turns fair = record { tie_breaker = fair.tie_breaker; begins = fair.begins; carried = search fair.carried; fresh = search fair.fresh }
+begun_of first greater turns fair =
+    record { tie_breaker = fair.tie_breaker; begins = fair.begins; carried = carried_of first greater turns fair; fresh = fresh_of first greater turns fair }
 
 module _ (paths : Paths) (trades : Trades) (new : Fresh) (turn : Turns) where
   -- two new agents

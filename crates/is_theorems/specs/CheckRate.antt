@@ -54,7 +54,7 @@ MayCallAt gap now (x ∷ before) =
     (lets_call now x.call x.entry.answer ≡ true) ⊎ ((is_before gap now x.call ≡ true) ⊎ ((is_timeout x.call ≡ false) × MayCallAt gap now before))
 
 -- The caller is patient: it makes no `handle_timeout` call sooner than the time that `poll_timeout` returned, unless it comes so long
--- after the one before. Who goes by `poll_timeout_soon` is so with 5 ms, since that returns no time sooner than both.
+-- after the one before. With 5 ms that is so of who goes by `poll_timeout_soon`, if the call before served no early request.
 abbrev pub IsPatient : {P : Type 0} → (gap : ℕ) → List (Logged P) → Type 0
 IsPatient gap [] = Unit {0}
 IsPatient gap (x ∷ before) = ((now : ℕ) → x.call ≡ HandleTimeout now → MayCallAt gap now before) × IsPatient gap before
@@ -88,8 +88,8 @@ module _ {H P : Type 0} where
         → IsPatient pace log → BeforeEach mac answers (IsPacedAt from pace) first log last run → 0 < pace → from + long ≤ MAX
         → checks_in_span from long log ≤ begun_in long pace
 
-    -- With the default pacing interval, in any second: at most 200 checks with either profile, also of a caller that goes by
-    -- `poll_timeout_soon`; and 20 of one that goes by `poll_timeout`, while it is not early.
+    -- With the default pacing interval, in any second: at most 200 checks with either profile, also of a caller whose calls are only 5 ms
+    -- apart; and 20 of one that goes by `poll_timeout`, while it is not early.
     abbrev pub SecondsHaveFewChecks : Type 0
     SecondsHaveFewChecks =
         (first last : AgentRecord H P) (log : List (Logged P)) (from : ℕ) → IsNewlyCreated first → (run : SharedRun mac answers first log last)

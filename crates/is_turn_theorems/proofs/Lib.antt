@@ -6,3 +6,13 @@ mod Timeouts
 mod TimeoutSteps
 mod LeaseAnswers
 mod TimelyRuns
+mod LeaseLists
+mod LeaseStanding
+mod LeaseCalls
+mod LeaseTimeouts
+mod LeaseResponses
+mod LeaseTurns
+mod LeaseTurnCalls
+mod LeaseTurnSteps
+mod LeaseTurnRuns
+mod LeaseRuns

@@ -1,5 +1,5 @@
 -- Each call of a punctual caller whose server answers keeps the renewal of an allocation in time, so along each run nothing lapses.
-use Rattle.std.proofs.Common.{◌≡◌, ◌⊎◌, inl, inr, ◌↔◌, ℕ, ◌+◌, ◌≤◌, ◌<◌, min, max, Bool, true, IsTrue, List, [], ◌∷◌, Option, Some, None, position, arith, refl, sym, subst}
+use Rattle.std.proofs.Common.{◌≡◌, ℕ, ◌+◌, ◌≤◌, ◌<◌, min, max, true, List, [], ◌∷◌, Option, Some, None, position, arith, refl, sym, subst}
 use Rattle.std.specs.declared.net.socket_addr.SocketAddr.{SocketAddr}
 use Rattle.rand_core.specs.Stream.{Stream}
 use Rattle.is_proto.specs.Times.{MAX}
@@ -13,39 +13,28 @@ use Rattle.is_turn.specs.Client.{at_time}
 use Rattle.is_turn.specs.Credentials.{Credentials}
 use Rattle.is_turn.specs.Incoming.{Datagram, datagram_of, channel_data, peer_data, response, malformed, unasked, unparsed}
 use Rattle.is_turn.specs.Leases.{is_answered_by}
-use Rattle.is_turn.specs.Outcome.{attempt_answered, key_in}
+use Rattle.is_turn.specs.Outcome.{attempt_answered}
 use Rattle.is_turn.specs.Places.{at_place}
 use Rattle.is_turn.specs.Receipts.{Receipt}
 use Rattle.is_turn.specs.Receiving.{IsRespondedBy, IsReceivedAs}
 use Rattle.is_turn.specs.Relaying.{advanced_in, lease_due}
 use Rattle.is_turn.specs.Session.{is_ready, is_renewal_due, new_session, request_timing, step_of, with_renewal}
 use Rattle.is_turn.specs.Turn.{key_now}
-use Rattle.is_turn.specs.Verdict.{code_of, IsSignedFor}
-use Rattle.is_turn.specs.Worlds.{Acceptance, World, Call, start, close, lose, permit, send, probe, handle_timeout, poll_transmit, poll_event, receive, IsBelievable, Does, IsFresh}
+use Rattle.is_turn.specs.Worlds.{Acceptance, World, Call, start, close, lose, permit, send, probe, handle_timeout, poll_transmit, poll_event, receive, Does, IsFresh}
 use Rattle.is_turn_theorems.specs.Limits.{Limits, Leave, margin}
-use Rattle.is_turn_theorems.specs.Timely.{Entry, is_timeout, timeout_of, due_since, IsStale, IsServed, Serves, IsKept, IsInTime, IsTimelyFrom, IsTimely, IsAhead, NothingLapses}
+use Rattle.is_turn_theorems.specs.Timely.{Entry, is_timeout, timeout_of, due_since, IsServed, Serves, IsKept, IsInTime, IsTimelyFrom, IsTimely, IsAhead, NothingLapses}
 use Rattle.is_turn_theorems.proofs.Standing.{Holds, Soon, soon, ahead, holds_later, holds_rings}
 use Rattle.is_turn_theorems.proofs.OtherCalls.{through, holds_is, unready, holds_started, holds_closed, holds_lost, holds_routed, holds_probed, holds_polled, holds_event}
 use Rattle.is_turn_theorems.proofs.Responses.{Called}
-use Rattle.is_turn_theorems.proofs.Verdicts.{IsServers, response_holds}
+use Rattle.is_turn_theorems.proofs.Verdicts.{servers, signed_for, response_holds}
 use Rattle.is_turn_theorems.proofs.LeaseAnswers.{lease_answer_holds}
 use Rattle.is_turn_theorems.proofs.Timeouts.{Kept, begins}
 use Rattle.is_turn_theorems.proofs.TimeoutSteps.{timeout_kept}
 
 -- ---- what is received
 
-servers : (mac : List ℕ → List ℕ → List ℕ) (b : Bool) (c : Option Credentials) (m : Message) (a : Attempt) → (IsTrue b ↔ IsSignedFor mac m a.key)
-    → ((code_of m ≡ None) × IsBelievable mac m a c) ⊎ IsStale m c → IsServers b c m
-servers mac b c m a signs (inl (success, inl none)) = inl (success, inl none)
-servers mac b c m a signs (inl (success, inr signed)) = inl (success, inr (signs.1 signed))
-servers mac b c m a signs (inr stale) = inr stale
-
 abbrev Answered : Limits → (List ℕ → List ℕ → List ℕ) → ℕ → World → Message → Type 0
 Answered k mac now w m = (a : Attempt) → attempt_answered m w.session ≡ Some a → IsServed k mac now w m a
-
-signed_for : (mac : List ℕ → List ℕ → List ℕ) (b : Bool) (m : Message) (a : Option Attempt) (x : Attempt) → a ≡ Some x → (IsTrue b ↔ IsSignedFor mac m (key_in a))
-    → (IsTrue b ↔ IsSignedFor mac m x.key)
-signed_for mac b m a x e signs = subst (λ (y : Option Attempt). IsTrue b ↔ IsSignedFor mac m (key_in y)) e signs
 
 responded : (k : Limits) (mac : List ℕ → List ℕ → List ℕ) (now d : ℕ) (w : World) (m : Message) (alternate : Option SocketAddr) (p : Option ℕ) (result : Receipt)
     (new : Session) (l_new : List Lease) (c_new : Option Credentials) → Called k now d w.session → Answered k mac now w m
@@ -152,7 +141,7 @@ called_follows k (handle_timeout stream stream_new) mac accepted due w new calle
 meets : (k : Limits) (now : ℕ) (s : Session) → Leave k → now + margin k ≤ s.until.0 → IsKept k now s → Meets k now s
 meets k now s leave ahead kept = record { ahead = omega (arith, leave, ahead); kept = kept }
 
-entered : (k : Limits) (mac : List ℕ → List ℕ → List ℕ) (accepted : List Acceptance) (due : ℕ) (w : World) (x : Entry) → Leave k → Holds k w.clock due w.session
+pub entered : (k : Limits) (mac : List ℕ → List ℕ → List ℕ) (accepted : List Acceptance) (due : ℕ) (w : World) (x : Entry) → Leave k → Holds k w.clock due w.session
     → IsInTime k mac accepted due w x → IsAhead k w x × Holds k x.after.clock (due_since x.call due x.after) x.after.session
 entered k mac accepted due w x leave h step =
     let now = x.after.clock in
@@ -180,9 +169,12 @@ runs k mac accepted due w (x ∷ rest) leave h steps =
     let step = entered k mac accepted due w x leave h steps.0 in
     (step.0, runs k mac accepted (due_since x.call due x.after) x.after rest leave step.1 steps.1)
 
+pub fresh_holds : (k : Limits) (w : World) → IsFresh w → Holds k w.clock MAX w.session
+fresh_holds k w fresh =
+    holds_is k w.clock MAX (new_session fresh.server fresh.family fresh.timing fresh.lifetime) w.session fresh.session
+    (unready k w.clock MAX _ (omega arith) refl)
+
 pub nothing_lapses : (k : Limits) (mac : List ℕ → List ℕ → List ℕ) (accepted : List Acceptance) (w : World) (run : List Entry) → Leave k → IsFresh w
     → IsTimely k mac accepted w run → NothingLapses k w run
 nothing_lapses k mac accepted w run leave fresh steps =
-    runs k mac accepted MAX w run leave
-    (holds_is k w.clock MAX (new_session fresh.server fresh.family fresh.timing fresh.lifetime) w.session fresh.session
-    (unready k w.clock MAX _ (omega arith) refl)) steps
+    runs k mac accepted MAX w run leave (fresh_holds k w fresh) steps

@@ -1,5 +1,5 @@
 -- What the server's response to the pending request does to a session keeps how far its renewal is.
-use Rattle.std.proofs.Common.{◌≡◌, ◌⊎◌, inl, inr, ℕ, ◌+◌, ◌≤◌, ◌<◌, ◌==◌, ◌&&◌, ◌||◌, not, nat_lt, Bool, true, false, cond, List, Option, Some, None, is_none, is_some, arith, refl, sym, ap, subst}
+use Rattle.std.proofs.Common.{◌≡◌, ◌⊎◌, inl, inr, ℕ, ◌+◌, ◌≤◌, ◌<◌, ◌==◌, ◌&&◌, ◌||◌, not, nat_lt, Bool, true, false, cond, List, Option, Some, None, is_none, is_some, IsTrue, ◌↔◌, arith, refl, sym, ap, subst}
 use Rattle.std.proofs.lemmas.Bool.Decides.{nat_tests}
 use Rattle.std.specs.declared.net.socket_addr.SocketAddr.{SocketAddr}
 use Rattle.is_stun.specs.Message.{Integrity, Message}
@@ -16,11 +16,12 @@ use Rattle.is_turn.specs.Attempts.{is_last as is_last_of_id}
 use Rattle.is_turn.specs.Client.{at_time}
 use Rattle.is_turn.specs.Credentials.{Credentials}
 use Rattle.is_turn.specs.Operations.{takes_challenge, stale_count, is_allowed}
-use Rattle.is_turn.specs.Outcome.{answered_in, answered_by, is_unknown, is_last_sent, on_alternate, on_code, on_success, on_challenge, code_or_success, or_success, lasts, relays, seconds_or_none, outcome_by, outcome_or, outcome_with}
+use Rattle.is_turn.specs.Outcome.{answered_in, answered_by, is_unknown, is_last_sent, on_alternate, on_code, on_success, on_challenge, code_or_success, or_success, key_in, lasts, relays, seconds_or_none, outcome_by, outcome_or, outcome_with}
 use Rattle.is_turn.specs.Receipts.{Receipt}
 use Rattle.is_turn.specs.Session.{is_ready, request_timing, is_allocated, is_refreshed, has_failed}
 use Rattle.is_turn.specs.Turn.{OutcomeApplies, challenge_taken, with_doubt, with_hint, with_another}
-use Rattle.is_turn.specs.Verdict.{is_challenge, is_code, is_malformed, code_of, verdict_of}
+use Rattle.is_turn.specs.Verdict.{is_challenge, is_code, is_malformed, code_of, verdict_of, IsSignedFor}
+use Rattle.is_turn.specs.Worlds.{IsBelievable}
 use Rattle.is_turn_theorems.specs.Limits.{Limits}
 use Rattle.is_turn_theorems.specs.Timely.{IsPrompt, IsStale}
 use Rattle.is_turn_theorems.proofs.Standing.{Holds}
@@ -30,7 +31,7 @@ use Rattle.is_turn_theorems.proofs.Responses.{Called, Counts, extends, allocated
 -- ---- the verdict on the server's response
 
 -- the verdicts on a client with an allocation
-abbrev IsFine : Verdict → Option ℕ → Type 0
+abbrev pub IsFine : Verdict → Option ℕ → Type 0
 IsFine verdicts.Genuine code = code ≡ None
 IsFine verdicts.Challenge code = code ≡ Some 438
 IsFine verdicts.Malformed code = Unit {0}
@@ -68,7 +69,7 @@ fine_stale b is_last key password integrity code e =
 abbrev pub IsServers : Bool → Option Credentials → Message → Type 0
 IsServers b c m = ((code_of m ≡ None) × ((c ≡ None) ⊎ (b ≡ true))) ⊎ IsStale m c
 
-fine_verdict : (b is_last : Bool) (key : Option (List ℕ)) (c : Option Credentials) (m : Message) → IsServers b c m
+pub fine_verdict : (b is_last : Bool) (key : Option (List ℕ)) (c : Option Credentials) (m : Message) → IsServers b c m
     → IsFine (verdict_of b is_last key c m) (code_of m)
 fine_verdict b is_last key None m (inl h) = fine_cond (is_malformed m) verdicts.Genuine (code_of m) h.0
 fine_verdict b is_last key None m (inr h) = absurd (cc h.1)
@@ -80,9 +81,19 @@ fine_verdict b is_last key (Some c) m (inr stale) =
     fine_cond (is_malformed m) (verdict_on (code_of m) b is_last key c.password m.integrity) (code_of m)
     (fine_stale b is_last key c.password m.integrity (code_of m) (cc (stale.0)))
 
+pub servers : (mac : List ℕ → List ℕ → List ℕ) (b : Bool) (c : Option Credentials) (m : Message) (a : Attempt) → (IsTrue b ↔ IsSignedFor mac m a.key)
+    → ((code_of m ≡ None) × IsBelievable mac m a c) ⊎ IsStale m c → IsServers b c m
+servers mac b c m a signs (inl (success, inl none)) = inl (success, inl none)
+servers mac b c m a signs (inl (success, inr signed)) = inl (success, inr (signs.1 signed))
+servers mac b c m a signs (inr stale) = inr stale
+
+pub signed_for : (mac : List ℕ → List ℕ → List ℕ) (b : Bool) (m : Message) (a : Option Attempt) (x : Attempt) → a ≡ Some x → (IsTrue b ↔ IsSignedFor mac m (key_in a))
+    → (IsTrue b ↔ IsSignedFor mac m x.key)
+signed_for mac b m a x e signs = subst (λ (y : Option Attempt). IsTrue b ↔ IsSignedFor mac m (key_in y)) e signs
+
 -- ---- what it does
 
-dropped_code : (code n : ℕ) → code ≡ n → (n == 401) ≡ false → (b : Bool) → (code == 401 && b) ≡ true → ⊥
+pub dropped_code : (code n : ℕ) → code ≡ n → (n == 401) ≡ false → (b : Bool) → (code == 401 && b) ≡ true → ⊥
 dropped_code code n e f b h = let g : (code == 401) ≡ false = subst (λ (x : ℕ). (x == 401) ≡ false) (sym e) f in absurd (cc (g, (both (code == 401) b h).0))
 
 stale_counts : (stale : ℕ) → nat_lt stale 3 ≡ true → stale_count 438 stale ≡ stale + 1
@@ -91,11 +102,11 @@ stale_counts stale h = let lt : stale < 3 = grind (arith, nat_tests) in omega (a
 counted_by : (b : Bool) (o : Operation) (x : Bool) → (x && is_allowed b 438 o) ≡ true → stale_count 438 o.stale ≡ o.stale + 1
 counted_by b o x h = stale_counts o.stale (both x (is_allowed b 438 o) h).1
 
-counted : (b : Bool) (code : ℕ) (o : Operation) (x : Bool) → code ≡ 438 → (x && is_allowed b code o) ≡ true → stale_count code o.stale ≡ o.stale + 1
+pub counted : (b : Bool) (code : ℕ) (o : Operation) (x : Bool) → code ≡ 438 → (x && is_allowed b code o) ≡ true → stale_count code o.stale ≡ o.stale + 1
 counted b code o x e h =
     subst (λ (n : ℕ). stale_count n o.stale ≡ o.stale + 1) (sym e) (counted_by b o x (subst (λ (n : ℕ). (x && is_allowed b n o) ≡ true) e h))
 
-not_false : (b : Bool) → not b ≡ false → b ≡ true
+pub not_false : (b : Bool) → not b ≡ false → b ≡ true
 not_false true e = refl
 not_false false e = absurd (cc e)
 

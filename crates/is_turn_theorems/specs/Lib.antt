@@ -1,2 +1,4 @@
 pub mod Limits
 pub mod Timely
+pub mod LeaseLimits
+pub mod Leasing

@@ -14,6 +14,10 @@ pub record Limits : Type 0 where
   pub challenges : ℕ
   -- the server lets an allocation last so many seconds at least
   pub lifetime : ℕ
+  -- the client has so many places for permissions and channels, its leases, at most
+  pub places : ℕ
+  -- while the request for a lease waits until it is sent, the allocation goes first so often at most
+  pub others : ℕ
 
 -- so long before its end an allocation is renewed
 abbrev pub lead : Limits → ℕ

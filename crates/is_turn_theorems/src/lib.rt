@@ -4,3 +4,4 @@
 #![tactic(auto)]
 
 pub mod lapsing;
+pub mod leases;

@@ -78,13 +78,6 @@ early-is : early_time modern ≡ 2500 * MILLISECOND
 unfolding timeout_of delay_millis
 early-is = refl
 
-modern-ends : EndsWith modern 18
-modern-ends = record {
-  counted = omega arith;
-  over = λ _. (let next = time-19 in let series = series-is in omega (arith, next, series));
-  rare = λ _. (let last = time-18 in let early = early-is in omega (arith, last, early));
-}
-
 original-past : IsPastRequests original 9
 original-past = let next = original-10 in omega (arith, next)
 
@@ -95,5 +88,12 @@ pub numbers-of-checks : NumbersOfChecks
 numbers-of-checks = (
   λ t usual. usual-ends t t.max_retransmits usual refl,
   (usual-ends original 9 refl refl, original-past),
-  (modern-ends, modern-past),
+  (
+    record {
+      counted = omega arith;
+      over = λ _. (let next = time-19 in let series = series-is in omega (arith, next, series));
+      rare = λ _. (let last = time-18 in let early = early-is in omega (arith, last, early));
+    },
+    modern-past,
+  ),
 )

@@ -255,7 +255,7 @@ module _ (t : StunTiming) (most : ℕ) where
       from None is wrong = no-case wrong
       from (Some at) is recent = elim kept [
         | inl zero_is ↦ none-some at (sym (clean.quiet zero_is) ∙ is)
-        | inr long ↦ none at (check_time t (suc most)) (h.heard at is) (lt-of (now - at) (15 * SECOND) recent) long next-sent
+        | inr long ↦ none at (check_time t (suc most)) (h.heard at is) (lt-of (now - at) (15 * SECOND) recent) (omega (arith, long)) next-sent
       ]
 
     many : nat_lt (length p.checks) t.max_retransmits ≡ false

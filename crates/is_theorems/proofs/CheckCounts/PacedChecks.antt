@@ -112,7 +112,7 @@ module _ {H P : Type 0} where
           → (at : ℕ) → old.last_time ≡ Some at → pace ≤ min (3 * SECOND) (pacing_of at old) → later at pace ≤ now
       polled old new s t e now (None, is, h, drawn) lets at last slow = absurd (subst (λ o. NextTimeoutFrom o old None new) last h)
       polled old new s t e now (Some deadline, is, h, drawn) lets at last slow =
-          let comes_by = comes now (Some deadline) (ap (λ (x : Entry). lets_call {P = P} now PollTimeout x.answer) (sym is) ∙ lets) deadline refl in
+          let comes_by = comes now (Some deadline) (search (ap (λ (x : Entry). lets_call {P = P} now PollTimeout x.answer) (sym is) ∙ lets)) deadline refl in
           let least = paced old new at deadline (paced-from old new at (Some deadline) last h) in
           let soon = soonest-least pace at old slow in
           omega (arith, comes_by, least, soon)
@@ -131,7 +131,7 @@ module _ {H P : Type 0} where
           let call_is : x.call ≡ PollTimeout = polls now x.call x.entry.answer lets in
           let asking = subst (λ (c : Call P). Step mac answers mid s c x.entry last t) call_is step in
           let was : mid.last_time ≡ Some at = sym (last-stays mac answers PollTimeout mid last s t x.entry refl asking) ∙ last_is in
-          polled mid last s t x.entry now asking (subst (λ (c : Call P). lets_call now c x.entry.answer ≡ true) call_is lets) at was (here call_is at was le)
+          polled mid last s t x.entry now asking (subst (λ (c : Call P). lets_call now c x.entry.answer ≡ true) call_is lets) at was (let slow = here call_is at was le in omega (arith, slow))
       waits first last (x ∷ before) new (mid, s, t, run, based, step) (patient, rest) (here, earlier) now (inr (inl passed)) at last_is le =
           let b = befores pace now x.call passed in
           let reached = past mid last x.entry b.0 at (timeout-timed mac answers b.0 mid last s t x.entry (subst (λ (c : Call P). Step mac answers mid s c x.entry last t) b.1 step))
@@ -139,7 +139,7 @@ module _ {H P : Type 0} where
           let gone = b.2 in
           omega (arith, reached, gone)
       waits first last (x ∷ before) new (mid, s, t, run, based, step) (patient, rest) (here, earlier) now (inr (inr (other, may))) at last_is le =
-          waits first mid before new run rest earlier now may at (sym (last-stays mac answers x.call mid last s t x.entry other step) ∙ last_is) le
+          waits first mid before new run rest earlier now may at (sym (last-stays mac answers x.call mid last s t x.entry (search other) step) ∙ last_is) le
 
       module _ (long : ℕ) (ends : from + long ≤ MAX) where
         -- so many checks were sent in the span, and the last one an interval after each other one
@@ -184,7 +184,7 @@ module _ {H P : Type 0} where
             → ((at : ℕ) → old.last_time ≡ Some at → from ≤ at → later at pace ≤ now) → Holds old n → Holds new (cond (is_in_span from long x.call && sends_check x.entry) 1 0 + n)
         timed old new x n now is (inl last) wait h =
             called old new n now (is_in_span from long x.call && sends_check x.entry) last
-            (λ sends. (let k = both (is_in_span from long x.call) (sends_check x.entry) sends in within from now (from + long) (ap (λ (c : Call P). is_in_span from long c) (sym is) ∙ k.0))) wait h
+            (λ sends. (let k = both (is_in_span from long x.call) (sends_check x.entry) sends in within from now (from + long) (search (ap (λ (c : Call P). is_in_span from long c) (sym is) ∙ k.0)))) wait h
         timed old new x n now is (inr (none, same)) wait h =
             subst (λ b. Holds new (cond {A = ℕ} b 1 0 + n)) (sym (quiet (is_in_span from long x.call) (sends_check x.entry) none)) (subst (λ k. Holds new k) (sym (zero-add n)) (carried old new n same h)) where
               quiet : (a b : Bool) → b ≡ false → (a && b) ≡ false
@@ -216,7 +216,8 @@ module _ {H P : Type 0} where
 
     pub checks-are-paced : ChecksArePaced {H = H} mac answers
     checks-are-paced first last log from long pace new run patient slow some ends =
-        few from pace long ends (checks_in_span from long log) last some (counts from pace long ends first last log new run patient slow)
+        let stays : from + long ≤ MAX = omega (arith, ends) in
+        few from pace long stays (checks_in_span from long log) last some (counts from pace long stays first last log new run patient slow)
 
     -- ---- numbers
 
@@ -234,11 +235,12 @@ module _ {H P : Type 0} where
 
     pub seconds-have-few : SecondsHaveFewChecks {H = H} mac answers
     seconds-have-few first last log from new run slow ends = (
-      λ patient. checks-are-paced first last log from SECOND LEAST_TA new run patient
-          (each (IsSlowAt from) (IsPacedAt from LEAST_TA) (λ a x is call at last_is le. (let least = pacing-least at a (is call at last_is le) in omega (arith, least))) first last log run slow)
-          (omega arith) ends,
-      λ patient late. checks-are-paced first last log from SECOND (50 * MILLISECOND) new run patient
+      λ patient. (let few : checks_in_span from SECOND log ≤ 200 = checks-are-paced first last log from SECOND LEAST_TA new run patient
+          (each (IsSlowAt from) (IsPacedAt from LEAST_TA)
+          (λ a x is call at last_is le. (let least = pacing-least at a (is call at last_is le) in omega (arith, least))) first last log run slow)
+          (omega arith) ends in omega (arith, few)),
+      λ patient late. (let few : checks_in_span from SECOND log ≤ 20 = checks-are-paced first last log from SECOND (50 * MILLISECOND) new run patient
           (two (IsSlowAt from) (IsLateAt from) (IsPacedAt from (50 * MILLISECOND))
           (λ a x is early call at last_is le. (let least = pacing-late at a (early call at last_is le) (is call at last_is le) in omega (arith, least))) first last log run slow late)
-          (omega arith) ends,
+          (omega arith) ends in omega (arith, few)),
     )

@@ -314,15 +314,16 @@ module _ {H P : Type 0} where
     along clock first last [] run order timed was = subst (λ (a : AgentRecord H P). IsRun clock a) (sym run) was
     along clock first last (x ∷ before) (mid, s, u, run, based, step) (forward, order) (here, earlier) start =
         let was = along clock first mid before run order earlier start in
+        let goes_on : time_of clock before ≤ time_after (time_of clock before) x.call = omega (arith, forward) in
         let law = path_theorem mac answers mid last s u x.call x.entry was.sound based step in
         let named = names-next mac mid last x.call x.entry was.path law.0 was.sound was.named in
         record {
           sound = law.1;
           path = _;
           named = named;
-          back = back-next x (time_of clock before) mid last s u here step was law.0 forward (λ p has is. (named p has is).0);
-          queued = queued-next x (time_of clock before) mid last s u here step was law.0 forward (λ p has is. (named p has is).0);
-          kept = kept-next x (time_of clock before) mid last s u here step was law.0 forward (λ p has is. (named p has is).0);
+          back = back-next x (time_of clock before) mid last s u here step was law.0 goes_on (λ p has is. (named p has is).0);
+          queued = queued-next x (time_of clock before) mid last s u here step was law.0 goes_on (λ p has is. (named p has is).0);
+          kept = kept-next x (time_of clock before) mid last s u here step was law.0 goes_on (λ p has is. (named p has is).0);
         }
 
   -- ---- the theorems
@@ -348,7 +349,7 @@ module _ {H P : Type 0} where
         → BeforeEach mac answers (IsTimedBy t) first log last run → (p : PairRecord) → Has last.pairs p → IsSilent p → p.checks_sent ≤ n
     silent-are-few first last log new run order timed p has silent =
         let k = begun first last log new run order timed in
-        let few = few-of t n 0 (latest last) p ((k.kept.each p has silent.unanswered).unrequested silent.unheard) in
+        let few = few-of t n 0 (latest last) p ((k.kept.each p has (search silent.unanswered)).unrequested silent.unheard) in
         omega (arith, few)
 
     module _ (first start last : AgentRecord H P) (before part : List (Logged P)) (new : IsNewlyCreated first)
@@ -386,7 +387,7 @@ module _ {H P : Type 0} where
       })
 
       pub few-since : q.checks_sent ≤ p.checks_sent + n
-      few-since = followed-few t n watch (latest last) _ q (follows.kept.each q has_after silent.unanswered) silent.number silent.unheard
+      few-since = followed-few t n watch (latest last) _ q (follows.kept.each q has_after silent.unanswered) silent.number (let same = silent.unheard in omega (arith, same))
 
   pub silent-pairs-get-few : (mac : H → List ℕ → List ℕ → List ℕ) (answers : P → CandidateRecord → ℕ → ℕ → Type 0) → SilentPairsGetFew mac answers
   silent-pairs-get-few mac answers t n first last log ends new run order timed p has silent = silent-are-few mac answers t n ends first last log new run order timed p has silent

@@ -7,4 +7,5 @@ mod messages;
 mod progress;
 mod relaying;
 mod relays;
+mod sessions;
 mod side;
