@@ -249,12 +249,12 @@ class Fair(unittest.TestCase):
         self.assertEqual(is_fair_world(story.network().x), [])
 
     def test_new_agents(self) -> None:
-        self.assertEqual(is_fair_world(Story().altered(0, "b", next_number=1).x), ["new"])
+        self.assertEqual(is_fair_world(Story().altered(0, "b", next_number=1).x), ["start.new"])
 
     def test_no_packet_in_flight(self) -> None:
         story, before = Story(), Story()
         story.deliver(before.timeout("a", 0), "b", 5)
-        self.assertEqual(is_fair_world(story.network().x), ["empty"])
+        self.assertEqual(is_fair_world(story.network().x), ["start.empty"])
 
     def test_different_tie_breakers(self) -> None:
         story = Story(ties=(5, 5))
@@ -265,7 +265,7 @@ class Fair(unittest.TestCase):
         story.timeout("a", 0)
         story.ids = 0
         story.timeout("b", 0)
-        self.assertEqual(is_fair_world(story.network().x), ["distinct"])
+        self.assertEqual(is_fair_world(story.network().x), ["start.distinct"])
 
     def test_a_lite_agent_that_keeps_its_role(self) -> None:
         for settings, lacking in ((MODERN, ["compares"]), (ORIGINAL, [])):
