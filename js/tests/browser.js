@@ -8,6 +8,7 @@ import { mkdtempSync, readFileSync, rmSync } from "node:fs";
 import http from "node:http";
 import os from "node:os";
 import path from "node:path";
+import { setTimeout } from "node:timers/promises";
 
 const WANTED = ["10.0.0.1:5000 -> 10.0.0.2:5000 | 10.0.0.2:5000 -> 10.0.0.1:5000", "new", "new"];
 const PAGE = `<!doctype html>
@@ -44,6 +45,18 @@ const FLAGS = {
   firefox: (profile) => ["--headless", "--no-remote", "--profile", profile],
 };
 
+/** Removes a profile. Other processes of the browser may write to it for a moment after it was killed. */
+async function removed(profile) {
+  for (let tries = 1; ; tries++) {
+    try {
+      return rmSync(profile, { recursive: true, force: true });
+    } catch (error) {
+      if (tries === 50) throw error;
+      await setTimeout(100);
+    }
+  }
+}
+
 const server = http.createServer(async (request, response) => {
   const { pathname } = new URL(request.url, "http://localhost");
   if (pathname === "/said") {
@@ -74,7 +87,7 @@ try {
   await once(browser, "close");
   server.closeAllConnections();
   server.close();
-  rmSync(profile, { recursive: true, force: true, maxRetries: 5 });
+  await removed(profile);
 }
 const isWanted = JSON.stringify(said) === JSON.stringify(WANTED);
 console.log(isWanted ? `${name}: a page and two workers` : said);
