@@ -351,7 +351,7 @@ typedef struct is_ice_pair {
 /* Why a pair was removed. */
 enum {
     IS_ICE_REMOVED_NO_RESPONSE = 1,  /* no check on it had a success response */
-    IS_ICE_REMOVED_CONSENT_LOST = 2, /* a check had a response once, and then consent ended (RFC 7675, section 5.1) */
+    IS_ICE_REMOVED_CONSENT_LOST = 2, /* a check had a response once; then consent ended, or the path fell silent and another worked */
     IS_ICE_REMOVED_PEER_SILENT = 3,  /* under lite: the checks of the other agent stopped */
     IS_ICE_REMOVED_EVICTED = 4,      /* there were more pairs than the limit (RFC 8445, section 6.1.2.5) */
     IS_ICE_REMOVED_REPLACED = 5,     /* a pair of greater priority on the same path replaced it */
@@ -444,8 +444,8 @@ IS_ICE_CALL int32_t is_ice_agent_new(
  * and may be passed to is_ice_agent_new again. A null pointer: the call does nothing, as free() does. */
 void is_ice_agent_free(is_ice_agent *agent);
 
-/* ---- settings: at any time. "Value:" at the end of a comment is that of a new agent. Only the calls that set
- * credentials allocate. */
+/* ---- settings: at any time. "Value:" at the end of a comment is that of a new agent. For what is_ice_set_settings sets,
+ * too, it is in the table "Settings" of docs/API.md. Only the calls that set credentials allocate. */
 
 /* is_ice_set_controlling - makes the agent controlling or controlled. The agent of the side that made the offer is
  * controlling (RFC 8445, section 6.1.1). If both agents claim one role, they resolve the role conflict.
@@ -472,14 +472,14 @@ IS_ICE_QUIET_CALL int32_t is_ice_set_lite(is_ice_agent *agent, bool lite);
  * last. A controlled one selects the pair on which it received the last request with USE-CANDIDATE, once a check of its
  * own was answered on it; until then it keeps its path. If only the controlled agent has it, its path may change at each
  * check of the other. With `modern` of is_ice_set_settings nominations have numbers besides, as browsers send them, and
- * the greatest one counts in place of the last one. IS_ICE_OK. Value: false. */
+ * the greatest one counts in place of the last one. IS_ICE_OK. */
 IS_ICE_QUIET_CALL int32_t is_ice_set_renomination(is_ice_agent *agent, bool enabled);
 
 /* is_ice_set_lite_timeout - sets how long a lite agent keeps a pair after the last check of the other agent on it. A
  * pair without any counts as checked at its first is_ice_handle_timeout call after is_ice_set_remote_credentials that
  * serves no early request. With 0 the next call after a check removes the pair. Against Firefox set 30 s: it still sends
  * checks after a cut of 20 s, and does not nominate again what was removed. Chromium sends none after 15 s without a
- * response. A full agent does not use it. IS_ICE_OK. Value: 15 s. */
+ * response. A full agent does not use it. IS_ICE_OK. */
 IS_ICE_QUIET_CALL int32_t is_ice_set_lite_timeout(is_ice_agent *agent, uint64_t nanoseconds);
 
 /* is_ice_set_tie_breaker - sets the number that decides role conflicts: the greater one keeps its role. A lite agent with
@@ -489,7 +489,7 @@ IS_ICE_QUIET_CALL int32_t is_ice_set_tie_breaker(is_ice_agent *agent, uint64_t t
 /* is_ice_set_max_pairs - limits how many pairs are left when a candidate is added or pairs are formed again: those of
  * the lowest priority are removed then. With `modern` of is_ice_set_settings, each time the lowest pair of the kind that
  * has the most is removed. A request of the other agent adds its pair without regard to this limit, which counts the pair
- * when pairs are next formed. IS_ICE_OK. Value: 100. */
+ * when pairs are next formed. IS_ICE_OK. */
 IS_ICE_QUIET_CALL int32_t is_ice_set_max_pairs(is_ice_agent *agent, size_t limit);
 
 /* No limit: see is_ice_set_max_discovered and is_ice_set_max_candidates. */
@@ -512,41 +512,41 @@ IS_ICE_QUIET_CALL int32_t is_ice_set_max_pairs(is_ice_agent *agent, size_t limit
  * is_ice_local_candidate, and the response counts as ever.
  *
  * With 0 no packet brings a candidate. IS_ICE_NO_LIMIT: each sender and each mapped address becomes one. Set the
- * limit before the first packet: a lower one removes no candidate. IS_ICE_OK. Value: 32. */
+ * limit before the first packet: a lower one removes no candidate. IS_ICE_OK. */
 IS_ICE_QUIET_CALL int32_t is_ice_set_max_discovered(is_ice_agent *agent, size_t limit);
 
 /* is_ice_set_max_candidates - limits how many candidates of each side there are when the program adds one, so that the
  * other agent's signaling costs no more memory and time. If is_ice_local_candidate returns as many, is_ice_add_local
  * fails with IS_ICE_TOO_MANY_CANDIDATES, and so does is_ice_add_remote for is_ice_remote_candidate. So candidates that
  * packets brought count; they come without regard to this limit (is_ice_set_max_discovered is theirs). An invalidated
- * candidate does not count. A lower limit removes no candidate. IS_ICE_OK. Value: 100. */
+ * candidate does not count. A lower limit removes no candidate. IS_ICE_OK. */
 IS_ICE_QUIET_CALL int32_t is_ice_set_max_candidates(is_ice_agent *agent, size_t limit);
 
 /* is_ice_set_timing_advance - sets the pacing interval Ta (RFC 8445, section 14.2): the least time from the last
  * is_ice_handle_timeout call to the next one that is_ice_poll_timeout returns. A lite agent, and one without pairs, waits
  * no longer than 3 s. Each is_ice_handle_timeout call sends at most one packet. With `modern` of is_ice_set_settings the
  * interval is shorter until half a second after the first check of the newest pair. It is not once the agent has a path
- * and, if it is controlling, has sent the check that nominates it. IS_ICE_OK. Value: 50 ms. */
+ * and, if it is controlling, has sent the check that nominates it. IS_ICE_OK. */
 IS_ICE_QUIET_CALL int32_t is_ice_set_timing_advance(is_ice_agent *agent, uint64_t nanoseconds);
 
 /* is_ice_set_initial_rto - sets the time from a pair's first check until the second one is due. It doubles with each
  * further check, up to the limit of is_ice_set_max_rto. If a check has had no response for longer than half that limit,
  * only the checks without a response count, so that checks become more frequent again. Early retransmissions, which
- * `modern` of is_ice_set_settings brings, have delays of their own. IS_ICE_OK. Value: 250 ms. */
+ * `modern` of is_ice_set_settings brings, have delays of their own. IS_ICE_OK. */
 IS_ICE_QUIET_CALL int32_t is_ice_set_initial_rto(is_ice_agent *agent, uint64_t nanoseconds);
 
 /* is_ice_set_max_rto - sets the longest time from one check of a pair until the next one is due. With the
  * default limit on retransmits a pair that works is checked at this interval, which keeps consent (RFC 7675); with a
- * limit of 1 to 4 more often. IS_ICE_OK. Value: 2.9 s. */
+ * limit of 1 to 4 more often. IS_ICE_OK. */
 IS_ICE_QUIET_CALL int32_t is_ice_set_max_rto(is_ice_agent *agent, uint64_t nanoseconds);
 
 /* is_ice_set_max_retransmits - sets after how many checks in a row without a response a pair is removed. It is not
  * removed while the last of them may still be answered in time, nor within 15 s of a check of the other agent on it.
- * With the default values and few pairs that is up to 29.6 s after its last answered check; with many pairs each check
- * waits for its turn, and the consent_timeout of is_ice_set_settings ends the pair. With `modern` a pair is not removed
- * within ice_timeout of is_ice_status after the first of its checks without a response, either.
+ * With few pairs that is up to max_rto and ice_timeout of is_ice_status together after its last answered check; with many
+ * pairs each check waits for its turn, and the consent_timeout of is_ice_set_settings ends the pair. With `modern` a pair
+ * is not removed within ice_timeout after the first of its checks without a response, either.
  *
- * IS_ICE_OK. IS_ICE_BAD_LIMIT: the limit is 0. Value: 11. */
+ * IS_ICE_OK. IS_ICE_BAD_LIMIT: the limit is 0. */
 IS_ICE_CALL int32_t is_ice_set_max_retransmits(is_ice_agent *agent, size_t limit);
 
 /* is_ice_retransmit_timeout, is_ice_retransmit_delay - return times of an agent with these settings, without an agent.
@@ -561,9 +561,7 @@ IS_ICE_QUIET_CALL int32_t is_ice_retransmit_delay(
     uint64_t initial_rto, uint64_t max_rto, size_t max_retransmits, size_t sent, uint64_t *delay);
 
 /* is_ice_modern_settings, is_ice_original_settings - write the settings with which a new agent begins, and those of the
- * Rust crate `is` 0.12.0. By the first, max_rto is 2.9 s, max_retransmits 11, max_discovered 32, max_candidates 100, and
- * modern true. By the second they are 3 s, 9, (size_t)-1 for both limits, and false. The others are the same: 50 ms,
- * 250 ms, 15 s, consent by the timing and not strict, 100 pairs, no renomination. On any thread. IS_ICE_OK. */
+ * Rust crate `is` 0.12.0. The table "Settings" of docs/API.md has both. On any thread. IS_ICE_OK. */
 IS_ICE_QUIET_CALL int32_t is_ice_modern_settings(is_ice_agent_settings *settings);
 IS_ICE_QUIET_CALL int32_t is_ice_original_settings(is_ice_agent_settings *settings);
 
@@ -574,8 +572,8 @@ IS_ICE_QUIET_CALL int32_t is_ice_original_settings(is_ice_agent_settings *settin
  *
  * consent_timeout: with `modern` a pair is removed so long after its last check that got a response was sent, however
  * many pairs there are (RFC 7675, section 5.1). Unless strict_consent is true, the other agent's checks keep the pair
- * too, each for 15 s. With 0 the time is max_rto and ice_timeout of is_ice_status together, 29.6 s for a new agent. A
- * browser gives a path up after 30 s, and does not nominate it again.
+ * too, each for 15 s. With 0 the time is max_rto and ice_timeout of is_ice_status together, for a new agent less than the
+ * 30 s after which a browser gives a path up, and does not nominate it again.
  *
  * modern: the behavior of this library, and not that of the Rust crate `is` 0.12.0. docs/GUIDE.md says what it brings,
  * and what it costs ("Profiles and settings"). The other agent may behave otherwise. */
@@ -610,7 +608,7 @@ IS_ICE_QUIET_CALL int32_t is_ice_reset_local_preference(is_ice_agent *agent);
  * is silent: 5 s for a new agent. It is reported by IS_ICE_SILENT, once, and by IS_ICE_HEARD when something arrives again.
  * IS_ICE_NEVER: neither is reported. After this call, silence that lasts is reported again.
  *
- * By default a full agent checks the selected path every 2.9 s once it is in use (is_ice_set_max_rto), and a lite agent waits
+ * A full agent checks the selected path at the interval of is_ice_set_max_rto once it is in use, and a lite agent waits
  * for the checks of the other one. With a shorter time than that each path is reported to be silent between two checks. Nothing
  * that the agent sends depends on the time. IS_ICE_OK. */
 IS_ICE_QUIET_CALL int32_t is_ice_set_silence(is_ice_agent *agent, uint64_t nanoseconds);
@@ -989,7 +987,7 @@ IS_ICE_CALL int32_t is_ice_poll_event(is_ice_agent *agent, is_ice_event *event);
  * The agent removes the remote credentials, remote candidates, pairs, packets, events and statistics. Local candidates
  * stay if `keep_local_candidates` is true. Set the other agent's new credentials and candidates again when they
  * arrive by signaling. Media goes on meanwhile: is_ice_path_for_media returns the path. The list of is_ice_send_failed is
- * emptied.
+ * emptied. With `modern` early requests are removed, too.
  *
  * IS_ICE_OK. IS_ICE_NOT_UTF8. IS_ICE_CREDENTIALS_TOO_LONG. IS_ICE_OUT_OF_MEMORY. */
 IS_ICE_CALL int32_t is_ice_restart(
@@ -1007,6 +1005,7 @@ IS_ICE_CALL int32_t is_ice_send_failed(
     is_ice_agent *agent, uint8_t protocol, const is_ice_address *source, const is_ice_address *destination, uint32_t reason);
 
 /* is_ice_recreate_pairs - removes all pairs with their pending transactions, and forms pairs of all candidates again.
+ * With `modern` each IS_ICE_NOMINATED_SEND that was not polled is removed with its pair: one comes when a path is selected again.
  *
  * IS_ICE_OK. IS_ICE_PAIR_IDS_EXHAUSTED. IS_ICE_OUT_OF_MEMORY. */
 IS_ICE_CALL int32_t is_ice_recreate_pairs(is_ice_agent *agent);
@@ -1088,8 +1087,8 @@ IS_ICE_CALL int32_t is_ice_pair_count(is_ice_agent *agent, size_t *count);
  * IS_ICE_OK. IS_ICE_NOTHING: the index is past the last one; *pair is unchanged. */
 IS_ICE_CALL int32_t is_ice_pair_at(is_ice_agent *agent, size_t index, is_ice_pair *pair);
 
-/* is_ice_removed_count - returns how many removed pairs are listed: the last 32 at most since the last restart, fewer if memory
- * was short. IS_ICE_OK. */
+/* is_ice_removed_count - returns how many removed pairs are listed: the last 32 at most since the last restart.
+ * IS_ICE_OK. */
 IS_ICE_CALL int32_t is_ice_removed_count(is_ice_agent *agent, size_t *count);
 
 /* is_ice_removed_at - returns a pair that was removed, and why. The index counts from 0, the pair that was removed first.

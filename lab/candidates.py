@@ -11,7 +11,7 @@ from is_ice import Candidate, CandidateKind, IceConnectionState, IceCreds, Profi
 from .clock import MILLISECOND
 from .kinds import least_of_most
 from .numbers import first_numbered
-from .pairs import Pair, Path, Place, Timing, pair_priority
+from .pairs import ORIGINAL, Pair, Path, Place, Timing, pair_priority
 from .removed import LIMIT, Removed, why_expired
 from .requests import Request
 from .states import CHECKING, NEW
@@ -25,7 +25,7 @@ EARLY_ADVANCE = 10 * MILLISECOND
 # With many pairs, the time in which each of them can be checked once.
 CYCLE = 500 * MILLISECOND
 # How many candidates of each side packets may bring to an agent that the library makes.
-DISCOVERED_LIMIT = 32
+DISCOVERED_LIMIT = Settings.modern().max_discovered
 
 A = TypeVar("A")
 # An agent with another candidate, and the combinations of indices that it forms.
@@ -43,8 +43,8 @@ class Candidates:
     renominates: bool = False
     peer: IceCreds | None = None
     timing: Timing = Timing()
-    advance: int = 50 * MILLISECOND
-    max_pairs: int = 100
+    advance: int = ORIGINAL.timing_advance
+    max_pairs: int = ORIGINAL.max_pairs
     max_discovered: int | None = DISCOVERED_LIMIT
     local: tuple[Place, ...] = ()
     remote: tuple[Place, ...] = ()
@@ -240,6 +240,21 @@ class Candidates:
         gone = tuple(Removed(p, self.path(p), why[p.number]) for p in self.pairs if p.number in why)
         kept = tuple(p for p in self.pairs if p.number not in why)
         return replace(self, pairs=kept, removed=(*self.removed, *gone)[-LIMIT:]) if gone else self
+
+    def may_replace(self, silent: Pair, other: Pair, now: int) -> bool:
+        """Whether the other pair may be selected, stays, and had a response while the silent one had none (`may_replace`)."""
+        is_able = other.number != silent.number and self.is_eligible(other) and other.stays(now, self.timing, self.lite)
+        silence = silent.silence()
+        return is_able and silence is not None and other.outlives(silence)
+
+    def gives_way(self, pair: Pair, now: int) -> bool:
+        """Whether with `Modern` the pair is the selected one, none of its last checks had a response, and another one may replace it."""
+        is_silent = pair.number == self.selected and self.is_eligible(pair) and not pair.may_repeat(self.timing)
+        return is_silent and self.modern and not self.lite and any(self.may_replace(pair, p, now) for p in self.pairs)
+
+    def path_left(self, now: int) -> Self:
+        """Returns the agent without the selected pair, if that gives way."""
+        return self._without({p.number: Removal.CONSENT_LOST for p in self.pairs if self.gives_way(p, now)})
 
     def without_expired(self, now: int) -> Self:
         """Returns the agent without the pairs that do not stay."""

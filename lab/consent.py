@@ -28,8 +28,6 @@ INTERFACES = ((1, 2), (2, 5), (5, 6), (7, 8), (8, 9), (9, 10), (10, 10))
 CUT_S, SPREAD_S = 8, 3
 # How long a session goes on after that: as long as the peer may keep its own path, and 15 s after its last check.
 LEAVES_S = 46
-# What agents in C, Rust and Python begin with.
-SETTINGS = {"max_rto_ms": 2900, "retransmits": 11}
 PACE = 50 * MILLISECOND
 # How long a check of the peer keeps a path, unless consent is strict.
 HEARD = 15 * SECOND
@@ -68,7 +66,7 @@ class Cell:
         kept = made.interface[-self.interfaces[number - 1]:]
         if self.all_work:
             kept = tuple(InterfaceSettings(i.name, f"192.0.2.{10 * number + n}", up="quick", down="quick") for n, i in enumerate(kept))
-        return replace(made, interface=kept, max_rto_ms=SETTINGS["max_rto_ms"], retransmits=SETTINGS["retransmits"])
+        return replace(made, interface=kept, max_rto_ms=None, retransmits=None, consent_ms=0.0)  # as agents in C, Rust and Python begin
 
 
 def at_random(made: Scenario, seed: int) -> Scenario:

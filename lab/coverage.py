@@ -7,9 +7,9 @@ from collections.abc import Callable, Iterable, Sequence
 from dataclasses import dataclass, field, replace
 
 from .clauses import (
-    both, by_number, completed_nominations_are_selected, connect, connected_are_answered, connected_have_consent, consent_ends_in_time,
-    consent_holds, courses_reach_served, courses_select_in_time, due_rounds, in_time, leaves_in_time, meet, nomination_accepted,
-    nominations, none_starved_in_time, of_use, one_path, reached_in_kind, reached_in_turn, rounds, run_connected,
+    both, both_become_connected, by_number, completed_nominations_are_selected, connect, connected_are_answered, connected_have_consent,
+    consent_ends_in_time, consent_holds, courses_reach_served, courses_select_in_time, due_rounds, in_time, leaves_in_time, meet,
+    nomination_accepted, nominations, none_starved_in_time, of_use, one_path, reached_in_kind, reached_in_turn, rounds, run_connected,
     run_connected_answered, run_in_time, run_selects_in_time, selects_in_time, served_are_checked_soon, served_in_time,
     served_select_in_time, states_agree, successes, urgent_are_reached, valid_have_consented, world_rounds)
 from .clauses.execution import Execution
@@ -30,7 +30,7 @@ WORLD: dict[str, Callable[[Network], Verdict]] = {
     "in_time, served": lambda network: served_in_time.find(network.x),
     "selects_in_time": selects_in_time.find, "selects_in_time, served": served_select_in_time.find,
     "nomination_accepted": nomination_accepted.find, "connect": connect.find, "both": both.find, "one_path": one_path.find,
-    "by_number": by_number.find}
+    "by_number": by_number.find, "both_become_connected": both_become_connected.find}
 RUN: dict[str, Callable[[Execution], Verdict]] = {
     "run: of_use": of_use.find, "run: successes": successes.find, "run: nominations": nominations.find,
     "run: connected": run_connected.find, "run: connected_answered": run_connected_answered.find, "run: rounds": rounds.find,

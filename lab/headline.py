@@ -9,7 +9,8 @@ from dataclasses import dataclass, field
 
 from is_ice.stun import StunMessage
 
-from .clock import MILLISECOND, SECOND
+from .clock import SECOND
+from .consent import timeout
 from .figures import aligned
 from .guarantees import Broken, Path
 from .log import Entry
@@ -18,7 +19,7 @@ from .scenario import SIDES, Scenario
 from .stun import message_of, nomination_of
 from .witness import Record, accepted, gets, play, selected
 
-CONSENT = 29_600 * MILLISECOND  # since the last check that was answered was sent
+CONSENT = timeout()  # since the last check that was answered was sent
 PEER_CONSENT = 15 * SECOND  # since the last check of the peer arrived
 
 
@@ -118,7 +119,7 @@ class _Heard:
 
 def connected_are_alive(record: Record) -> Found:
     """`ConnectedAreAlive`: after a `handle_timeout` that serves no early request the agent is connected; an answered check of the path
-    selected last was sent less than 29.6 s before, or a check of the peer arrived on it less than 15 s before."""
+    selected last was sent less than the time of consent before, or a check of the peer arrived on it less than 15 s before."""
     found = Found()
     if not record.keeps_consent():
         return found

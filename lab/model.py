@@ -190,7 +190,7 @@ class Agent(Candidates):
             last = now if self.modern and self.last is None else self.last
             return replace(begun, queue=queue[1:], last=last)._serve(queue[0])
         start = replace(begun, last=now, queue=self._current(now) if self.peer is not None else self.queue)
-        new, first = start._nominate()
+        new, first = start.path_left(now)._nominate()
         kept = new.without_expired(now)
         second: tuple[Path, ...] = ()
         if kept is not new:
@@ -250,13 +250,13 @@ class Agent(Candidates):
         return max(min(p.fixed(self.last, self.timing).wake_at(self.last, self.timing) for p in self.pairs), soon)
 
     def fixed_after(self, soon: bool) -> Agent:
-        """Returns it after what follows a call of the library with `Modern`: due times are fixed, and the deadline is moved up."""
+        """Returns it after what follows a call of the library with `Modern`: due times are fixed, and the deadline is moved."""
         if not self.modern:
             return self
         at = self.next_call()
         if at is not None and self.last is not None and soon:
             at = min(at, self.last + LEAST_ADVANCE)
-        if at is not None and self.deadline is not None:
+        if at is not None and self.deadline is not None and not self.is_settled:
             at = min(at, self.deadline)
         return replace(self.poll_timeout(True)[0], deadline=at)
 

@@ -4,9 +4,12 @@ from __future__ import annotations
 
 from dataclasses import dataclass, replace
 
-from is_ice import SocketAddress
+from is_ice import Settings, SocketAddress
 
 from .clock import MILLISECOND, SECOND
+
+# The numbers of the library's settings: what a new agent of the model has.
+ORIGINAL = Settings.original()
 
 # How many early retransmissions there are, the delay before each, and the longest delay after them.
 EARLY_RETRANSMITS = 2
@@ -16,6 +19,13 @@ EARLY_CAP = 350 * MILLISECOND
 # How long checks without a response are repeated early at most, and how long a pair is at its beginning after its first check.
 EARLY_TIME = 2500 * MILLISECOND
 BEGINNING = 500 * MILLISECOND
+
+# How much later than the one before a response may come, and how often a silent nominated pair is checked once none of its checks has one.
+LATENESS = 50 * MILLISECOND
+HUSHED_INTERVAL = 500 * MILLISECOND
+
+# How many checks of a silent pair follow the answered check of another one, at which the silent one is left.
+FOLLOWING = 4
 
 # From the source to the destination, as the agent that sends on it sees them.
 Path = tuple[SocketAddress, SocketAddress]
@@ -47,10 +57,10 @@ class Timing:
     """The settings of retransmission, and the profile. Durations are nanoseconds. `limit`: how long a response keeps a pair, if it is set;
     `strict`: the peer's checks keep none."""
 
-    initial: int = 250 * MILLISECOND
-    greatest: int = 3000 * MILLISECOND
-    retransmits: int = 9
-    lite: int = 15 * SECOND
+    initial: int = ORIGINAL.initial_rto
+    greatest: int = ORIGINAL.max_rto
+    retransmits: int = ORIGINAL.max_retransmits
+    lite: int = ORIGINAL.lite_timeout
     modern: bool = False
     limit: int | None = None
     strict: bool = False
@@ -190,8 +200,21 @@ class Pair:
         return self.checks[-1].sent + self._delay(now, timing)
 
     def _delay(self, now: int, timing: Timing) -> int:
-        if timing.modern and self.is_repeated_early(now, timing):
-            return early_delay(self.silent_count)
+        if not timing.modern:
+            return self._usual_delay(now, timing)
+        repeated = early_delay(self.silent_count) if self.is_repeated_early(now, timing) else self._usual_delay(now, timing)
+        return min(self._hushed_delay(timing), repeated) if self.is_hushed else repeated
+
+    @property
+    def is_hushed(self) -> bool:
+        """Whether it is valid and nominated, and has checks without a response."""
+        return self.is_valid and self.is_nominated and unanswered(self.checks) > 0
+
+    def _hushed_delay(self, timing: Timing) -> int:
+        trip = next((c.answered - c.sent for c in reversed(self.checks) if c.answered is not None), 0)
+        return max(EARLY_INTERVAL if self.may_repeat(timing) else HUSHED_INTERVAL, trip + LATENESS)
+
+    def _usual_delay(self, now: int, timing: Timing) -> int:
         silent = unanswered(self.checks)
         first = len(self.checks) - silent
         is_silent = first < len(self.checks) and timing.greatest < 2 * (now - self.checks[first].sent)
@@ -266,6 +289,17 @@ class Pair:
     def may_repeat(self, timing: Timing) -> bool:
         """Whether fewer than `max_retransmits` checks follow its last answered one."""
         return unanswered(self.checks) < timing.retransmits
+
+    # ---- its silence
+
+    def silence(self) -> tuple[int, int] | None:
+        """Returns the time from its first check without a response to the first of its last four (`silence_of`)."""
+        silent = unanswered(self.checks)
+        return (self.checks[-silent].sent, self.checks[-FOLLOWING:][0].sent) if silent else None
+
+    def outlives(self, silence: tuple[int, int]) -> bool:
+        """Whether a check of it that was sent in this time had a response."""
+        return any(c.answered is not None and silence[0] < c.sent < silence[1] for c in self.checks)
 
     # ---- what happens to it
 

@@ -4,7 +4,7 @@
  * usage: scale AGENTS SECONDS [HOSTS]
  *
  * Agents in pairs, each with one host candidate, connect over a wire in memory and then keep consent. With HOSTS each has so many, of which
- * only the first can be reached: so it begins with HOSTS * HOSTS candidate pairs, and keeps one. The clock is virtual, and a heap of
+ * only the last can be reached: so it begins with HOSTS * HOSTS candidate pairs, and keeps the one of least priority. The clock is virtual, and a heap of
  * their timeouts says which agent is next. Prints the microseconds of the processor for an agent while all connect (8 s) and for an
  * agent-second from then on, its packets in a second, and the bytes of the heap for an agent: as made, with the other's candidate,
  * connected, at the end. */
@@ -129,9 +129,10 @@ static void introduce(uint32_t agent)
     }
 }
 
-/* What the agent sends arrives at once, if it is from its first host to that of the other. */
+/* What the agent sends arrives at once, if it is from its last host to that of the other. */
 static void poll(uint32_t agent)
 {
+    const uint16_t last = (uint16_t)(PORT + hosts - 1);
     uint8_t bytes[LONGEST];
     is_ice_packet packet;
     is_ice_event event;
@@ -140,7 +141,7 @@ static void poll(uint32_t agent)
     while (is_ice_poll_event(&agents[agent], &event) == IS_ICE_OK) selected += event.kind == IS_ICE_NOMINATED_SEND;
     while (is_ice_poll_transmit(&agents[agent], bytes, sizeof bytes, &packet) == IS_ICE_OK) {
         packets++;
-        if (packet.source.port != PORT || packet.destination.port != PORT) continue;
+        if (packet.source.port != last || packet.destination.port != last) continue;
         must("packet", is_ice_handle_packet(
             &agents[agent ^ 1], now, packet.protocol, &packet.source, &packet.destination, bytes, packet.length));
         poll(agent ^ 1);

@@ -7,6 +7,7 @@ use std::net::{Ipv4Addr, SocketAddr};
 use std::time::{Duration, Instant};
 
 const CONNECT: Duration = Duration::from_secs(8);
+const PORT: u16 = 5000;
 
 // ---- what it costs
 
@@ -92,6 +93,7 @@ impl Heap {
 
 struct World {
     agents: Vec<IceAgent>,
+    hosts: u16,
     heap: Heap,
     now: Instant,
     packets: u64,
@@ -102,23 +104,28 @@ fn creds_of(agent: usize) -> IceCreds {
     IceCreds { ufrag: format!("u{agent:06x}"), pass: format!("passpasspasspass{agent:06x}") }
 }
 
-fn made(number: usize) -> IceAgent {
+fn made(number: usize, hosts: u16) -> IceAgent {
     let mut agent = IceAgent::new(creds_of(number));
     agent.set_controlling(number % 2 == 1);
-    let address = SocketAddr::from((Ipv4Addr::from(0x0a00_0000 + number as u32), 5000));
-    agent.add_local_candidate(Candidate::host(address, "udp").unwrap()).unwrap();
+    for host in 0..hosts {
+        let address = SocketAddr::from((Ipv4Addr::from(0x0a00_0000 + number as u32), PORT + host));
+        agent.add_local_candidate(Candidate::host(address, "udp").unwrap()).unwrap();
+    }
     agent
 }
 
 impl World {
     fn introduce(&mut self, agent: usize) {
-        let line = self.agents[agent ^ 1].local_candidates().next().unwrap().to_sdp_string();
+        let lines: Vec<String> = self.agents[agent ^ 1].local_candidates().map(|host| host.to_sdp_string()).collect();
         self.agents[agent].set_remote_credentials(creds_of(agent ^ 1));
-        self.agents[agent].add_remote_candidate(Candidate::from_sdp_string(&line).unwrap());
+        for line in lines {
+            self.agents[agent].add_remote_candidate(Candidate::from_sdp_string(&line).unwrap());
+        }
     }
 
-    /// What the agent sends arrives at once.
+    /// What the agent sends arrives at once, if it is from its last host to that of the other.
     fn poll(&mut self, agent: usize) {
+        let last = PORT + self.hosts - 1;
         if let Some(at) = self.agents[agent].poll_timeout() {
             let later = self.now + Duration::from_millis(1);
             self.heap.set(agent, if at > self.now { at } else { later });
@@ -128,6 +135,9 @@ impl World {
         }
         while let Some(sent) = self.agents[agent].poll_transmit() {
             self.packets += 1;
+            if sent.source.port() != last || sent.destination.port() != last {
+                continue;
+            }
             let message = StunMessage::parse(&sent.contents).unwrap();
             let packet = StunPacket { proto: sent.proto, source: sent.source, destination: sent.destination, message };
             assert!(self.agents[agent ^ 1].handle_packet(self.now, packet));
@@ -148,12 +158,12 @@ impl World {
 
 fn main() {
     let words: Vec<usize> = std::env::args().skip(1).map(|word| word.parse().unwrap()).collect();
-    let (count, seconds) = (words[0] / 2 * 2, words[1]);
+    let (count, seconds, hosts) = (words[0] / 2 * 2, words[1], words.get(2).map_or(1, |hosts| *hosts as u16));
     let (now, mut state) = (Instant::now() + Duration::from_secs(60), 88_172_645_463_325_252);
     let heap = Heap { order: (0..count).collect(), place: (0..count).collect(), due: vec![now; count] };
     let begun = heap_bytes();
-    let agents = (0..count).map(made).collect();
-    let mut world = World { agents, heap, now, packets: 0, selected: 0 };
+    let agents = (0..count).map(|number| made(number, hosts)).collect();
+    let mut world = World { agents, hosts, heap, now, packets: 0, selected: 0 };
     let mut bytes = [heap_bytes() - begun, 0.0, 0.0, 0.0];
     for agent in 0..count {
         world.introduce(agent);

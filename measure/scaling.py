@@ -96,21 +96,22 @@ def write(rows):
     path.write_text(before + head + "\n".join(by_first.get(old.split(" | ")[0], old) for old in part.split("\n")) + then + after)
 
 
-def instructions(program, count, seconds):
-    command = ["valgrind", "--tool=callgrind", "--callgrind-out-file=/dev/null", program, count, seconds]
+def instructions(program, count, seconds, hosts):
+    command = ["valgrind", "--tool=callgrind", "--callgrind-out-file=/dev/null", program, count, seconds, hosts]
     ran = subprocess.run([str(word) for word in command], capture_output=True, text=True)
     if ran.returncode != 0:
         stop(f"{program} failed under valgrind\n{ran.stderr}")
     return int(re.search(r"Collected\s*:\s*(\d+)", ran.stderr).group(1))
 
 
-def print_instructions(programs, count):
+def print_instructions(programs, count, hosts):
     """The instructions of an agent until it is connected, and in each second from then on."""
+    pairs = "" if hosts == 1 else f" that begin with {hosts * hosts} pairs"
     for name, program in programs.items():
-        connected = instructions(program, count, 0)
-        more = instructions(program, count, COUNTED) - connected
-        each = f"{connected / count:,.0f} instructions until connected, {more / count / COUNTED:,.0f} a second"
-        print(f"{name}, {count:,} agents: {each}", flush=True)
+        connected = instructions(program, count, 0, hosts)
+        more = instructions(program, count, COUNTED, hosts) - connected
+        each = f"{connected / count:,.0f} instructions in the first 8 s, {more / count / COUNTED:,.0f} a second from then on"
+        print(f"{name}, {count:,} agents{pairs}: {each}", flush=True)
 
 
 def print_given_back(counts, hosts):
@@ -125,12 +126,12 @@ def print_given_back(counts, hosts):
 
 
 def measure(counts, original, is_written, are_counted, hosts):
-    if hosts:
+    if hosts and not are_counted:
         return print_given_back(counts, hosts)
     programs = build(original)
     if are_counted:
         for count in counts or COUNTS[:1]:
-            print_instructions(programs, count)
+            print_instructions(programs, count, hosts or 1)
         return
     print("| agents | µs to connect: C | Rust | original | µs a second: C | Rust | original | bytes: C | Rust | original |", flush=True)
     rows = []

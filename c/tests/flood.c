@@ -14,12 +14,16 @@ enum {
 
 /* How long the agent that is flooded may leave its path unchecked: the longest RTO, and a pacing interval for each pair
  * that can be due before. Times are whole milliseconds here. */
-#define LONGEST_GAP (3 * SECOND + PAIRS * 51 * MS)
+#define LONGEST_GAP (modern.max_rto + PAIRS * 51 * MS)
 
 /* When a new address has a valid pair after a flood at the latest: a pair without a response is checked a last time before a whole
- * series of checks is over, which takes 26.7 s, and removed 2.9 s later. Its first check, this one and the first one of the new
+ * series of checks is over, and removed the longest RTO later. Its first check, this one and the first one of the new
  * pair can each wait for two of each other pair. */
-#define LONGEST_WAIT (UINT64_C(29600) * MS + 3 * 2 * PAIRS * 51 * MS)
+#define LONGEST_WAIT (series + modern.max_rto + 3 * 2 * PAIRS * 51 * MS)
+
+/* The settings of a new agent, and how long its series of checks takes. */
+static is_ice_agent_settings modern;
+static uint64_t series;
 
 struct flood {
     const char *name;
@@ -166,7 +170,7 @@ static void begin(struct world *w, const struct flood *f)
     introduce(&w->victim, &w->peer);
     introduce(&w->peer, &w->victim);
     introduce(&w->twin, &w->writer);
-    if (f->limit != LIMIT) must("limit", is_ice_set_max_discovered(&w->victim, f->limit), IS_ICE_OK);
+    must("limit", is_ice_set_max_discovered(&w->victim, f->limit), IS_ICE_OK);
     w->now = w->writer_now = 60 * SECOND;
     w->random = 1;
     for (int i = 0; i < 10000; i++) pass(w);
@@ -321,6 +325,8 @@ static void play_without_limit(void)
 
 int main(void)
 {
+    must("settings", is_ice_modern_settings(&modern), IS_ICE_OK);
+    must("series", is_ice_retransmit_timeout(modern.initial_rto, modern.max_rto, modern.max_retransmits, &series), IS_ICE_OK);
     for (size_t i = 0; i < sizeof floods / sizeof *floods; i++) play(&floods[i]);
     play_without_limit();
     return 0;

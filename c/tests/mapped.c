@@ -28,7 +28,7 @@ static void begin(struct world *w, size_t limit)
     must("credentials", is_ice_set_remote_credentials(&w->agent, TEXT("peer"), TEXT(password)), IS_ICE_OK);
     must("host", is_ice_add_local(&w->agent, &host, &index), IS_ICE_OK);
     must("remote", is_ice_add_remote(&w->agent, TEXT("candidate:1 1 udp 2130706431 10.0.0.2 2000 typ host"), &index), IS_ICE_OK);
-    if (limit != LIMIT) must("limit", is_ice_set_max_discovered(&w->agent, limit), IS_ICE_OK);
+    must("limit", is_ice_set_max_discovered(&w->agent, limit), IS_ICE_OK);
     w->now = 60 * SECOND;
     w->random = 1;
 }

@@ -15,7 +15,7 @@
 
 enum {
     BLOCK = 1000,      /* packets whose times are compared */
-    LIMIT = 32,        /* of a new agent, on the candidates that packets bring */
+    LIMIT = 32,        /* on the candidates that packets bring */
     FLAT = 64 * 1024,  /* bytes that memory may grow: below a byte for each packet of a flood */
     LONGEST = 600      /* a packet: none of the agent's is longer than 596 bytes */
 };

@@ -10,7 +10,7 @@
 enum {
     CANDIDATES = 10000, /* with the limit */
     UNLIMITED = 4000,
-    LISTED = 100,       /* the limit of a new agent, on each side */
+    LISTED = 100,       /* the limit on each side */
     MOST = 65536
 };
 
@@ -32,7 +32,7 @@ static void begin(struct world *w, size_t limit)
     memset(w, 0, sizeof *w);
     must("new", is_ice_agent_new(&w->agent, TEXT("agent"), TEXT("password of the agent"), 1), IS_ICE_OK);
     must("credentials", is_ice_set_remote_credentials(&w->agent, TEXT("peer"), TEXT("password of the peer")), IS_ICE_OK);
-    if (limit != LISTED) must("limit", is_ice_set_max_candidates(&w->agent, limit), IS_ICE_OK);
+    must("limit", is_ice_set_max_candidates(&w->agent, limit), IS_ICE_OK);
 }
 
 /* The peer's next candidate, each with another address and priority. Returns the time that the agent spends on it, in nanoseconds. */

@@ -26,7 +26,7 @@ static void begin(struct world *w, bool modern)
     w->random = 1;
     must("new", is_ice_agent_new(&w->agent, TEXT("agent"), TEXT(agent_password), 1), IS_ICE_OK);
     must("settings", is_ice_settings(&w->agent, &settings), IS_ICE_OK);
-    settings.modern = modern;
+    settings.modern = modern, settings.initial_rto = 250 * MS, settings.max_rto = 2900 * MS, settings.max_retransmits = ORIGINAL_CHECKS;
     must("settings", is_ice_set_settings(&w->agent, &settings), IS_ICE_OK);
     must("role", is_ice_set_controlling(&w->agent, true), IS_ICE_OK);
     must("host", is_ice_add_local(&w->agent, &host, &index), IS_ICE_OK);

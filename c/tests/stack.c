@@ -98,19 +98,20 @@ static void set(struct story *s)
 {
     static const is_ice_preference_table table = {{65000, 40000, 30000, 10}, {65001, 40001, 30001, 11}};
     is_ice_agent_settings settings;
+    CALL(IS_ICE_OK, is_ice_original_settings(&settings));
     CALL(IS_ICE_OK, is_ice_set_controlling(&s->a, true));
     CALL(IS_ICE_OK, is_ice_set_controlling(&s->b, true)); /* a role conflict */
     CALL(IS_ICE_OK, is_ice_set_lite(&s->b, false));
     CALL(IS_ICE_OK, is_ice_set_renomination(&s->b, false));
-    CALL(IS_ICE_OK, is_ice_set_lite_timeout(&s->b, 15 * SECOND));
+    CALL(IS_ICE_OK, is_ice_set_lite_timeout(&s->b, settings.lite_timeout));
     CALL(IS_ICE_OK, is_ice_set_tie_breaker(&s->b, 5));
     CALL(IS_ICE_OK, is_ice_set_max_pairs(&s->b, HOSTS * HOSTS));
     CALL(IS_ICE_OK, is_ice_set_max_discovered(&s->b, LIMIT));
     CALL(IS_ICE_OK, is_ice_set_max_candidates(&s->b, 4 * HOSTS));
-    CALL(IS_ICE_OK, is_ice_set_timing_advance(&s->b, 50 * MS));
-    CALL(IS_ICE_OK, is_ice_set_initial_rto(&s->b, 250 * MS));
-    CALL(IS_ICE_OK, is_ice_set_max_rto(&s->b, 3 * SECOND));
-    CALL(IS_ICE_OK, is_ice_set_max_retransmits(&s->b, 9));
+    CALL(IS_ICE_OK, is_ice_set_timing_advance(&s->b, settings.timing_advance));
+    CALL(IS_ICE_OK, is_ice_set_initial_rto(&s->b, settings.initial_rto));
+    CALL(IS_ICE_OK, is_ice_set_max_rto(&s->b, settings.max_rto));
+    CALL(IS_ICE_OK, is_ice_set_max_retransmits(&s->b, settings.max_retransmits));
     CALL(IS_ICE_OK, is_ice_set_mtu(&s->b, 1150, 1280));
     CALL(IS_ICE_OK, is_ice_skip_pair_ids(&s->b, 1));
     CALL(IS_ICE_OK, is_ice_set_local_preference(&s->b, 1));

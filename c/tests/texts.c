@@ -201,7 +201,7 @@ static void retransmits(void)
     uint64_t time = 7;
     for (size_t sent = 0; sent < sizeof delays / sizeof *delays; sent++)
         HOLD(is_ice_retransmit_delay(250 * ms, 2900 * ms, 11, sent, &time) == IS_ICE_OK && time == delays[sent] * ms);
-    HOLD(is_ice_retransmit_timeout(250 * ms, 2900 * ms, 11, &time) == IS_ICE_OK && time == 26700 * ms); /* is_ice_status of a new agent */
+    HOLD(is_ice_retransmit_timeout(250 * ms, 2900 * ms, 11, &time) == IS_ICE_OK && time == 26700 * ms);
     HOLD(is_ice_retransmit_timeout(250 * ms, 2900 * ms, 0, &time) == IS_ICE_BAD_LIMIT && time == 26700 * ms);
 }
 

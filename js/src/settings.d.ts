@@ -9,7 +9,8 @@ export interface KindPreferences {
   relayed: number;
 }
 
-/** The settings of an `IceAgent`: each can be set at any time. */
+/** The settings of an `IceAgent`: each can be set at any time. What those of `AgentSettings` are at first is in the table "Settings" of
+ *  docs/API.md, and `modernSettings` returns it. */
 export class Settings {
   /** Makes the agent controlling, as on the side that made the offer, or controlled. `LiteStaysControlled`: it is lite. */
   setControlling(controlling: boolean): void;
@@ -26,22 +27,21 @@ export class Settings {
   /** Sets the number that decides role conflicts: the agent with the greater one keeps its role. A lite agent with `modern` keeps its role
    *  whatever the numbers are. */
   setControlTieBreaker(tieBreaker: bigint | number): void;
-  /** Limits the number of pairs, when pairs are next formed. Default: 100. */
+  /** Limits the number of pairs, when pairs are next formed. */
   setMaxCandidatePairs(count: number): void;
-  /** Limits how many peer-reflexive candidates packets bring of each side. `Infinity`: no limit. Default: 32. */
+  /** Limits how many peer-reflexive candidates packets bring of each side. `Infinity`: no limit. */
   setMaxDiscovered(count: number): void;
-  /** Limits how many candidates of each side there are when one is added. `Infinity`: no limit. Default: 100. */
+  /** Limits how many candidates of each side there are when one is added. `Infinity`: no limit. */
   setMaxCandidates(count: number): void;
-  /** Sets the pacing interval Ta: the least time between two timeouts. With `modern` it is shorter until the agent has a path.
-   *  Default: 50. */
+  /** Sets the pacing interval Ta: the least time between two timeouts. With `modern` it is shorter until the agent has a path. */
   setTimingAdvance(ms: number): void;
-  /** Sets the time from a pair's first check until the second one is due; it doubles with each further check. Default: 250. */
+  /** Sets the time from a pair's first check until the second one is due; it doubles with each further check. */
   setInitialStunRto(ms: number): void;
-  /** Sets the longest time from one check of a pair until the next one is due. Default: 2900. */
+  /** Sets the longest time from one check of a pair until the next one is due. */
   setMaxStunRto(ms: number): void;
-  /** Sets after how many checks in a row without a response a pair is removed. `BadLimit` for 0. Default: 11. */
+  /** Sets after how many checks in a row without a response a pair is removed. `BadLimit` for 0. */
   setMaxStunRetransmits(count: number): void;
-  /** Sets how long a lite agent keeps a pair after the peer's last check on it. Default: 15000. */
+  /** Sets how long a lite agent keeps a pair after the peer's last check on it. */
   setLiteTimeout(ms: number): void;
   /** Sets after what time without an authentic packet the selected path is silent. `Infinity`: it never is. Default: 5000. */
   setSilence(ms: number): void;

@@ -195,7 +195,8 @@ test("numbers and words that no call takes", () => {
 
 test("settings", () => {
   const agent = new IceAgent(newCreds(), 7n);
-  assert.deepEqual([agent.mtu, agent.mtuWarn, agent.maxCandidates, agent.controlling, agent.iceLite], [1150, 1280, 100, false, false]);
+  assert.deepEqual([agent.mtu, agent.mtuWarn, agent.controlling, agent.iceLite], [1150, 1280, false, false]);
+  assert.equal(agent.maxCandidates, modernSettings().maxCandidates);
   agent.setMtu(600, 700);
   agent.setMaxCandidates(Infinity);
   agent.setMaxDiscovered(Infinity);
@@ -222,8 +223,18 @@ test("settings", () => {
 test("settings are those of the header, and one is changed by its name", () => {
   const agent = new IceAgent(), modern = modernSettings(), original = originalSettings();
   assert.deepEqual(agent.settings, modern);
-  assert.deepEqual([modern.modern, modern.maxRto, modern.maxRetransmits, modern.maxDiscovered, modern.maxCandidates], [true, 2900, 11, 32, 100]);
-  assert.deepEqual(original, { ...modern, modern: false, maxRto: 3000, maxRetransmits: 9, maxDiscovered: Infinity, maxCandidates: Infinity });
+  const { maxRto, maxRetransmits } = original;
+  assert.deepEqual(original, { ...modern, modern: false, maxRto, maxRetransmits, maxDiscovered: Infinity, maxCandidates: Infinity });
+  const setters = {
+    timingAdvance: "setTimingAdvance", initialRto: "setInitialStunRto", maxRto: "setMaxStunRto", maxRetransmits: "setMaxStunRetransmits",
+    liteTimeout: "setLiteTimeout", maxPairs: "setMaxCandidatePairs", maxDiscovered: "setMaxDiscovered", maxCandidates: "setMaxCandidates",
+  };
+  for (const [index, [field, setter]] of Object.entries(setters).entries()) {
+    const changed = new IceAgent();
+    changed[setter](index + 1);
+    assert.deepEqual(changed.settings, { ...modern, [field]: index + 1 });
+    changed.close();
+  }
   agent.setSettings({ consentTimeout: 5000.5, strictConsent: true });
   assert.deepEqual(agent.settings, { ...modern, consentTimeout: 5000.5, strictConsent: true });
   agent.setSettings(original);

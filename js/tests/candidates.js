@@ -104,7 +104,7 @@ test("texts of signaling, host addresses, times and preferences without an agent
   assert.throws(() => ice.isInGrammar("word", "a"), TypeError);
   assert.ok(ice.isHostAddress("10.0.0.1") && !ice.isHostAddress("127.0.0.1") && !ice.isHostAddress("fe80::1"));
   const timing = { initialRto: 250, maxRto: 2900, maxRetransmits: 11 }, agent = new IceAgent();
-  assert.equal(ice.retransmitTimeout(timing), agent.iceTimeout);
+  assert.equal(ice.retransmitTimeout(ice.modernSettings()), agent.iceTimeout);
   assert.deepEqual([0, 1, 2, 3, 9].map((sent) => ice.retransmitDelay(timing, sent)), [0, 250, 500, 1000, 2900]);
   assert.throws(() => ice.retransmitTimeout({ ...timing, maxRetransmits: 0 }), { code: "BadLimit" });
   agent.addLocalCandidate(host("10.0.0.1"));

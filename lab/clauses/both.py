@@ -17,7 +17,7 @@ from .fair import is_fair_world
 from .accepted_nominations import ALL, Network, serves_no_request
 from .meet import is_meeting
 from .opening import Proposal, pair_of, proposals, rounds_of, waits
-from .progress import are_nominated_on, has_announced, is_alone
+from .progress import are_nominated_on, is_alone, is_top_selected
 from .staying import may_end_in, may_end_in_rounds
 from .verdict import Verdict, first_that_holds, selects
 
@@ -135,7 +135,7 @@ class Search:
         """Returns the opening that ends once roles are agreed on, and the controlling side selected a path."""
         x = self.n.x
         agreed = bisect_left(range(len(x)), True, key=lambda end: not agree_on_roles(self.n, range(end)))
-        found = x.announces(self.peer)
+        found = x.selections(self.peer)
         if agreed == len(x) or x.state(agreed, self.side).controlling or not found:
             return None
         return Opening(agreed, None, 0, max(agreed, found[0] + 1))
@@ -176,7 +176,7 @@ def both_selected_by(n: Network, c: Choice) -> int | None:
     """Returns when both sides had selected a path: the controlling one by the end of the opening, in it if it has rounds there; the other
     one by the last call."""
     leads, own = selects(n.x, other(c.side), range(0 if c.pair is None else c.opening, c.start)), selects(n.x, c.side, range(c.moment + 1))
-    if leads is None or own is None or not has_announced(n.x.state(c.moment + 1, c.side)):
+    if leads is None or own is None or not is_top_selected(n.x.state(c.moment + 1, c.side)):
         return None
     return max(leads, own)
 

@@ -74,49 +74,67 @@ def lets_call(now: int, poll: Poll) -> bool:
     return poll.deadline is None or poll.deadline <= now
 
 
+class Least:
+    """The least value of any part of a row."""
+
+    def __init__(self, row: list[int]) -> None:
+        self.rows = [row]
+        while 2 ** len(self.rows) <= len(row):
+            last, half = self.rows[-1], 2 ** (len(self.rows) - 1)
+            self.rows.append([min(pair) for pair in zip(last, last[half:])])
+
+    def of(self, first: int, after: int) -> int:
+        """Returns that of the part from the first place to before the other one; the greatest time there is if it is empty."""
+        if after <= first:
+            return MAX
+        power = (after - first).bit_length() - 1
+        return min(self.rows[power][first], self.rows[power][after - (1 << power)])
+
+
 class Caller:
-    """What one side called, and what its agent sent."""
+    """What one side called, and what its agent sent. Its times do not run back. A span begins at `start`, and `end` is not in it."""
 
     def __init__(self, x: Execution, side: str) -> None:
         self.side, self.timeouts, self.checks, self.polls = side, x.timeouts[side], check_times(x, side), own_polls(x, side)
         self.is_new = is_new_agent(x.state(0, side))
-        self.patience = self._patience(x)
-        self._timed = sorted((p for p in self.polls if p.agent.last is not None), key=lambda p: p.agent.last or 0)
-        self._lasts = [p.agent.last or 0 for p in self._timed]
-        self._paces = _least_from([p.pace for p in self._timed])
-        self._advances = _least_from([p.agent.advance for p in self._timed])
-        self._early = max((last for p, last in zip(self._timed, self._lasts) if p.agent.is_early(last)), default=-1)
+        self._calls = [x.now(at) for at in self.timeouts]
+        self._gaps = Least([MAX, *(self._gap(before, at, x) for before, at in zip(self.timeouts, self.timeouts[1:]))])
+        timed = sorted((p for p in self.polls if p.agent.last is not None), key=lambda p: p.agent.last or 0)
+        self._lasts = [p.agent.last or 0 for p in timed]
+        self._paces = Least([p.pace for p in timed])
+        self._advances = Least([p.agent.advance for p in timed])
+        self._late = Least([not p.agent.is_early(last) for p, last in zip(timed, self._lasts)])
 
-    def _patience(self, x: Execution) -> int:
-        """Returns the greatest gap with which the caller is patient (`IsPatient`): the least one between two `handle_timeout` calls, of
-        which the later one is no call that a poll between both lets it make (`MayCallAt`)."""
-        gap = MAX
-        for before, at in zip(self.timeouts, self.timeouts[1:]):
-            now, first = x.now(at), bisect_left(self.polls, before, key=lambda p: p.at)
-            between = self.polls[first:bisect_left(self.polls, at, key=lambda p: p.at)]
-            if not any(lets_call(now, p) for p in between):
-                gap = min(gap, now - x.now(before))
-        return gap
+    def _gap(self, before: int, at: int, x: Execution) -> int:
+        """Returns how long the `handle_timeout` call at this index comes after the one before, or any if a poll between both lets it come
+        (`MayCallAt`)."""
+        now, first = x.now(at), bisect_left(self.polls, before, key=lambda p: p.at)
+        between = self.polls[first:bisect_left(self.polls, at, key=lambda p: p.at)]
+        return MAX if any(lets_call(now, p) for p in between) else now - x.now(before)
 
-    def least_pace(self, start: int) -> int:
-        """Returns the least pacing interval at a poll after a `handle_timeout` at this time or later (`IsPacedAt`)."""
-        return self._paces[bisect_left(self._lasts, start)]
+    def patience(self, start: int, end: int) -> int:
+        """Returns the greatest gap with which the caller is patient in the span (`IsPatient`): the first call in it is free."""
+        return self._gaps.of(bisect_left(self._calls, start) + 1, bisect_left(self._calls, end))
 
-    def least_advance(self, start: int) -> int:
-        """Returns the least one that is set then (`IsSlowAt`)."""
-        return self._advances[bisect_left(self._lasts, start)]
+    def _polls_in(self, start: int, end: int) -> tuple[int, int]:
+        """Returns the places of the polls after a `handle_timeout` in the span."""
+        return bisect_left(self._lasts, start), bisect_left(self._lasts, end)
 
-    def is_late(self, start: int) -> bool:
-        """Whether the agent is early at none of these polls (`IsLateAt`)."""
-        return self._early < start
+    def least_pace(self, start: int, end: int) -> int:
+        """Returns the least pacing interval at one of these polls (`IsPacedAt`)."""
+        return self._paces.of(*self._polls_in(start, end))
 
+    def least_advance(self, start: int, end: int) -> int:
+        """Returns the least one that is set at one of them (`IsSlowAt`)."""
+        return self._advances.of(*self._polls_in(start, end))
 
-def _least_from(values: list[int]) -> list[int]:
-    """Returns for each place the least of the values from there on."""
-    found = [MAX]
-    for value in reversed(values):
-        found.append(min(found[-1], value))
-    return found[::-1]
+    def is_late(self, start: int, end: int) -> bool:
+        """Whether the agent is early at none of them (`IsLateAt`)."""
+        return self._late.of(*self._polls_in(start, end)) > 0
+
+    def pace(self, start: int, end: int) -> int:
+        """Returns the longest interval with which the caller is patient in the span, and below which no pacing interval falls."""
+        return min(self.patience(start, end), self.least_pace(start, end))
 
 
 # ---- `timeouts_check`
@@ -145,10 +163,6 @@ class Choice:
     caller: Caller
     start: int
 
-    def pace(self) -> int:
-        """Returns the longest interval with which the preconditions hold."""
-        return min(self.caller.patience, self.caller.least_pace(self.start))
-
 
 def choices(x: Execution) -> Iterator[Choice]:
     """Proposes each check of each side."""
@@ -158,17 +172,23 @@ def choices(x: Execution) -> Iterator[Choice]:
 
 
 def lacking_pace(c: Choice) -> Lacks:
-    """Returns the preconditions of `ChecksArePaced` that do not hold, with the longest interval; `IsPatient` and `IsPacedAt` choose it."""
-    return lacks(IsNewlyCreated=c.caller.is_new, pace=c.pace() > 0)
+    """Returns the preconditions of `ChecksArePaced` that do not hold of the shortest span; `closest_span` chooses the longer ones, and for
+    each the longest interval of which `IsPatient` and `IsPacedAt` hold."""
+    return lacks(IsNewlyCreated=c.caller.is_new, pace=c.caller.pace(c.start, c.start + 1) > 0)
 
 
 def closest_span(c: Choice) -> Verdict:
-    """Returns the span from the time on in which the number of checks is closest to that of the intervals that begin in it, or above."""
-    times, pace = c.caller.checks, c.pace()
+    """Returns the span from the time on in which the number of checks is closest to that of the intervals that begin in it, or above. Each
+    ends with a check."""
+    times = c.caller.checks
     first = bisect_left(times, c.start)
     found = counted(c.start, c.start, 0, 1)
     for place in range(first, len(times)):
-        count, limit = place - first + 1, begun_in(times[place] - c.start + 1, pace)
+        end = times[place] + 1
+        pace = c.caller.pace(c.start, end)
+        if pace <= 0:
+            break
+        count, limit = place - first + 1, begun_in(end - c.start, pace)
         if count > limit:
             return counted(c.start, times[place], count, limit)
         if place > first and count * (found.limit or 1) > found.count * limit:
@@ -182,10 +202,11 @@ def checks_are_paced(x: Execution) -> Verdict:
 
 
 def lacking_few(c: Choice, gap: int, late: bool) -> Lacks:
-    """Returns the preconditions of one half of `SecondsHaveFewChecks` that do not hold."""
-    is_slow, is_patient = DEFAULT_ADVANCE <= c.caller.least_advance(c.start), gap <= c.caller.patience
-    is_late = not late or c.caller.is_late(c.start)
-    return lacks(IsNewlyCreated=c.caller.is_new, IsSlowAt=is_slow, IsPatient=is_patient, IsLateAt=is_late)
+    """Returns the preconditions of one half of `SecondsHaveFewChecks` that do not hold in the second from the time on."""
+    caller, start, end = c.caller, c.start, c.start + SECOND
+    is_slow, is_patient = DEFAULT_ADVANCE <= caller.least_advance(start, end), gap <= caller.patience(start, end)
+    is_late = not late or caller.is_late(start, end)
+    return lacks(IsNewlyCreated=caller.is_new, IsSlowAt=is_slow, IsPatient=is_patient, IsLateAt=is_late)
 
 
 def in_second(c: Choice, limit: int) -> Verdict:
@@ -196,10 +217,10 @@ def in_second(c: Choice, limit: int) -> Verdict:
 
 
 def seconds_have_few(x: Execution) -> Verdict:
-    """Returns the second with the most checks of a caller that is patient with 5 ms: it has at most 200 (`SecondsHaveFewChecks`)."""
+    """Returns the second with the most checks in which the caller is patient with 5 ms: it has at most 200 (`SecondsHaveFewChecks`)."""
     return closest_of_all(choices(x), lambda c: lacking_few(c, LEAST_ADVANCE, False), lambda c: in_second(c, MOST), "check")
 
 
 def late_seconds_have_few(x: Execution) -> Verdict:
-    """Returns that of a caller that is patient with 50 ms, once the agent is never early: it has at most 20 (`SecondsHaveFewChecks`)."""
+    """Returns that in which it is patient with 50 ms, and the agent is not early: it has at most 20 (`SecondsHaveFewChecks`)."""
     return closest_of_all(choices(x), lambda c: lacking_few(c, DEFAULT_ADVANCE, True), lambda c: in_second(c, MOST_LATE), "check")

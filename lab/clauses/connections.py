@@ -20,7 +20,7 @@ from .verdict import C, C_co
 
 def selections_of(x: Execution, side: str, part: range) -> int:
     """Returns how many calls of the side select a path (`selections_of`)."""
-    found = x.announces(side)
+    found = x.selections(side)
     return bisect_left(found, part.stop) - bisect_left(found, part.start)
 
 

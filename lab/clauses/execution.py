@@ -134,9 +134,9 @@ class Execution:
         """Returns the indices at which the side accepts a success response (`BringsSuccess`)."""
         return self.indices(("successes", side), lambda s: s.entry.side == side and brings_success(s))
 
-    def announces(self, side: str) -> list[int]:
+    def selections(self, side: str) -> list[int]:
         """Returns the indices at which the side selects a path (`SelectsPath`)."""
-        return self.indices(("announces", side), lambda s: s.entry.side == side and bool(s.selected))
+        return self.indices(("selections", side), lambda s: s.entry.side == side and bool(s.selected))
 
     @cached_property
     def roles(self) -> list[str]:

@@ -12,7 +12,7 @@ from ..scenario import SIDES
 from .execution import Lacks, lacks
 from .fair import are_new_agents
 from .accepted_nominations import SUCCESS, Handed, Network, is_asked_over, is_controlled, is_exchanged_over, serves_no_request
-from .progress import has_announced, is_alone
+from .progress import is_alone, is_top_selected
 from .staying import may_end_in
 from .verdict import Verdict, first_that_holds, selects
 
@@ -82,7 +82,7 @@ def choices(n: Network) -> Iterator[Choice]:
 
 def selected_by(n: Network, side: str, moment: int) -> int | None:
     """Returns when the side first selected a path, if the pair that it selected last is a greatest one after its `handle_timeout` call."""
-    return selects(n.x, side, range(moment + 1)) if has_announced(n.x.state(moment + 1, side)) else None
+    return selects(n.x, side, range(moment + 1)) if is_top_selected(n.x.state(moment + 1, side)) else None
 
 
 def find(n: Network) -> Verdict:

@@ -110,7 +110,7 @@ def are_nominated_on(agent: Agent, path: Path) -> bool:
     return all(agent.stays_nominated(p) for p in agent.on(path))
 
 
-def has_announced(agent: Agent) -> bool:
+def is_top_selected(agent: Agent) -> bool:
     """Whether the selected pair is eligible, and the chosen one or, unless the agent follows its peer, as great (`HasSelected`)."""
     top = agent.chosen()
     return top is not None and agent.remains(top) and any(p.number == agent.selected and agent.is_eligible(p) for p in agent.pairs)

@@ -50,7 +50,7 @@ def limit(n: Network, c: Choice) -> int | None:
 
 def selected_at(x: Execution, c: Choice) -> int | None:
     """Returns when the first round begins in which the side selects a path (`SelectsBy`)."""
-    return min((r.now for r in c.rounds(x) if any_in(x.announces(c.side), r.behind)), default=None)
+    return min((r.now for r in c.rounds(x) if any_in(x.selections(c.side), r.behind)), default=None)
 
 
 # ---- the preconditions

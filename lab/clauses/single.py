@@ -120,10 +120,10 @@ def by_end(x: Execution, choices: Iterable[Choice]) -> list[Choice]:
 
 def verdict_of(x: Execution, c: Choice) -> Verdict:
     """Returns the end of a choice, and when a path was selected in it."""
-    return Verdict("", x.time(c.first), x.time(c.end - 1), announces_in(x, c), len(c.rounds(x)))
+    return Verdict("", x.time(c.first), x.time(c.end - 1), selected_in(x, c), len(c.rounds(x)))
 
 
-def announces_in(x: Execution, c: Choice) -> int | None:
+def selected_in(x: Execution, c: Choice) -> int | None:
     """Returns when an accepted success response of the segment selects a path (`SelectsPathIn`)."""
-    announcing = [at for at in x.successes(c.side) if at in range(c.first, c.end) and x.steps[at].selected]
-    return x.time(announcing[0]) if announcing else None
+    found = [at for at in x.successes(c.side) if at in range(c.first, c.end) and x.steps[at].selected]
+    return x.time(found[0]) if found else None

@@ -62,8 +62,8 @@ def may_end_by_joining(joined: Joined[Agent] | None, pair: Pair) -> bool:
 
 
 def is_given_up(now: int, agent: Agent, pair: Pair) -> bool:
-    """Whether the pair's checks were not answered in time (`is_expired`)."""
-    return not pair.stays(now, agent.timing, agent.lite)
+    """Whether the pair's checks were not answered in time, or it is the selected one and gives way (`is_expired`, `gives_way`)."""
+    return not pair.stays(now, agent.timing, agent.lite) or agent.gives_way(pair, now)
 
 
 def may_end(step: Step, pair: Pair) -> bool:

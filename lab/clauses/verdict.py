@@ -95,5 +95,5 @@ def first_in(indices: list[int], part: range) -> int | None:
 
 def selects(x: Execution, side: str, part: range) -> int | None:
     """Returns when the side first selects a path in the segment (`SelectsPath`)."""
-    at = first_in(x.announces(side), part)
+    at = first_in(x.selections(side), part)
     return None if at is None else x.time(at)

@@ -22,12 +22,17 @@ USERNAME, XOR_MAPPED_ADDRESS, PRIORITY, USE_CANDIDATE, ICE_CONTROLLED, ICE_CONTR
 TYPES = {"request": 0x0001, "success": 0x0101, "failure": 0x0111}
 LINE = "candidate:1 1 udp {} {} {} typ {}"
 TO_A, TO_B = (B, A), (A, B)  # the paths of b and of a
-# The numbers of the model, with either profile.
+# The numbers from which the times in tests follow, whatever a new agent has, with either profile.
 ORIGINAL = Settings(
     profile=Profile.ORIGINAL, timing_advance=50 * MILLISECOND, initial_rto=250 * MILLISECOND, max_rto=3 * SECOND, max_retransmits=9,
     lite_timeout=15 * SECOND, consent=Consent(), max_pairs=100, max_discovered=32, max_candidates=100, renomination=False)
 MODERN = replace(ORIGINAL, profile=Profile.MODERN)
 PROFILES = (ORIGINAL, MODERN)
+
+
+def timing(modern: bool = False) -> Timing:
+    """Returns the timing of these settings."""
+    return Timing(ORIGINAL.initial_rto, ORIGINAL.max_rto, ORIGINAL.max_retransmits, ORIGINAL.lite_timeout, modern)
 
 
 def at(time: float) -> int:
@@ -60,7 +65,7 @@ class Story:
             creds = IceCreds(side * 4, side * 22)
             self.log.sides[side] = Beginning(creds, tie, role, settings.profile is Profile.MODERN)
             self.agents[side] = Agent(creds, tie, role, timing=Timing(modern=settings.profile is Profile.MODERN))
-            if settings not in PROFILES:
+            if self.agents[side].with_settings(settings) != self.agents[side]:
                 self.set(side, "set_settings", settings)
         for side, first, count in zip("ab", (A, B), hosts):
             for n in range(count):

@@ -11,7 +11,7 @@ from lab.clauses.check_rate import DEFAULT_ADVANCE, Caller, Choice
 from lab.clauses.execution import MAX, Execution, Lacks
 from lab.clock import MILLISECOND, SECOND
 from lab.replay import replay
-from lab.tests.stories import MODERN, Story
+from lab.tests.stories import MODERN, Story, at
 from lab.tests.test_theorems import altered
 
 PACED = tuple(range(0, 1000, 50))  # as fast as the default pacing interval lets
@@ -31,6 +31,11 @@ def many(*times: float) -> Story:
     return story
 
 
+def patience(story: Story, start: float = 0, end: float = 1000) -> int:
+    """The gap with which the caller of A is patient from one time to before another one, in milliseconds."""
+    return Caller(story.network().x, "a").patience(at(start), at(end))
+
+
 def choices(x: Execution) -> list[Choice]:
     return [c for c in check_rate.choices(x) if c.caller.side == "a"]
 
@@ -48,8 +53,7 @@ class Calls(unittest.TestCase):
         story.passes("a", 0, 50)  # the only pair is not due at 50
         self.assertEqual(check_rate.timeouts_check(story.network().x).count, 1)
         early = [e for e in story.log.entries if e.call == "poll_transmit"]
-        at = story.log.entries.index(early[0])
-        story.log.entries.insert(at, early[0])
+        story.log.entries.insert(story.log.entries.index(early[0]), early[0])
         self.assertTrue(check_rate.timeouts_check(Execution(replay(story.log))).is_broken)
 
 
@@ -59,17 +63,22 @@ class Paced(unittest.TestCase):
         self.assertEqual([*found, check_rate.begun_in(SECOND, LEAST_ADVANCE)], [1, 1, 2, 20, 200])
 
     def test_who_goes_by_poll_timeout_is_patient_with_any_gap(self) -> None:
-        self.assertEqual(Caller(many(*PACED).network().x, "a").patience, MAX)
+        self.assertEqual(patience(many(*PACED)), MAX)
 
     def test_who_calls_sooner_is_patient_with_the_gap(self) -> None:
-        self.assertEqual(Caller(many(0, 50, 80, 130).network().x, "a").patience, 30 * MILLISECOND)
-        self.assertEqual(Caller(many(0, 50, 40).network().x, "a").patience, -10 * MILLISECOND)
+        self.assertEqual(patience(many(0, 50, 80, 130)), 30 * MILLISECOND)
+
+    def test_the_first_call_of_a_span_is_free_and_so_are_those_outside(self) -> None:
+        story = many(0, 3, 53, 103, 105)
+        self.assertEqual([patience(story, *span) for span in ((0, 3), (0, 4), (3, 104), (3, 105), (3, 106), (104, 106))],
+                         [MAX, 3 * MILLISECOND, MAX, MAX, 2 * MILLISECOND, MAX])
 
     def test_of_a_modern_agent_the_own_polls_count(self) -> None:
         story = Story(hosts=(5, 5), settings=MODERN)
         story.passes("a", 0, 10, 14)
         caller = Caller(story.network().x, "a")
-        self.assertEqual((caller.patience, caller.least_pace(caller.checks[0])), (4 * MILLISECOND, 10 * MILLISECOND))
+        first = caller.checks[0]
+        self.assertEqual((patience(story), caller.least_pace(first, first + SECOND)), (4 * MILLISECOND, 10 * MILLISECOND))
 
     def test_a_modern_callers_soon(self) -> None:
         story = Story(hosts=(5, 5), settings=MODERN)
@@ -78,7 +87,7 @@ class Paced(unittest.TestCase):
         assert story.agents["a"].deadline is not None
         self.assertEqual(story.agents["a"].deadline - story.log.entries[0].time, 5 * MILLISECOND)
         story.passes("a", 5)
-        self.assertEqual(Caller(story.network().x, "a").patience, 5 * MILLISECOND)
+        self.assertEqual(patience(story), 5 * MILLISECOND)
 
     def test_the_closest_span(self) -> None:
         found = check_rate.checks_are_paced(many(*PACED).network().x)
@@ -142,8 +151,7 @@ class Sessions(unittest.TestCase):
             for changes in ((), ('a.profile="original"', 'b.profile="original"', 'connects="sometimes"')):
                 with self.subTest(scenario=name, changes=changes):
                     found = self.played(name, *changes)
-                    missing = {clause: v.failed for clause, v in found.verdicts.items() if not v.held}
-                    self.assertLessEqual(set(missing), set() if changes else {"seconds, late"}, missing)
+                    self.assertEqual({clause: v.failed for clause, v in found.verdicts.items() if not v.held}, {})
                     self.assertFalse(found.differs)
 
     def test_the_tables(self) -> None:

@@ -201,7 +201,7 @@ class Numbered(unittest.TestCase):
 
     def test_with_numbers(self) -> None:
         n = self.story(7, 10).network()
-        self.assertEqual([n.x.time(at) for at in n.x.announces("b")], [at(131), at(540)])
+        self.assertEqual([n.x.time(at) for at in n.x.selections("b")], [at(131), at(540)])
         self.assertEqual(connect.lacking(n, self.choice(n)), [])
         found = connect.find(n)
         self.assertEqual((found.held, found.is_broken), (True, False))

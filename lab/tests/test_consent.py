@@ -5,12 +5,14 @@ from dataclasses import replace
 
 from is_ice import IceConnectionState, IceConnectionStateChange, NominatedSend, Protocol, Transmit
 from lab.clock import BEGINNING, MILLISECOND, SECOND, nanoseconds
-from lab.consent import CUT_S, SPREAD_S, Cell, Departure, Figures, Found, at_random, cells, departures, fault_of, gather, play, table
+from lab.consent import (CUT_S, SPREAD_S, Cell, Departure, Figures, Found, at_random, cells, departures, fault_of, gather, play, table,
+                         timeout)
 from lab.log import Entry, Log
 from lab.pool import Fault
 from lab.tests.stories import A, B, message
 
-CONSENT = 29_600 * MILLISECOND
+CONSENT = timeout()
+CONSENT_MS = CONSENT / MILLISECOND
 
 
 def at(milliseconds: float) -> int:
@@ -85,7 +87,7 @@ class Departures(unittest.TestCase):
 
     def test_the_end_of_consent(self) -> None:
         late = CONSENT + 50 * MILLISECOND
-        ends = [Departure("a", 0, at(0), heard).end for heard in (None, at(14_600), at(14_601))]
+        ends = [Departure("a", 0, at(0), heard).end for heard in (None, at(CONSENT_MS - 15_000), at(CONSENT_MS - 14_999))]
         self.assertEqual(ends, [at(0) + late, at(0) + late, at(1) + late])
 
     def test_faults(self) -> None:
@@ -94,14 +96,17 @@ class Departures(unittest.TestCase):
         self.assertIsNone(fault_of(found))
         self.assertEqual(fault_of(found[:1]), "b left no path")
         self.assertEqual(fault_of([found[0], replace(found[1], at=end + MILLISECOND)]),
-                         "b left a path 29.651 s after its last answered check: 1.000 ms after the end of consent")
+                         f"b left a path {CONSENT_MS / 1000 + 0.051:.3f} s after its last answered check: "
+                         "1.000 ms after the end of consent")
 
 
 class Tables(unittest.TestCase):
     def test_columns(self) -> None:
+        end = CONSENT_MS / 1000
         figures = Figures([Departure("a", at(20_000), at(0), None), Departure("a", at(40_000), at(0), at(25_000)),
-                           Departure("b", at(29_600), at(0), None)])
-        self.assertEqual((figures.columns(), figures.columns("b")), (["29.60 / 40.00", "40.05"], ["29.60 / 29.60", "29.65"]))
+                           Departure("b", at(CONSENT_MS), at(0), None)])
+        self.assertEqual((figures.columns(), figures.columns("b")), (
+            [f"{end:.2f} / 40.00", "40.05"], [f"{end:.2f} / {end:.2f}", f"{end + 0.05:.2f}"]))
         self.assertEqual((figures.after_heard("a"), figures.after_heard("b")), ("15.00 / 15.00", "-"))
         self.assertEqual(figures.margin(), 50 * MILLISECOND)
 

@@ -8,7 +8,7 @@ from lab.clauses.execution import MAX, is_in_round
 from lab.clauses.fair import is_fair_world
 from lab.clauses.accepted_nominations import (is_exchanged_over, is_reached_by, is_returned, is_returned_in_time,
                                               know_each_other, stays_pending)
-from lab.clauses.progress import (are_as_many_as_due, awaits, has_announced, is_in_line, is_paced, is_unanswered, nominations_ahead,
+from lab.clauses.progress import (are_as_many_as_due, awaits, is_in_line, is_paced, is_top_selected, is_unanswered, nominations_ahead,
                                   suffice_for_due, suffices, suffices_from_due)
 from lab.clauses.selections import are_each_polled, are_enough, are_kept, is_answered_in_time, makes_in_round
 from lab.clauses.single import are_plain
@@ -397,12 +397,12 @@ class Announced(unittest.TestCase):
         story = Story(hosts=(2, 1))
         story.exchange("a", 0)
         agent = story.agents["a"]
-        self.assertTrue(has_announced(agent))
+        self.assertTrue(is_top_selected(agent))
         greater = replace(agent.pairs[0], number=9, priority=1 << 64, state="succeeded")
-        self.assertFalse(has_announced(replace(agent, pairs=(*agent.pairs, greater))))
-        self.assertFalse(has_announced(replace(agent, selected=None)))
+        self.assertFalse(is_top_selected(replace(agent, pairs=(*agent.pairs, greater))))
+        self.assertFalse(is_top_selected(replace(agent, selected=None)))
         alike = replace(agent.chosen(), number=9, state="waiting")
-        self.assertFalse(has_announced(replace(agent, pairs=(*agent.pairs, alike), selected=9)))
+        self.assertFalse(is_top_selected(replace(agent, pairs=(*agent.pairs, alike), selected=9)))
 
 
 if __name__ == "__main__":

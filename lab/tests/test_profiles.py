@@ -5,15 +5,15 @@ import unittest
 from dataclasses import replace
 
 import is_ice
-from is_ice import Consent, Profile, Transmit
+from is_ice import Consent, IceCreds, Profile, Transmit
 from lab import endpoint, hosts, profiles
-from lab.clock import BEGINNING, MILLISECOND, SECOND
+from lab.clock import BEGINNING, MILLISECOND
 from lab.hosts import Cell, Found
 from lab.kinds import is_brought
 from lab.model import Agent
 from lab.pairs import Check, Pair, Path, Timing, early_delay
 from lab.scenario import AgentSettings
-from lab.tests.stories import LINE, MODERN, ORIGINAL, A, B, Story, at
+from lab.tests.stories import LINE, MODERN, ORIGINAL, A, B, Story, at, timing
 
 SECOND_A, THIRD_A = A._replace(port=A.port + 1), A._replace(port=A.port + 2)
 OUTSIDE = B._replace(ip="203.0.113.9")
@@ -129,7 +129,7 @@ class Ahead(unittest.TestCase):
         self.assertFalse(story.agents["a"].has_first(at(120)))
         self.asked(story, 120, (B, THIRD_A))
         self.assertTrue(story.agents["a"].has_first(at(120)))
-        self.assertFalse(replace(story.agents["a"], timing=Timing()).has_first(at(120)))
+        self.assertFalse(replace(story.agents["a"], timing=timing()).has_first(at(120)))
         self.assertEqual(path(story.timeout("a", 130)), (THIRD_A, B))
         self.assertEqual([story.agents["a"].has_first(at(time)) for time in (229, 230)], [False, True])
         story.session()
@@ -151,7 +151,7 @@ class Ahead(unittest.TestCase):
         agent = story.agents["a"]
         selected = next(p for p in agent.pairs if p.number == agent.selected)
         self.assertEqual([agent.goes_first(p) for p in agent.pairs], [p is selected for p in agent.pairs])
-        self.assertFalse(replace(agent, timing=Timing()).goes_first(selected))
+        self.assertFalse(replace(agent, timing=timing()).goes_first(selected))
         due = next(p.due for p in agent.pairs if p is selected)
         assert due is not None
         self.assertEqual([agent.has_first(time) for time in (due - 1, due)], [False, True])
@@ -193,10 +193,10 @@ class Early(unittest.TestCase):
         story.session()
 
     def test_a_nomination_without_response(self) -> None:
-        # The ninth has the delay of the original: that of the agent whose peer is silent, and which sent nine checks.
+        # A response would be late after 60 ms, but checks are at least 100 ms apart; after nine without a response half a second.
         story, time = Story(settings=MODERN), 50
         story.exchange("a", 0)
-        for delay in (100, 100, 200, 350, 350, 350, 350, 350, 3000):
+        for delay in (100,) * 8 + (500,):
             story.passes("a", time, time + 50)
             self.assertEqual(story.agents["a"].pairs[0].due, at(time + delay))
             time += delay
@@ -206,11 +206,11 @@ class Early(unittest.TestCase):
         # Nine checks at 5 s have no response. A whole series takes 21.5 s: from the first check of all, or, if there was a response
         # before, from the first without one. With the original profile the last check counts for 3 s.
         checks = (Check(bytes(12), at(5000), False, True),) * 9
-        pair, timing = Pair(0, 0, 0, 1, checks, sent=12, first_sent=at(0)), Timing(modern=True)
-        for other, by, end in ((pair, timing, at(21_500)), (replace(pair, answers=1), timing, at(26_500)), (pair, Timing(), at(8000))):
+        pair, modern = Pair(0, 0, 0, 1, checks, sent=12, first_sent=at(0)), timing(True)
+        for other, by, end in ((pair, modern, at(21_500)), (replace(pair, answers=1), modern, at(26_500)), (pair, timing(), at(8000))):
             self.assertEqual([other.is_possible(now, by) for now in (end - 1, end)], [True, False])
         for other in (Pair(0, 0, 0, 1, checks[1:], sent=13, first_sent=at(0)), replace(pair, last_request=at(50_000))):
-            self.assertTrue(other.is_possible(at(60_000), timing))
+            self.assertTrue(other.is_possible(at(60_000), modern))
 
     def test_they_end_after_some_time(self) -> None:
         # From 2.5 s on the RTO counts, 3 s. A whole series takes 21.5 s, so the check before that is the last one.
@@ -225,13 +225,13 @@ class Early(unittest.TestCase):
 
     def test_the_number_of_stored_checks_does_not_count(self) -> None:
         pair = Pair(0, 0, 0, 1, (Check(bytes(12), at(5000), False, True),), sent=12, first_sent=at(4000))
-        found = [replace(pair, sent=sent, answers=answers, nomination="attempt").due_at(at(5000), Timing(modern=True))
+        found = [replace(pair, sent=sent, answers=answers, nomination="attempt").due_at(at(5000), timing(True))
                  for sent, answers in ((2, 0), (3, 0), (4, 0), (4, 1))]
         self.assertEqual(found, [at(5100), at(5200), at(5350), at(5100)])
 
     def test_again_after_the_first_request(self) -> None:
         pair = Pair(0, 0, 0, 1, (Check(bytes(12), at(9000), False, True),), sent=12, first_sent=at(0), requests=1)
-        found = [replace(pair, first_after_request=again).due_at(at(9000), Timing(modern=True))
+        found = [replace(pair, first_after_request=again).due_at(at(9000), timing(True))
                  for again in (None, at(9000), at(6501), at(6500))]
         self.assertEqual(found, [at(9250), at(9350), at(9350), at(9250)])
 
@@ -330,7 +330,7 @@ class Settings(unittest.TestCase):
     def test_an_agent_with_settings(self) -> None:
         agent = Story().agents["a"]
         modern = agent.with_settings(MODERN)
-        self.assertEqual((modern.timing, modern.modern), (Timing(modern=True), True))
+        self.assertEqual((modern.timing, modern.modern), (timing(True), True))
         self.assertEqual(modern.with_settings(ORIGINAL), agent)
         self.assertIsInstance(modern, Agent)
         changed = replace(MODERN, timing_advance=1, initial_rto=2, max_rto=3, max_retransmits=4, lite_timeout=5, consent=Consent(6, True),
@@ -350,22 +350,25 @@ class Settings(unittest.TestCase):
 
     def test_how_long_a_response_keeps_a_pair(self) -> None:
         # the longest RTO and a whole series: 3 s and 21.5 s, or 2.9 s and 26.7 s
-        self.assertIsNone(Timing().consent)
-        for timing, expected in ((Timing(modern=True), 24_500), (Timing(greatest=2900 * MILLISECOND, retransmits=11, modern=True), 29_600),
-                                 (Timing(modern=True, limit=MILLISECOND), 1)):
-            assert timing.consent is not None
-            self.assertEqual((timing.consent.timeout, timing.consent.strict), (expected * MILLISECOND, False))
-        strict = replace(Timing(modern=True), strict=True).consent
+        self.assertIsNone(timing().consent)
+        for given, expected in ((timing(True), 24_500), (replace(timing(True), greatest=2900 * MILLISECOND, retransmits=11), 29_600),
+                                (replace(timing(True), limit=MILLISECOND), 1)):
+            assert given.consent is not None
+            self.assertEqual((given.consent.timeout, given.consent.strict), (expected * MILLISECOND, False))
+        strict = replace(timing(True), strict=True).consent
         assert strict is not None
         self.assertTrue(strict.strict)
 
     def test_those_of_the_library(self) -> None:
-        agent = Story().agents["a"]
-        original, modern = (agent.with_settings(its) for its in (is_ice.Settings.original(), is_ice.Settings.modern()))
-        self.assertEqual(original, replace(agent, max_discovered=None))
-        self.assertEqual(modern, replace(agent, timing=Timing(greatest=2900 * MILLISECOND, retransmits=11, modern=True)))
-        self.assertEqual(modern.timing.consent and modern.timing.consent.timeout, 29_600 * MILLISECOND)
-        self.assertEqual(modern.timing.lite, 15 * SECOND)
+        agent = Agent(IceCreds("aaaa", "a" * 22), 1)
+        for settings in (is_ice.Settings.original(), is_ice.Settings.modern()):
+            made, library = agent.with_settings(settings), is_ice.IceAgent()
+            library.set_settings(settings)
+            self.assertEqual(made.timing.timeout(), library.ice_timeout)
+            self.assertEqual((made.timing.lite, made.advance, made.max_pairs, made.max_discovered, made.modern), (
+                settings.lite_timeout, settings.timing_advance, settings.max_pairs, settings.max_discovered,
+                settings.profile is is_ice.Profile.MODERN))
+            library.close()
 
 
 class Tables(unittest.TestCase):

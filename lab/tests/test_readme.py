@@ -52,7 +52,7 @@ class Readme(unittest.TestCase):
                      "consent_holds", "consent_ends_in_time", "valid_have_consented", "connected_have_consent", "connected_are_answered",
                      "leaves_in_time", "completed_nominations_are_selected", "courses_select_in_time", "states_agree", "reached_in_turn",
                      "run_selects_in_time", "none_starved_in_time", "selects_in_time", "urgent_are_reached", "reached_in_kind",
-                     "served_are_checked_soon", "courses_reach_served", "served_select_in_time", "served_in_time"):
+                     "served_are_checked_soon", "courses_reach_served", "served_select_in_time", "served_in_time", "both_become_connected"):
             self.assertIn(f"| `{path}.py` |", README)
             self.assertTrue(callable(importlib.import_module(f"lab.clauses.{path}").lacking))
 

@@ -21,9 +21,9 @@ export const STORIES = [
     settings: { natA: "none", delay: 60, jitter: 30, loss: 40, seed: 5 }, actions: [],
   },
   {
-    id: "path-dies", title: "The path dies", until: 33000, speed: 1,
-    says: "After two seconds the direct line dies without a word. Nobody is told. Within half a minute consent ends, since no "
-      + "answer came, and both agents move to the relay.",
+    id: "path-dies", title: "The path dies", until: 14000, speed: 1,
+    says: "After two seconds the direct line dies without a word. Nobody is told. Checks on it get no answer, those on the relay do: "
+      + "within seconds both agents move to the relay.",
     settings: { natB: "cone", turnB: true }, actions: [{ at: 2000, do: "cutAB", value: 1 }, { at: 2000, do: "cutBA", value: 1 }],
   },
   {

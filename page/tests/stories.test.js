@@ -46,15 +46,11 @@ test("a bad wire: packets are lost, and both select a path", { skip }, () => {
   assert.ok(session.tracks.filter((it) => it.end?.why === "lost").length >= 5);
 });
 
-test("the path dies: both leave it for the relay when consent ends", { skip }, () => {
+test("the path dies: both leave it for the relay within seconds", { skip }, () => {
   const session = played("path-dies"), [first, second] = selections(session, "A");
   assert.equal(isRelayed(session, first.event), false);
   assert.equal(isRelayed(session, second.event), true);
-  assert.ok(second.at > 29_600 && second.at < 2000 + 29_600 + 1000, String(second.at)); // RFC 7675: within 30 s
-  for (const side of ["A", "B"]) {
-    const [silent] = session.events.filter((it) => it.what === "silent" && it.side === side);
-    assert.ok(silent.at > 5000 && silent.at < 2000 + 5000 + 100, String(silent.at)); // 5 s after the last packet
-  }
+  assert.ok(second.at > 2000 && second.at < 2000 + 10_000, String(second.at)); // consent would end after 29.6 s
   assert.equal(isRelayed(session, connected(session)), true);
 });
 

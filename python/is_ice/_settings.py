@@ -65,11 +65,11 @@ class Setters(Unique):
         done(self._c.is_ice_set_tie_breaker(self._at, in_range(tie_breaker, 64, "a tie-breaker")))
 
     def set_max_candidate_pairs(self, limit: int) -> None:
-        """Limits the number of pairs, when pairs are next formed. Default: 100."""
+        """Limits the number of pairs, when pairs are next formed."""
         done(self._c.is_ice_set_max_pairs(self._at, in_range(limit, 64, "a limit")))
 
     def set_max_discovered(self, limit: int | None) -> None:
-        """Limits how many peer-reflexive candidates packets bring of each side, invalidated ones included. Default: 32.
+        """Limits how many peer-reflexive candidates packets bring of each side, invalidated ones included.
 
         Requests bring remote ones, responses local ones. None: no limit, as in the original.
 
@@ -81,7 +81,7 @@ class Setters(Unique):
         done(self._c.is_ice_set_max_discovered(self._at, limit_of(limit)))
 
     def set_max_candidates(self, limit: int | None) -> None:
-        """Limits how many candidates of each side there are when one is added. Default: 100. None: no limit, as in the original.
+        """Limits how many candidates of each side there are when one is added. None: no limit, as in the original.
 
         If `local_candidates` has as many, `add_local_candidate` raises TooManyCandidates, and so does `add_remote_candidate` for
         `remote_candidates`. So the peer's signaling costs no more memory and time. A lower limit removes no candidate, and packets
@@ -90,25 +90,25 @@ class Setters(Unique):
         done(self._c.is_ice_set_max_candidates(self._at, limit_of(limit)))
 
     def set_timing_advance(self, nanoseconds: int) -> None:
-        """Sets the pacing interval Ta: the least time between two timeouts, each of which sends at most one packet. Default: 50 ms.
+        """Sets the pacing interval Ta: the least time between two timeouts, each of which sends at most one packet.
 
         `Profile.MODERN` shortens it until the agent has a path.
         """
         done(self._c.is_ice_set_timing_advance(self._at, in_range(nanoseconds, 64, "a time")))
 
     def set_initial_stun_rto(self, nanoseconds: int) -> None:
-        """Sets the time from a pair's first check until the second one is due; it doubles with each further check. Default: 250 ms.
+        """Sets the time from a pair's first check until the second one is due; it doubles with each further check.
 
         Early retransmissions (`Profile.MODERN`) have delays of their own.
         """
         done(self._c.is_ice_set_initial_rto(self._at, in_range(nanoseconds, 64, "a time")))
 
     def set_max_stun_rto(self, nanoseconds: int) -> None:
-        """Sets the longest time from one check of a pair until the next one is due. Default: 2.9 s."""
+        """Sets the longest time from one check of a pair until the next one is due."""
         done(self._c.is_ice_set_max_rto(self._at, in_range(nanoseconds, 64, "a time")))
 
     def set_lite_timeout(self, nanoseconds: int) -> None:
-        """Sets how long a lite agent keeps a pair after the peer's last check on it. Default: 15 s.
+        """Sets how long a lite agent keeps a pair after the peer's last check on it.
 
         A pair without any counts as checked at its first timeout. Against Firefox set 30 s: it still sends checks after a cut of
         20 s, and does not nominate again what was removed. Chromium sends none after 15 s without a response. Full agents do not use it.
@@ -120,7 +120,7 @@ class Setters(Unique):
         done(self._c.is_ice_set_silence(self._at, limit_of(nanoseconds)))
 
     def set_max_stun_retransmits(self, limit: int) -> None:
-        """Sets after how many checks in a row without a response a pair is removed. BadLimit for 0. Default: 11.
+        """Sets after how many checks in a row without a response a pair is removed. BadLimit for 0.
 
         A pair is not removed while the last check may still be answered in time, nor within 15 s of a check of the peer on it. With
         early retransmissions (`Profile.MODERN`) it is not removed within `ice_timeout` after the first of its checks without a

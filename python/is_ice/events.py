@@ -192,9 +192,10 @@ class FailedSend:
 class Removal(enum.IntEnum):
     """Why a pair was removed.
 
-    NO_RESPONSE: no check on it had a success response. CONSENT_LOST: one had, and then consent ended (RFC 7675, section 5.1). PEER_SILENT:
-    the agent is lite, and the peer's checks stopped. EVICTED: there were more pairs than the limit. REPLACED: a pair of greater priority
-    on the same path replaced it. INVALIDATED: a candidate of it was invalidated. It prints as `no response`.
+    NO_RESPONSE: no check on it had a success response. CONSENT_LOST: one had, and then consent ended (RFC 7675, section 5.1), or the
+    selected path fell silent while another one worked. PEER_SILENT: the agent is lite, and the peer's checks stopped. EVICTED: there were
+    more pairs than the limit. REPLACED: a pair of greater priority on the same path replaced it. INVALIDATED: a candidate of it was
+    invalidated. It prints as `no response`.
     """
 
     NO_RESPONSE = _abi.REMOVED_NO_RESPONSE

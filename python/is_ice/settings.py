@@ -59,8 +59,8 @@ class Profile(enum.Enum):
 class Consent:
     """How long the response to a check keeps a pair (RFC 7675), with `Profile.MODERN`: so many nanoseconds after the check was sent.
 
-    Without a timeout it is the longest RTO and `ice_timeout` together, which is 29.6 s for a new agent; 0 is the same as None. With
-    `strict` only responses keep a pair, as in RFC 7675; otherwise the peer's checks keep it too, each for 15 s.
+    Without a timeout it is the longest RTO and `ice_timeout` together; 0 is the same as None. With `strict` only responses keep a pair, as
+    in RFC 7675; otherwise the peer's checks keep it too, each for 15 s.
     """
 
     timeout: int | None = None
@@ -71,6 +71,7 @@ class Consent:
 class Settings:
     """All that a program may choose of an agent. Times are in nanoseconds. An agent begins with `Settings.modern()`.
 
+    The table "Settings" of docs/API.md has the numbers of both.
     `dataclasses.replace(agent.settings, max_pairs=50)` changes one setting; so does its setter. A later version may have further fields.
 
     Each field but `profile` and `consent` has a setter that says what it is for: `set_timing_advance`, `set_initial_stun_rto`,

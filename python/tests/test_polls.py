@@ -117,8 +117,7 @@ class Queries(unittest.TestCase):
 
 
 def settled(seed: int) -> Session:
-    """A session without loss after 60 s, when pairs without a response are gone. With loss, a response may move what is due back: the kept
-    time is not, and then a call sends nothing."""
+    """A session without loss after 60 s, when pairs without a response are gone."""
     session = Session(seed, none)
     assert not session.loss
     session.introduce()
@@ -137,7 +136,7 @@ class Waking(unittest.TestCase):
                 requests[side] += contents[:2] == b"\0\1"
             self.assertEqual([len(side) - before for side, before in zip(session.calls, calls)], requests)
             for agent, own in zip(session.agents, requests):
-                self.assertLessEqual(own, len(agent.pairs) * (300 // 2.9 + 2))
+                self.assertLessEqual(own, len(agent.pairs) * (300 * SECOND // agent.settings.max_rto + 2))
                 agent.close()
 
     def test_an_agent_without_the_peers_credentials_is_not_called(self) -> None:

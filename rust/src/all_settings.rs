@@ -8,7 +8,8 @@ use std::time::Duration;
 
 /// All that a program may choose of an agent.
 ///
-/// An agent begins with [`Settings::modern`]. To change one setting, change its field, or call its own setter:
+/// An agent begins with [`Settings::modern`]. The table "Settings" of docs/API.md has the numbers of both. To change one setting, change
+/// its field, or call its own setter:
 ///
 /// ```
 /// let mut agent = is::IceAgent::new(is::IceCreds::new());
@@ -87,8 +88,7 @@ pub enum Profile {
 /// How long the response to a check keeps a pair (RFC 7675), with [`Profile::Modern`].
 #[derive(Clone, Copy, Debug, PartialEq, Eq)]
 pub struct Consent {
-    /// How long after that check was sent. `None`, or a duration of 0: the longest RTO and [`IceAgent::ice_timeout`] together, which is
-    /// 29.6 s for a new agent.
+    /// How long after that check was sent. `None`, or a duration of 0: the longest RTO and [`IceAgent::ice_timeout`] together.
     pub timeout: Option<Duration>,
     /// Whether only responses keep a pair, as in RFC 7675. Otherwise the peer's checks keep it too, each for 15 s.
     pub strict: bool,

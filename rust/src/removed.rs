@@ -11,7 +11,7 @@ use std::fmt;
 pub enum Removal {
     /// No check on it had a success response.
     NoResponse,
-    /// A check had a response once, and then consent ended (RFC 7675, section 5.1).
+    /// A check had a response once, and then consent ended (RFC 7675, section 5.1), or the selected path fell silent while another one worked.
     ConsentLost,
     /// The agent is lite, and the peer's checks stopped.
     PeerSilent,
@@ -110,7 +110,7 @@ pub(crate) fn new_ones<'a>(before: &'a [RemovedPair], listed: &'a [RemovedPair])
 }
 
 impl IceAgent {
-    /// The pairs that were removed since the last restart, and why: the last 32 at most, fewer if memory was short. The one that was
+    /// The pairs that were removed since the last restart, and why: the last 32 at most. The one that was
     /// removed first comes first.
     pub fn removed_pairs(&self) -> impl Iterator<Item = RemovedPair> + '_ {
         let mut count = 0;

@@ -51,13 +51,13 @@ impl IceAgent {
         self.set(|agent| ffi::is_ice_set_tie_breaker(agent, tie_breaker));
     }
 
-    /// Limits the number of pairs, when pairs are next formed. Default: 100.
+    /// Limits the number of pairs, when pairs are next formed.
     pub fn set_max_candidate_pairs(&mut self, max: usize) {
         self.set(|agent| ffi::is_ice_set_max_pairs(agent, max));
     }
 
     /// Limits how many peer-reflexive candidates packets bring of each side, invalidated ones included: requests remote ones,
-    /// responses local ones. Default: 32. `None`: no limit, as in the original.
+    /// responses local ones. `None`: no limit, as in the original.
     ///
     /// Whoever sees one request can replay it from other ports, and each port would become a candidate. At the limit an unknown
     /// sender replaces one without a pair, or its request is dropped without a response. Known and signaled senders are always
@@ -66,7 +66,7 @@ impl IceAgent {
         self.set(|agent| ffi::is_ice_set_max_discovered(agent, max.unwrap_or(usize::MAX)));
     }
 
-    /// Limits how many candidates of each side there are when one is added. Default: 100. `None`: no limit, as in the original.
+    /// Limits how many candidates of each side there are when one is added. `None`: no limit, as in the original.
     ///
     /// If [`IceAgent::local_candidates`] has as many, [`IceAgent::add_local_candidate`] returns `None`; if
     /// [`IceAgent::remote_candidates`] has, [`IceAgent::add_remote_candidate`] leaves the candidate out. So the peer's signaling costs
@@ -95,7 +95,6 @@ impl IceAgent {
     }
 
     /// Lets each nomination replace the ones before, so that both agents select the same path whatever priorities each has.
-    /// Default: false, as in the original.
     ///
     /// Set it at both agents or at none, and before the first packet: agree on it in signaling, by `a=ice-options:renomination`.
     /// A controlling agent then puts USE-CANDIDATE only on checks of the pair that it selected last. A controlled agent selects the
@@ -109,21 +108,21 @@ impl IceAgent {
     }
 
     /// Sets the pacing interval Ta: the least time between two timeouts, each of which sends at most one packet.
-    /// [`Profile::Modern`](crate::Profile::Modern) shortens it until the agent has a path. Default: 50 ms.
+    /// [`Profile::Modern`](crate::Profile::Modern) shortens it until the agent has a path.
     pub fn set_timing_advance(&mut self, duration: Duration) {
         self.set(|agent| ffi::is_ice_set_timing_advance(agent, nanoseconds(duration)));
     }
 
     /// Sets the time from a pair's first check until the second one is due; it doubles with each further check. Early retransmissions
-    /// ([`Profile::Modern`](crate::Profile::Modern)) have delays of their own. Default: 250 ms.
+    /// ([`Profile::Modern`](crate::Profile::Modern)) have delays of their own.
     pub fn set_initial_stun_rto(&mut self, timeout: Duration) {
         self.set(|agent| ffi::is_ice_set_initial_rto(agent, nanoseconds(timeout)));
         logged!(debug, "initial_rto = {timeout:?}");
     }
 
-    /// Sets the longest time from one check of a pair until the next one is due. Default: 2.9 s; in the original 3 s. With few pairs
-    /// and the default values a path that stops responding is removed within 29.6 s of the last check that got a response. However many
-    /// pairs there are, [`Consent`](crate::Consent) ends it by then.
+    /// Sets the longest time from one check of a pair until the next one is due. With few pairs a path that stops responding is removed
+    /// within this time and [`IceAgent::ice_timeout`] of the last check that got a response. However many pairs there are,
+    /// [`Consent`](crate::Consent) ends it by then, if no other timeout is set.
     pub fn set_max_stun_rto(&mut self, timeout: Duration) {
         self.set(|agent| ffi::is_ice_set_max_rto(agent, nanoseconds(timeout)));
         logged!(debug, "max_rto = {timeout:?}");
@@ -131,7 +130,7 @@ impl IceAgent {
 
     /// Sets how long a lite agent keeps a pair after the peer's last check on it. A pair without any counts as checked at its first
     /// timeout. Against Firefox set 30 s: it still sends checks after a cut of 20 s, and does not nominate again what was removed.
-    /// Chromium sends none after 15 s without a response. Full agents do not use it. Default: 15 s.
+    /// Chromium sends none after 15 s without a response. Full agents do not use it.
     pub fn set_lite_timeout(&mut self, timeout: Duration) {
         self.set(|agent| ffi::is_ice_set_lite_timeout(agent, nanoseconds(timeout)));
     }
@@ -139,8 +138,7 @@ impl IceAgent {
     /// Sets after how many checks in a row without a response a pair is removed. It is not removed while the last check may still
     /// be answered in time, nor within 15 s of a check of the peer on it. With early retransmissions
     /// ([`Profile::Modern`](crate::Profile::Modern)) it is not removed within [`IceAgent::ice_timeout`] after the first of its checks
-    /// without a response, either. Default: 11; in the original 9. A limit of 0 is not taken: `try_set_max_stun_retransmits` returns an
-    /// error then.
+    /// without a response, either. A limit of 0 is not taken: `try_set_max_stun_retransmits` returns an error then.
     pub fn set_max_stun_retransmits(&mut self, num: usize) {
         kept(self.try_set_max_stun_retransmits(num));
     }

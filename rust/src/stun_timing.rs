@@ -1,11 +1,13 @@
 //! The times of retransmissions, as a value.
 
+use crate::all_settings::Settings;
 use crate::clock::nanoseconds;
 use crate::error::{CallError, found, or_panic};
 use crate::ffi;
 use std::time::Duration;
 
-/// After how many checks in a row without a response the original removes a pair. An agent here begins with 11.
+/// After how many checks in a row without a response the original removes a pair. An agent here begins with more:
+/// [`Settings::modern`](crate::Settings::modern).
 pub const DEFAULT_MAX_RETRANSMITS: usize = 9;
 
 /// The settings of an agent that say when a check is sent again. An agent takes them by its methods, for example
@@ -33,7 +35,8 @@ pub struct StunTiming {
 
 impl Default for StunTiming {
     fn default() -> StunTiming {
-        StunTiming { initial_rto: Duration::from_millis(250), max_retransmits: DEFAULT_MAX_RETRANSMITS, max_rto: Duration::from_secs(3) }
+        let Settings { initial_rto, max_retransmits, max_rto, .. } = Settings::original();
+        StunTiming { initial_rto, max_retransmits, max_rto }
     }
 }
 

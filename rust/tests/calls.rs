@@ -2,11 +2,11 @@
 
 mod world;
 
-use is::stun::{StunMessage, StunMessageBuilder, StunPacket, TransId};
+use is::stun::{DEFAULT_MAX_RETRANSMITS, StunMessage, StunMessageBuilder, StunPacket, StunTiming, TransId};
 use is::{CallError, Candidate, CandidateKind, CheckState, Consent, IceAgent, IceAgentEvent, IceConnectionState, IceCreds};
 use is::{IceError, KindPreferences, LocalPreference, PreferenceTable, Profile, Protocol, Rejection, Settings, StunError, TcpType};
 use std::time::{Duration, Instant};
-use world::{at, creds, host, ms};
+use world::{at, creds, host, ms, set_delays};
 
 /// A browser's Binding request with MESSAGE-INTEGRITY, for the username fragment p9KA and the password below.
 const REQUEST: &str = "000100502112a4426a756331357578556e6747630006000970394b413a53514174000000c05700040001000a802a00086eeec6e97d18395c\
@@ -118,8 +118,15 @@ fn checks_go_out_after(mut agent: IceAgent, delays: &[u64]) {
     assert!(agent.state().is_disconnected());
 }
 
-/// By the settings of a new agent: when the checks after the first one are due, and then the end. They are repeated early until 2.5 s,
-/// and then each 2.9 s.
+/// A controlling agent with one pair, and the delays of `set_delays`.
+fn timed() -> IceAgent {
+    let mut agent = paired();
+    set_delays(&mut agent);
+    agent
+}
+
+/// By these delays: when the checks after the first one are due, and then the end. They are repeated early until 2.5 s, and then each
+/// 2.9 s.
 fn early_checks(end: u64) -> Vec<u64> {
     [100, 200].into_iter().chain((400..=2500).step_by(350)).chain((5400..=end).step_by(2900)).collect()
 }
@@ -134,11 +141,11 @@ fn set_profile(agent: &mut IceAgent, profile: Profile) {
 #[test]
 fn checks_go_out_by_the_schedule() {
     // the last check is the last one before `ice_timeout`, which is 26.7 s here and 9.3 s below, and the end is one RTO later
-    checks_go_out_after(paired(), &early_checks(28600));
-    let mut agent = paired();
+    checks_go_out_after(timed(), &early_checks(28600));
+    let mut agent = timed();
     set_profile(&mut agent, Profile::Original);
     checks_go_out_after(agent, &[250, 750, 1750, 3750, 6650, 9550, 12450, 15350, 18250, 21150, 24050]);
-    let mut few = paired();
+    let mut few = timed();
     few.set_max_stun_retransmits(5);
     checks_go_out_after(few, &early_checks(11200));
 }
@@ -240,21 +247,17 @@ fn settings_begin_as_documented() {
     let agent = IceAgent::new(creds("near"));
     assert_eq!((agent.mtu(), agent.mtu_warn()), (1150, 1280));
     assert!(!agent.controlling() && !agent.ice_lite());
-    assert_eq!((agent.ice_timeout(), agent.max_candidates()), (ms(26700), Some(100)));
+    let Settings { initial_rto, max_rto, max_retransmits, max_candidates, .. } = Settings::modern();
+    let timing = StunTiming { initial_rto, max_rto, max_retransmits };
+    assert_eq!((agent.ice_timeout(), agent.max_candidates()), (timing.timeout(), max_candidates));
     assert_eq!((agent.local_credentials(), agent.remote_credentials()), (&creds("near"), None));
-}
-
-#[test]
-fn the_originals_delays_are_set() {
-    let mut agent = IceAgent::new(creds("near"));
-    agent.set_max_stun_rto(ms(3000));
-    agent.set_max_stun_retransmits(9);
-    assert_eq!(agent.ice_timeout(), ms(21500));
 }
 
 #[test]
 fn delays_are_set() {
     let mut agent = IceAgent::new(creds("near"));
+    set_delays(&mut agent);
+    assert_eq!(agent.ice_timeout(), ms(26700));
     agent.set_max_stun_retransmits(2);
     assert_eq!(agent.ice_timeout(), ms(1000));
     agent.set_max_stun_rto(ms(400));
@@ -268,19 +271,46 @@ fn delays_are_set() {
     assert_eq!((agent.mtu(), agent.mtu_warn()), (600, 700));
 }
 
+/// Their numbers are in the table "Settings" of docs/API.md, which a test in Python compares with the library.
 #[test]
-fn the_named_settings_are_as_documented() {
+fn the_named_settings_differ_in_what_modern_brings() {
     let (modern, original) = (Settings::modern(), Settings::original());
     assert_eq!(IceAgent::new(creds("near")).settings(), modern);
     assert_eq!((modern.profile, original.profile), (Profile::Modern, Profile::Original));
-    assert_eq!((modern.max_rto, original.max_rto), (ms(2900), ms(3000)));
-    assert_eq!((modern.max_retransmits, original.max_retransmits), (11, 9));
-    assert_eq!((modern.max_discovered, original.max_discovered), (Some(32), None));
-    assert_eq!((modern.max_candidates, original.max_candidates), (Some(100), None));
-    for settings in [modern, original] {
-        assert_eq!((settings.timing_advance, settings.initial_rto, settings.lite_timeout), (ms(50), ms(250), ms(15_000)));
-        assert_eq!(settings.consent, Consent { timeout: None, strict: false });
-        assert_eq!((settings.max_pairs, settings.renomination), (100, false));
+    assert_eq!((original.max_discovered, original.max_candidates), (None, None));
+    assert_eq!(StunTiming::default().timeout(), {
+        let Settings { initial_rto, max_rto, max_retransmits, .. } = original;
+        StunTiming { initial_rto, max_rto, max_retransmits }.timeout()
+    });
+    assert_eq!(original.max_retransmits, DEFAULT_MAX_RETRANSMITS);
+    let mut changed = original;
+    (changed.profile, changed.max_rto, changed.max_retransmits) = (modern.profile, modern.max_rto, modern.max_retransmits);
+    (changed.max_discovered, changed.max_candidates) = (modern.max_discovered, modern.max_candidates);
+    assert_eq!(changed, modern);
+}
+
+type Setter = fn(&mut IceAgent);
+type Change = fn(&mut Settings);
+
+/// Each setter changes its field, and no other one.
+#[test]
+fn a_setter_sets_its_field() {
+    let changes: [(Setter, Change); 9] = [
+        (|agent| agent.set_timing_advance(ms(1)), |settings| settings.timing_advance = ms(1)),
+        (|agent| agent.set_initial_stun_rto(ms(2)), |settings| settings.initial_rto = ms(2)),
+        (|agent| agent.set_max_stun_rto(ms(3)), |settings| settings.max_rto = ms(3)),
+        (|agent| agent.set_max_stun_retransmits(4), |settings| settings.max_retransmits = 4),
+        (|agent| agent.set_lite_timeout(ms(5)), |settings| settings.lite_timeout = ms(5)),
+        (|agent| agent.set_max_candidate_pairs(6), |settings| settings.max_pairs = 6),
+        (|agent| agent.set_max_discovered(Some(7)), |settings| settings.max_discovered = Some(7)),
+        (|agent| agent.set_max_candidates(Some(8)), |settings| settings.max_candidates = Some(8)),
+        (|agent| agent.set_renomination(true), |settings| settings.renomination = true),
+    ];
+    for (set, change) in changes {
+        let (mut agent, mut expected) = (IceAgent::new(creds("near")), Settings::modern());
+        set(&mut agent);
+        change(&mut expected);
+        assert_eq!(agent.settings(), expected);
     }
 }
 
@@ -691,7 +721,8 @@ fn replies_to_replays(agent: &mut IceAgent, ports: u16) -> usize {
 
 #[test]
 fn requests_bring_few_candidates() {
-    assert_eq!(replies_to_replays(&mut addressed(), 40), 32);
+    let limit = Settings::modern().max_discovered.expect("a limit");
+    assert_eq!(replies_to_replays(&mut addressed(), limit as u16 + 8), limit);
     let mut agent = addressed();
     agent.set_max_discovered(Some(3));
     assert_eq!(replies_to_replays(&mut agent, 40), 3);
@@ -748,7 +779,7 @@ fn a_text_that_cannot_be_read_is_an_error() {
 #[test]
 fn at_the_limit_no_candidate_is_added() {
     let mut agent = IceAgent::new(creds("near"));
-    assert_eq!(agent.max_candidates(), Some(100));
+    assert_eq!(agent.max_candidates(), Settings::modern().max_candidates);
     agent.set_max_candidates(Some(1));
     assert!(agent.add_local_candidate(host("10.0.0.1:1000")).is_some());
     agent.add_remote_candidate(Candidate::from_sdp_string(PEER).unwrap());

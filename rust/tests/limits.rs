@@ -3,7 +3,7 @@
 mod world;
 
 use is::stun::{StunMessage, StunPacket, TransId};
-use is::{IceAgent, IceAgentEvent, Protocol};
+use is::{IceAgent, IceAgentEvent, Protocol, Settings};
 use std::net::SocketAddr;
 use std::time::Instant;
 use world::{at, creds, host};
@@ -52,7 +52,7 @@ fn the_last_100_early_requests_are_stored() {
 }
 
 #[test]
-fn at_most_32_sources_wait_to_be_polled() {
+fn few_sources_wait_to_be_polled() {
     let (mut agent, now) = (near(), Instant::now());
     agent.set_remote_credentials(creds("farr"));
     for port in 2000..3000 {
@@ -61,5 +61,6 @@ fn at_most_32_sources_wait_to_be_polled() {
     }
     let events: Vec<_> = std::iter::from_fn(|| agent.poll_event()).collect();
     let sources = events.iter().filter(|event| matches!(event, IceAgentEvent::DiscoveredRecv { .. }));
-    assert_eq!((sources.count(), agent.remote_candidates().count()), (32, 32));
+    let limit = Settings::modern().max_discovered.expect("a limit");
+    assert_eq!((sources.count(), agent.remote_candidates().count()), (limit, limit));
 }

@@ -4,7 +4,7 @@ mod world;
 
 use is::{FailedSend, MediaPath, Protocol, SessionLog, SilenceEvent};
 use std::time::Duration;
-use world::{TRIP, World, at, creds, host, ms};
+use world::{TRIP, World, at, consent, creds, host, ms};
 
 const LEFT: &str = "10.0.0.1:1000";
 const RIGHT: &str = "10.0.0.2:2000";
@@ -80,7 +80,8 @@ fn after_a_restart_the_path_ends_with_consent() {
     world.sides[0].agent.ice_restart(creds("next"), true);
     let left = world.left();
     let ends = (0..60_000).map(ms).find(|&after| left.media_path(begun + after).is_none()).expect("an end");
-    assert!(ms(29_000) < ends && ends <= ms(29_600), "{ends:?}");
+    let consent = consent(left);
+    assert!(consent - ms(600) < ends && ends <= consent, "{ends:?}");
     assert!(!left.takes_media_from(begun + ends, at(RIGHT)));
 }
 
@@ -94,7 +95,7 @@ fn a_silent_path_is_reported_and_that_it_is_heard_again() {
     world.pass(ms(8500)); // until the last check before, and 5 s
     let (now, log) = (world.now(), SessionLog::new());
     let since = world.left().silent_since().expect("a time");
-    assert!(began - ms(3000) < since && since + ms(5000) < now, "{:?}", now - since);
+    assert!(began - world.left().settings().max_rto < since && since + ms(5000) < now, "{:?}", now - since);
     let silent = world.sides[0].agent.poll_silence().expect("an event");
     assert_eq!(silent, SilenceEvent::Silent(path()));
     assert_eq!(log.silence(world.left(), &silent), format!("left: silent {LEFT} -> {RIGHT}"));

@@ -67,6 +67,7 @@ fn refuse(agent: &mut IceAgent, now: Instant, code: u16) {
 fn a_removed_pair_has_the_code_of_an_error_response() {
     let (mut agent, now) = (paired(), Instant::now());
     agent.set_settings(Settings::original());
+    agent.set_initial_stun_rto(ms(250));
     agent.set_max_stun_retransmits(2);
     agent.handle_timeout(now);
     refuse(&mut agent, now, 400);

@@ -4,7 +4,7 @@ mod world;
 
 use is::{Candidate, IceAgentEvent, IceConnectionState, IceCreds, MediaPath, Protocol};
 use std::time::Duration;
-use world::{Nat, TRIP, World, at, creds, host, ms};
+use world::{Nat, TRIP, World, at, consent, creds, host, ms, set_delays};
 
 const LEFT: &str = "10.0.0.1:1000";
 const RIGHT: &str = "10.0.0.2:2000";
@@ -88,7 +88,7 @@ fn credentials_come_late() {
 }
 
 #[test]
-fn the_better_of_two_paths_is_announced() {
+fn the_better_of_two_paths_is_selected() {
     let mut world = hosts();
     world.add(0, host("[2001:db8::1]:1000"));
     world.add(1, host("[2001:db8::2]:2000"));
@@ -154,15 +154,19 @@ fn a_cut_wire_ends_the_session_just_before_consent_expires() {
     world.lost = Box::new(|_, _| true);
     world.pass(Duration::from_secs(35));
     let ended = world.sides[0].when(IceConnectionState::Disconnected).unwrap() - cut;
-    assert!(ms(29_400) < ended && ended < ms(30_000), "{ended:?}");
+    let consent = consent(world.left());
+    assert!(consent - ms(200) < ended && ended < consent + ms(400), "{ended:?}");
+    assert!(consent < Duration::from_secs(30)); // RFC 7675, section 5.1
 }
 
 #[test]
 fn nobody_answers() {
     let mut world = hosts();
+    for side in &mut world.sides {
+        set_delays(&mut side.agent);
+    }
     world.lost = Box::new(|_, _| true);
     let timeout = world.left().ice_timeout();
-    assert_eq!(timeout, ms(26700));
     world.pass(timeout * 2);
     for side in &world.sides {
         assert!(side.agent.state().is_disconnected());

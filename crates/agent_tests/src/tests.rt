@@ -10,6 +10,7 @@ mod driver;
 mod early;
 mod followed;
 mod forgotten;
+mod leaving;
 mod limits;
 mod making;
 mod memory;

@@ -14,19 +14,22 @@ use Rattle.is_theorems.specs.Runs.{AtEach}
 use Rattle.is_theorems.specs.SilentPairs.{AreInOrder, EndsWith, IsSilent, IsTimedBy}
 
 module _ {H P : Type 0} (mac : H → List ℕ → List ℕ → List ℕ) (answers : P → CandidateRecord → ℕ → ℕ → Type 0) where
-  -- Up to each entry: if the caller was patient, at most as many checks were sent in a span of time as pacing intervals begin in it.
+  -- Up to each entry: in any span of time in which the caller was patient, at most as many checks were sent as pacing intervals begin in it.
   abbrev pub ChecksStayPaced : AgentRecord H P → Stream → List (Logged P) → Type 0
   ChecksStayPaced first s log =
-      (from long pace : ℕ) → AtEach mac answers first s log (λ before mid x after. IsPacedAt from pace mid x) → 0 < pace → from + long ≤ MAX
-      → AtEach mac answers first s log (λ before mid x after. IsPatient pace (x ∷ before) → checks_in_span from long (x ∷ before) ≤ begun_in long pace)
+      (from long pace : ℕ) → AtEach mac answers first s log (λ before mid x after. IsPacedAt from long pace mid x) → 0 < pace → from + long ≤ MAX
+      → AtEach mac answers first s log
+      (λ before mid x after. IsPatient from long pace (x ∷ before) → checks_in_span from long (x ∷ before) ≤ begun_in long pace)
 
-  -- With the default pacing interval, in any second: at most 200 checks, and 20 while the agent is not early.
+  -- With the default pacing interval, in any second in which the caller was patient: at most 200 checks, and 20 if the agent was not early.
   abbrev pub SecondsStayShort : AgentRecord H P → Stream → List (Logged P) → Type 0
   SecondsStayShort first s log =
       (from : ℕ) → AtEach mac answers first s log (λ before mid x after. IsSlowAt from mid x) → from + SECOND ≤ MAX
-      → AtEach mac answers first s log (λ before mid x after. IsPatient LEAST_TA (x ∷ before) → checks_in_span from SECOND (x ∷ before) ≤ 200)
+      → AtEach mac answers first s log
+      (λ before mid x after. IsPatient from SECOND LEAST_TA (x ∷ before) → checks_in_span from SECOND (x ∷ before) ≤ 200)
       × (AtEach mac answers first s log (λ before mid x after. IsLateAt from mid x)
-      → AtEach mac answers first s log (λ before mid x after. IsPatient (50 * MILLISECOND) (x ∷ before) → checks_in_span from SECOND (x ∷ before) ≤ 20))
+      → AtEach mac answers first s log
+      (λ before mid x after. IsPatient from SECOND (50 * MILLISECOND) (x ∷ before) → checks_in_span from SECOND (x ∷ before) ≤ 20))
 
   -- After each entry a pair from which nothing arrived has at most n checks, if none follows the nth with the timing of the log.
   abbrev pub SilentPairsStayFew : AgentRecord H P → Stream → List (Logged P) → Type 0

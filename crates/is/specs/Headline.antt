@@ -53,6 +53,7 @@ module _ {H P : Type 0} where
       × ((p : PairRecord) → Has a.pairs p → is_eligible a.controlling p ≡ true → p.priority ≤ best.priority)
 
   module _ (mac : H → List ℕ → List ℕ → List ℕ) (answers : P → CandidateRecord → ℕ → ℕ → Type 0) where
+    -- what `run` guarantees of an agent that is plain, at each entry of its log
     pub record Headline (first : AgentRecord H P) (s : Stream) (log : List (Logged P)) : Type 0 where
       -- Bytes that the agent does not accept, on the path on which they were received, change nothing, issue nothing and select no path.
       pub unaccepted : AtEach mac answers first s log (λ before mid x after. (now : ℕ) (path : Path) (bytes : List ℕ)

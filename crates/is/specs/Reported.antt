@@ -56,6 +56,7 @@ module _ {H P : Type 0} (mac : H → List ℕ → List ℕ → List ℕ) (answer
   BothReportSelected first s log =
       AfterEach mac answers first s log (λ part side a. (path : Path) → Has a.events (selecting path) → IsSelectedSince (own_log side [] part) path)
 
+  -- Each `NominatedSend` that waits in a side that was never lite reports a path that was answered when the side selected it.
   abbrev pub BothReportAnswered : WorldRecord H P → Streams → List (LoggedEvent P) → Type 0
   BothReportAnswered first s log =
       AfterEach mac answers first s log (λ part side a. NeverLite (own_log side [] part)

@@ -4,6 +4,7 @@ ghost use Rattle.is_theorems.specs.Logs.{NeverLite, replies, requests};
 ghost use Rattle.is_theorems.specs.Bounds.{ListsAreBounded, PairsAreBounded, PairsAreFew};
 ghost use Rattle.is_rules.specs.Owed.{AreAmong};
 ghost use Rattle.is_theorems.specs.Runs.{IsFresh, PathsAreAnswered, PathsAreNominatedByPeer, LastPathsAreTop, SuccessesMakeValid, RequestsNominate};
+ghost use Rattle.is_theorems.specs.GivingWay.{LeftAreReplaced};
 ghost use Rattle.is_theorems.specs.Progress.{SuccessesSelectPaths, NominationsSelect};
 ghost use Rattle.is_theorems.specs.ConsentLogs.{PathsAreAlive, PathsHaveConsent};
 ghost use Rattle.is_theorems.specs.Rounds.{LoggedTimeoutsAreOfUse, PartsPersist};
@@ -31,7 +32,7 @@ use is_theorems::flooding::{discoveries_stay_few, limits_bound, limits_pairs, qu
 use is_theorems::logs::{entries_are_points, parts_are_runs, queues_are_kept, replies_are_among};
 use is_theorems::rounds_to_select::{due_rounds_select, open_rounds_select};
 use is_theorems::selecting::{
-    answers_select, asked_are_nominated, points_are_top, selected_are_answered,
+    answers_select, asked_are_nominated, paths_are_replaced, points_are_top, selected_are_answered,
     selected_are_nominated_by_peer, takers_are_valid, timeouts_select, waiting_are_answered,
     waiting_are_nominated_by_peer, waiting_are_selected,
 };
@@ -147,6 +148,11 @@ pub fn run<H: Sha1HmacProvider + Drop, P: LocalPreference, R: Rng>(
     ensures connected_answered { IsFresh (record_of agent.old)
         → PathsAreAlive H.mac P.answers (record_of agent.old) (R.stream rng.old) (log_of calls.items result) }
 
+    // With the profile `Modern` a silent path is left only for another one: if a `handle_timeout` call that served no early request removed
+    // a pair that did not expire, another one that may be selected is there, which had a response since the pair fell silent.
+    ensures replaced { IsFresh (record_of agent.old)
+        → LeftAreReplaced H.mac P.answers (record_of agent.old) (R.stream rng.old) (log_of calls.items result) }
+
     // Each segment of the log leads from one state to another, to which the two next clauses refer.
     ensures parts { PartsPersist H.mac P.answers (record_of agent.old) (R.stream rng.old) (log_of calls.items result) }
 
@@ -239,8 +245,9 @@ pub fn run<H: Sha1HmacProvider + Drop, P: LocalPreference, R: Rng>(
     ensures discovered { IsFresh (record_of agent.old)
         → DiscoveriesAreFew H.mac P.answers (record_of agent.old) (R.stream rng.old) (log_of calls.items result) }
 
-    // Up to each call, if `handle_timeout` is called no sooner than the time that `poll_timeout` returned: at most as many checks were sent in a
-    // span of time as pacing intervals begin in it, whatever was received. With the default interval that is 20 in a second, and 200 early on.
+    // Up to each call: in any span of time in which `handle_timeout` was called no sooner than the time that `poll_timeout` returned, at most as
+    // many checks were sent as pacing intervals begin in it, whatever was received. With the default interval that is 20 in a second, and 200
+    // early on.
     ensures paced { IsFresh (record_of agent.old)
         → ChecksStayPaced H.mac P.answers (record_of agent.old) (R.stream rng.old) (log_of calls.items result) }
     ensures seconds { IsFresh (record_of agent.old)
@@ -274,6 +281,7 @@ pub fn run<H: Sha1HmacProvider + Drop, P: LocalPreference, R: Rng>(
     silent_pairs_get_few::<H, P>();
     answers_select::<H, P>();
     timeouts_select::<H, P>();
+    paths_are_replaced::<H, P>();
     selected_have_consent::<H, P>();
     selected_are_alive::<H, P>();
     parts_are_runs::<H, P>();

@@ -1,7 +1,7 @@
 -- The pairs that were removed last, as the agent lists them.
 use Rattle.std.specs.Prelude.{ℕ, ◌&&◌, List, length, nat_lt, Option, Some, None, if◌then◌else◌}
 use Rattle.is_pair.specs.declared.checklist.removed.RemovedPair.{RemovedPair}
-use Rattle.is_pair.specs.Removed as checklists
+use Rattle.is_pair.specs.Checklists as checklists
 use Rattle.is_agent.specs.declared.agent.Agent.{Agent}
 use Rattle.is_rules.specs.Agent.{AgentRecord}
 use Rattle.is_rules.specs.declared.emitted.Path.{Path}

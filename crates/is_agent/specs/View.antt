@@ -8,6 +8,7 @@ use Rattle.is_rules.specs.declared.emitted.Emitted.{Emitted}
 use Rattle.is_rules.specs.RequestView.{waiting_view}
 use Rattle.is_rules.specs.Agent.{AgentRecord}
 
+-- all that the rules see of an agent
 abbrev pub record_of : {H P : Type 0} → code.Agent H P → AgentRecord H P
 record_of a = record {
   provider = a.provider;

@@ -14,6 +14,7 @@ pub mod discarding;
 pub mod emitted;
 mod expiring;
 mod giving_back;
+mod leaving;
 pub mod local;
 pub mod media;
 mod next_check;

@@ -12,7 +12,7 @@ use is_proto::Sha1HmacProvider;
 use is_rules::emitted::Path;
 
 impl<H: Sha1HmacProvider + Drop, P: LocalPreference> Agent<H, P> {
-    /// How many removed pairs are listed: the last 32 at most since the last ICE restart, fewer if memory was short.
+    /// How many removed pairs are listed: the last 32 at most since the last ICE restart.
     pub fn removed_pair_count(&self) -> usize
         ensures { result ≡ length (removed_of self.now) }
     {

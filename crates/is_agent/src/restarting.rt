@@ -1,12 +1,12 @@
 //! ICE restarts (RFC 8445, section 9), and pairs that are formed again; the rules: `is_rules::restarting`.
 
-ghost use Rattle.std.specs.Prelude.{◌≡◌, ◌+◌, ◌↔◌, IsTrue, None, false, IfOk, OnOk, length};
+ghost use Rattle.std.specs.Prelude.{◌≡◌, ◌+◌, ◌↔◌, ℕ, IsTrue, None, false, IfOk, OnOk, length};
 ghost use Rattle.is_rules.specs.Fitting.{are_too_long};
 ghost use Rattle.is_rules.specs.Forming.{AreIn, live_combinations};
 ghost use Rattle.is_rules.specs.Kept.{NoneTooHigh};
 ghost use Rattle.is_agent.specs.Room.{HasEventRoom, HasPairRoom};
 ghost use Rattle.is_agent.specs.View.{record_of};
-ghost use Rattle.is_rules.specs.Restarting.{kept_local, restarted, Restarts, HasNumbersForAll, Recreates};
+ghost use Rattle.is_rules.specs.Restarting.{kept_local, restarted, unpaired, Restarts, HasNumbersForAll, Recreates};
 
 use crate::agent::Agent;
 use is_candidate::{Candidate, LocalPreference};
@@ -14,7 +14,7 @@ use is_proto::{HmacKey, IceError, Sha1HmacProvider};
 use is_rules::credentials::{IceCreds, are_too_long};
 use is_rules::event::{IceAgentEvent, IceAgentStats, IceConnectionState};
 use is_rules::forming::{has_numbers_for_all, live_combinations};
-use is_rules::restarting::kept_local;
+use is_rules::restarting::{keep_early, keep_events, kept_local};
 use is_rules::states::emit_state;
 use std::alloc::AllocError;
 
@@ -66,6 +66,7 @@ impl<H: Sha1HmacProvider + Drop, P: LocalPreference> Agent<H, P> {
         self.pairs.clear();
         self.numbers_seen = false;
         self.pairs.forget_all_removed();
+        keep_early(&mut self.queue, self.timing.is_modern());
         self.packets.clear();
         self.discovered_sources.clear();
         self.stats = IceAgentStats::default();
@@ -81,8 +82,8 @@ impl<H: Sha1HmacProvider + Drop, P: LocalPreference> Agent<H, P> {
 
     /// Restarts the session with new credentials (RFC 8445, section 9). Remote credentials, remote candidates, pairs,
     /// packets, events, sources and statistics are removed. Local candidates stay, with the new username fragment, if `keep`
-    /// is true; else they are removed too. Role, early requests, the number of the next pair and that of the agent's last
-    /// nomination stay.
+    /// is true; else they are removed too. With `Modern` early requests are removed, with `Original` they stay. Role, the number of the
+    /// next pair and that of the agent's last nomination stay.
     ///
     /// Fails with `CredentialsTooLong` if the username fragment and a colon are longer than 508 bytes, and with
     /// `OutOfMemory`. The agent is then unchanged.
@@ -123,7 +124,18 @@ impl<H: Sha1HmacProvider + Drop, P: LocalPreference> Agent<H, P> {
         Ok(())
     }
 
-    /// Forms all pairs again, of all candidates that are not discarded. The state is then Checking.
+    /// Removes all pairs, and with `Modern` the events that wait and report a path of one of them.
+    fn clear_pairs(&mut self)
+        ensures cleared { record_of self.new ≡ unpaired (record_of self.old) }
+        ensures room { (n : ℕ) → HasPairRoom n self.old → HasPairRoom n self.new }
+        ensures events { (n : ℕ) → HasEventRoom n self.old → HasEventRoom n self.new }
+    {
+        self.pairs.clear();
+        keep_events(&mut self.events, self.timing.is_modern());
+    }
+
+    /// Forms all pairs again, of all candidates that are not discarded. The state is then Checking. With `Modern` a `NominatedSend` that
+    /// waits is removed, since its pair is gone: one comes when a path is selected again.
     ///
     /// Fails with `PairIdsExhausted` if no number is left for a pair, and with `OutOfMemory`. The agent is then unchanged.
     pub fn recreate_candidate_pairs(&mut self) -> Result<(), IceError>
@@ -134,7 +146,7 @@ impl<H: Sha1HmacProvider + Drop, P: LocalPreference> Agent<H, P> {
         }
         let all = self.live_combinations()?;
         self.take_recreation_room(all.len())?;
-        self.pairs.clear();
+        self.clear_pairs();
         emit_state(
             &mut self.state,
             &mut self.events,

@@ -192,15 +192,15 @@ impl<H: Sha1HmacProvider + Drop, P: LocalPreference> Agent<H, P> {
         self.kept_consent = self.timing.consent();
     }
 
-    /// Sets the pacing interval of what the agent sends, Ta in RFC 8445, section 14.2: 50 ms until it is set.
+    /// Sets the pacing interval of what the agent sends, Ta in RFC 8445, section 14.2.
     pub fn set_timing_advance(&mut self, advance: Duration)
         ensures { record_of self.new ≡ record (record_of self.old) { timing_advance = advance.0 } }
     {
         self.timing_advance = advance;
     }
 
-    /// Sets the RTO after a pair's first check (RFC 8445, section 14.3): 250 ms until it is set. If the value changes, the
-    /// due time of each pair's next check is computed again.
+    /// Sets the RTO after a pair's first check (RFC 8445, section 14.3). If the value changes, the due time of each pair's next check is
+    /// computed again.
     pub fn set_initial_stun_rto(&mut self, rto: Duration)
         ensures { record_of self.new ≡ with_rtos rto.0 (record_of self.old).timing.max_rto.0 (record_of self.old) }
     {
@@ -211,8 +211,7 @@ impl<H: Sha1HmacProvider + Drop, P: LocalPreference> Agent<H, P> {
         }
     }
 
-    /// Sets the greatest RTO after a check: 3 s until it is set. If the value changes, the due time of each pair's next check
-    /// is computed again.
+    /// Sets the greatest RTO after a check. If the value changes, the due time of each pair's next check is computed again.
     pub fn set_max_stun_rto(&mut self, rto: Duration)
         ensures { record_of self.new ≡ with_rtos (record_of self.old).timing.initial_rto.0 rto.0 (record_of self.old) }
     {
@@ -223,8 +222,7 @@ impl<H: Sha1HmacProvider + Drop, P: LocalPreference> Agent<H, P> {
         }
     }
 
-    /// Sets how many checks a pair sends without a response before it is removed: 9 until it is set. The number must be at
-    /// least 1.
+    /// Sets how many checks a pair sends without a response before it is removed. The number must be at least 1.
     pub fn set_max_stun_retransmits(&mut self, number: usize)
         requires { 0 < number }
         ensures { record_of self.new ≡ with_retransmits number (record_of self.old) }
@@ -233,8 +231,8 @@ impl<H: Sha1HmacProvider + Drop, P: LocalPreference> Agent<H, P> {
         self.kept_consent = self.timing.consent();
     }
 
-    /// Sets how long an ICE-lite agent keeps a pair without a check from its peer: 15 s until it is set. The agent sends no
-    /// checks, so the peer's are all that shows that the path works.
+    /// Sets how long an ICE-lite agent keeps a pair without a check from its peer. The agent sends no checks, so the peer's are
+    /// all that shows that the path works.
     ///
     /// The next `handle_timeout` call after this time removes the pair; with zero, the next call after a check. A pair on
     /// which no check arrived counts as checked at the first call with remote credentials. The value applies to existing

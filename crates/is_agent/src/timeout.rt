@@ -250,13 +250,14 @@ impl<H: Sha1HmacProvider + Drop, P: LocalPreference> Agent<H, P> {
 // ---- the call
 
 impl<H: Sha1HmacProvider + Drop, P: LocalPreference> Agent<H, P> {
-    /// Nomination, removal of failed pairs and a check, within the reserved capacity. What they emit is stored in the agent.
+    /// The selected pair may give way; then nomination, removal of failed pairs and a check, within the reserved capacity. What they emit is stored in the agent.
     fn maintain_pairs<R: Rng>(&mut self, now: Instant, rng: &mut R)
         requires events { HasEventRoom 3 self.old }
         requires checks { HasCheckRoomAt now.0 self.old }
         ensures { MaintainsPairs H.mac now.0 (record_of self.old) (R.stream rng.old) (emitted_of self.new) (record_of self.new) (R.stream rng.new) }
     {
         self.last_time = Some(now);
+        self.leave_path(now);
         let first = self.evaluate_nomination();
         self.remove_expired(first, now);
         self.may_check(now, rng);

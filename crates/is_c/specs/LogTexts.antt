@@ -98,6 +98,7 @@ unfoldable pub kind_text : Option Kind → List ℕ
 kind_text None = codes "malformed STUN message"
 kind_text (Some k) = method_word k.method ++ codes " " ++ class_word k.class ++ code_text k.error
 
+-- why a datagram was discarded, or has no response, in parentheses
 unfoldable pub reason_text : Option Reason → List ℕ
 reason_text None = []
 reason_text (Some (Rejected why)) = codes " (" ++ rejection_text why ++ codes ")"
@@ -109,6 +110,7 @@ fate_text None = codes "discarded "
 fate_text (Some (Rejected why)) = codes "discarded "
 fate_text (Some (Unanswered why)) = codes "no response to "
 
+-- what a line of the log says after the username fragment
 unfoldable pub said_text : Said → List ℕ
 said_text Begins = codes "session begins"
 said_text (Enters state) = codes "state " ++ state_word state

@@ -65,5 +65,6 @@ abbrev pub PutsOf : (IceCreds → List ℕ) → Option IceCreds → List ℕ →
 PutsOf text None before was code after count = PutsNone NOTHING before was code after count
 PutsOf text (Some creds) before was code after count = Puts (text creds) before code after count
 
+-- C gets a text of the remote credentials, and nothing changes.
 abbrev pub ReturnsRemote : (IceCreds → List ℕ) → List ℕ → ℕ → List ℕ → ℕ → HomeRecord → ℤ → HomeRecord → Type 0
 ReturnsRemote text before was after count old code new = PutsOf text old.agent.remote_creds before was code after count × (new ≡ old)

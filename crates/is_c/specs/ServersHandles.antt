@@ -9,6 +9,7 @@ use Rattle.std.specs.Global.{Global}
 use Rattle.std_heap.specs.contracts.GlobalAllocator.TheImpl.{ghosts}
 use Rattle.is_c.specs.contracts.servers.home.ServersHome.{the_row}
 
+-- what a handle of clients owns on the heap: nothing, or the box of its clients
 abbrev pub handle_owns : Global → Ptr → Option the_row.Denot → Fml
 handle_owns alloc p None = ftrue
 handle_owns alloc p (Some home) = box_owns (ghosts.dealloc_token alloc) the_row p home

@@ -90,6 +90,7 @@ With (Some given) Does old code new = Does given old code new
 abbrev pub transport_of : ℕ → Option Transport
 transport_of n = if n == 0 then Some Udp else (if n == 1 then Some Tcp else None)
 
+-- a socket or connection and its other end, as C passes them
 abbrev pub ends_of : ℕ → Address → Address → Option Ends
 ends_of protocol local remote =
     option_and_then (λ transport.

@@ -78,6 +78,7 @@ said_of e = by e.kind where
       else (if n == 4 then option_map (λ why. Ends why e.code e.unverified) (why_of e.why) else None)))
   by (negsuc n) = None
 
+-- the line of an event of the clients, if C's struct says one
 abbrev pub line_of : Event → Option Line
 line_of e =
     option_and_then (λ transport.

@@ -148,6 +148,7 @@ WritesIn None None bytes old count code new new_count = (code ≡ OK) × (new_co
 abbrev pub key_if : Bool → List ℕ → Option (List ℕ)
 key_if is_signed key = if is_signed then Some key else None
 
+-- The message that a struct of C and its texts mean is written, or nothing is, and the code says why.
 abbrev pub WritesMessage : Flat → Texts → List ℕ → List ℕ → List ℕ → ℕ → ℤ → List ℕ → ℕ → Type 0
 WritesMessage f t bytes key old count code new new_count =
     WritesIn (fault_in f t bytes)

@@ -6,7 +6,7 @@
 ghost use Rattle.std.specs.Prelude.{◌≡◌, ◌≢◌, option_map};
 ghost use Rattle.is_agent.specs.View.{record_of};
 ghost use Rattle.is_c_calls.specs.Codes.{OK};
-ghost use Rattle.is_c_calls.specs.Deadlines.{time_to_call, earlier, FixesTimes};
+ghost use Rattle.is_c_calls.specs.Deadlines.{time_to_call, earlier, moved, FixesTimes};
 ghost use Rattle.is_c_calls.specs.Following.{Follows};
 ghost use Rattle.is_c.specs.Slots.{home_of};
 
@@ -35,13 +35,21 @@ fn earlier(kept: Option<Instant>, next: Option<Instant>) -> Option<Instant>
     }
 }
 
-/// Fixes the due times, and moves the deadline up.
+/// Moves the deadline up: that of a settled agent also back, so that no call follows a response that came in time.
+fn moved(settled: bool, kept: Option<Instant>, next: Option<Instant>) -> Option<Instant>
+    ensures { option_map (λ at. at.0) result ≡ moved settled (option_map (λ at. at.0) kept) (option_map (λ at. at.0) next) }
+{
+    if settled { next } else { earlier(kept, next) }
+}
+
+/// Fixes the due times, and moves the deadline.
 fn fix_times(home: &mut Home, soon: bool)
     ensures { FixesTimes soon (home_of home.old) OK (home_of home.new) }
 {
     let next = time_to_call(home, soon);
+    let settled = home.agent.is_settled();
     home.agent.poll_timeout();
-    home.deadline = earlier(home.deadline, next);
+    home.deadline = moved(settled, home.deadline, next);
 }
 
 /// With the profile `Modern`, fixes the due times after a call that returned OK. Returns the code of that call.

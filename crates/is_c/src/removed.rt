@@ -88,7 +88,7 @@ fn return_removed(home: &Home, found: Option<&RemovedPair>, removed: &mut Remove
 }
 
 /// Writes the removed pair with this index. The one that was removed first has index 0. Those of the last restart on are kept, the last 32 at
-/// most, fewer if memory was short.
+/// most.
 #[unsafe(no_mangle)]
 pub extern "C" fn is_ice_removed_at(
     alloc: Global,

@@ -1,6 +1,6 @@
 -- The deadline that a slot keeps with the profile `Modern`: the time at which `is_ice_handle_timeout` is to be called.
 use Rattle.std.specs.Prelude.{◌≡◌, ℕ, Bool, min, Option, Some, None, ℤ, if◌then◌else◌}
-use Rattle.is_rules.specs.Polls.{PollsTimeout}
+use Rattle.is_rules.specs.Polls.{is_settled, PollsTimeout}
 use Rattle.is_agent.specs.Polls.{sooner, next_call}
 use Rattle.is_c_calls.specs.Codes.{OK}
 use Rattle.is_c_calls.specs.Held.{Held, HomeRecord}
@@ -15,11 +15,14 @@ earlier kept None = None
 earlier None (Some at) = Some at
 earlier (Some kept) (Some at) = Some (min kept at)
 
--- the slot with the deadline moved up
-abbrev pub with_deadline : Bool → HomeRecord → HomeRecord
-with_deadline soon home = record home { deadline = earlier home.deadline (time_to_call soon home.agent) }
+-- The deadline moves up. That of a settled agent moves back, too: after a response, what was due is due later.
+abbrev pub moved : (settled : Bool) → Option ℕ → Option ℕ → Option ℕ
+moved settled kept next = if settled then next else earlier kept next
 
--- The agent is polled for its next timeout, which fixes the due times of its pairs, and the deadline is moved up.
+abbrev pub with_deadline : Bool → HomeRecord → HomeRecord
+with_deadline soon home = record home { deadline = moved (is_settled home.agent) home.deadline (time_to_call soon home.agent) }
+
+-- The agent is polled for its next timeout, which fixes the due times of its pairs, and the deadline is moved.
 abbrev pub FixesTimes : Bool → HomeRecord → ℤ → HomeRecord → Type 0
 FixesTimes soon old code new =
     (polled : Option ℕ) × PollsTimeout old.agent polled new.agent × (code ≡ OK) × (new ≡ record (with_deadline soon old) { agent = new.agent })

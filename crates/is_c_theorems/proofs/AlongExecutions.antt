@@ -117,7 +117,7 @@ module _ (creds : IceCreds) (tie_breaker : ℕ) where
     pub gone : (uses : List Used) (log : Log) (last : Held) → IsLogOf uses log → EachKeeps keeps_modern uses → Ran born log last → Goes (calls_onto log []) born last
     gone uses log last logs each run = goes_on log last run (ready_along uses log logs each) [] last (refl, tt)
 
-onto_selected : (xs : Log) (more : List (Call Preference × Entry)) → selected_along None (calls_onto xs more) ≡ selected_along (last_selected xs) more
+pub onto_selected : (xs : Log) (more : List (Call Preference × Entry)) → selected_along None (calls_onto xs more) ≡ selected_along (last_selected xs) more
 onto_selected [] more = refl
 onto_selected (x ∷ older) more = onto_selected older ((x.call, x.entry) ∷ more)
 

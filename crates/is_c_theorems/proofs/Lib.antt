@@ -17,3 +17,8 @@ mod PacketsGiven
 mod RolesOfTwo
 mod SettledRoles
 mod TracedPaths
+mod KnownAgents
+mod HeldAgents
+mod DeliveredChecks
+mod ConnectedAgents
+mod NominatedAtOnce

@@ -5,3 +5,4 @@ pub mod Seen
 pub mod Headline
 pub mod Executions
 pub mod TwoAgents
+pub mod Connecting

@@ -74,7 +74,7 @@ abbrev pub Since : (Used → List Used → Type 0) → List Used → Type 0
 Since Is [] = ⊥
 Since Is (u ∷ before) = Is u before ⊎ ((is_restart u ≡ false) × Since Is before)
 
--- It holds of one of these calls. A request that came before a restart may be served after it.
+-- It holds of one of these calls, which may come before a restart.
 abbrev pub Ever : (Used → List Used → Type 0) → List Used → Type 0
 Ever Is [] = ⊥
 Ever Is (u ∷ before) = Is u before ⊎ Ever Is before

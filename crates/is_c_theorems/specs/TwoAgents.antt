@@ -146,8 +146,8 @@ TakesAnswer side path x before =
     (back : Path) × (answer : Message) × (x.side ≡ side) × Accepts x.used back answer × (answer.class ≡ class.Success) × (goes_back back path ≡ true)
     × Before (GivesAnswer side path answer) before
 
--- Each path that C gets by a `NominatedSend`, from a side that always has the profile `Modern` and is never lite. The other one may be lite, and both
--- may have any roles.
+-- Each path that C gets by a `NominatedSend` was so answered, from a side that always has the profile `Modern` and is never lite. The other one may
+-- be lite, and both may have any roles.
 abbrev pub SelectedAreTraced : Type 0
 SelectedAreTraced =
     (first last : Side → HomeRecord) (tie_breaker : Side → ℕ) (side : Side) (turns : List Turn) (used : Used) (home : HomeRecord) (path : Path)

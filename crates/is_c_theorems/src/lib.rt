@@ -4,6 +4,7 @@
 //! calls of any program, from `is_ice_agent_new` on.
 #![tactic(auto)]
 
+pub mod connecting;
 pub mod executions;
 pub mod headline;
 pub mod two_agents;

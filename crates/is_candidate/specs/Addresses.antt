@@ -19,6 +19,7 @@ protocol_number Tls = 3
 abbrev pub same_protocol : Protocol → Protocol → Bool
 same_protocol a b = protocol_number a == protocol_number b
 
+-- The addresses are equal in every part.
 abbrev pub same_address : SocketAddr → SocketAddr → Bool
 same_address (V4 a) (V4 b) = bytes_eq (ipv4_octets (v4_ip a)) (ipv4_octets (v4_ip b)) && v4_port a == v4_port b
 same_address (V6 a) (V6 b) =

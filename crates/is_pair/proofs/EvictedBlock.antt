@@ -1,118 +1,27 @@
--- Pairs of lowest priority that are removed at once: they could be removed one after another.
-use Rattle.std.proofs.Common.{if◌then◌else◌, ◌≡◌, ◌==◌, ℕ, zero, suc, ◌+◌, ◌<◌, ◌≤◌, ◌⊎◌, ◌&&◌, ◌||◌, Bool, true, false, not, List, [], ◌∷◌, count_by, filter, length, nat_le, nat_lt, Some, inl, inr, refl, sym, ap, subst, ◌∙◌, arith}
-use Rattle.std.proofs.lemmas.Bool.{eq-eqb, eqb-true}
+-- Pairs of lowest priority that are removed at once: they could be removed one after another, in the order by priority.
+use Rattle.std.proofs.Common.{if◌then◌else◌, ◌≡◌, ◌==◌, ℕ, suc, ◌+◌, ◌<◌, ◌≤◌, ◌⊎◌, ◌&&◌, ◌||◌, ◌++◌, Bool, true, false, not, List, [], ◌∷◌, count_by, filter, length, nat_le, nat_lt, Option, Some, None, inl, inr, refl, sym, ap, subst, ◌∙◌, arith}
+use Rattle.std.proofs.lemmas.Bool.{eqb-true}
 use Rattle.std.proofs.lemmas.Bool.Decides.{nat_tests}
 use Rattle.std.proofs.lemmas.List.Sums.{length-filter}
+use Rattle.std.specs.List.{list_all, cons_option}
 use Rattle.is_proto.specs.Lists.{Has}
+use Rattle.is_pair.specs.declared.checklist.entries.Rank.{Rank}
 use Rattle.is_pair.specs.Pairs.{PairRecord}
-use Rattle.is_pair.specs.Multiset.{is_numbered, rises, without, Evicts, EvictsInTurn, IsLeast, IsLeastPassing}
-use Rattle.is_pair.specs.Lowest.{is_low, EvictsSome}
-use Rattle.is_pair.proofs.PairEntries.ChangedEntry.{above, apart, below-apart, both, rises-filter}
-use Rattle.is_pair.proofs.PriorityOrder.GreatestPair.{all-has}
+use Rattle.is_pair.specs.Multiset.{is_numbered, pair_numbered, rises, without, EvictsInTurn, IsLeast, IsLeastPassing}
+use Rattle.is_pair.specs.Entries.{are_ordered, are_single}
+use Rattle.is_pair.specs.Lowest.{is_low, pairs_of}
+use Rattle.is_pair.proofs.ListParts.{drops-none, filter-swap, find-other, had-filtered, has-filter, left-other, lt-from, named-once, none-numbered, one-goes, without-both}
+use Rattle.is_pair.proofs.PairEntries.ChangedEntry.{both, found-number, rises-filter}
+use Rattle.is_pair.proofs.PriorityOrder.GreatestPair.{all-has, found-has}
 use Rattle.is_pair.proofs.PriorityOrder.OrderedPairs.{above-from, le-from}
-use Rattle.is_pair.proofs.RemovedPairs.{had-filtered}
-
-lt-from : {a b : ℕ} → nat_lt a b ≡ true → a < b
-lt-from {a} {b} h = grind (arith, nat_tests, h)
+use Rattle.is_pair.proofs.PriorityOrder.RankedPairs.{Agree, HaveRanks, narrower, pairs-other}
 
 not-less : {a b : ℕ} → nat_lt a b ≡ false → b ≤ a
 not-less {a} {b} h = grind (arith, nat_tests, h)
 
--- ---- lists
-
-pub filter-swap : {X : Type 0} (t u : X → Bool) (xs : List X) → filter t (filter u xs) ≡ filter u (filter t xs)
-filter-swap t u [] = refl
-filter-swap t u (x ∷ xs) = by (t x) (u x) refl refl (filter-swap t u xs) where
-  by : (a b : Bool) → t x ≡ a → u x ≡ b → filter t (filter u xs) ≡ filter u (filter t xs) → filter t (filter u (x ∷ xs)) ≡ filter u (filter t (x ∷ xs))
-  by true true ta ub rest = rw (ub, ta, ub) (ap (λ ys. x ∷ ys) rest)
-  by true false ta ub rest = rw (ub, ta, ub) rest
-  by false true ta ub rest = rw (ub, ta) rest
-  by false false ta ub rest = rw (ub, ta) rest
-
-filter-each : {X : Type 0} (t : X → Bool) (xs : List X) → ((x : X) → Has xs x → t x ≡ true) → filter t xs ≡ xs
-filter-each t [] each = refl
-filter-each t (x ∷ xs) each = rw (each x (inl refl)) (ap (λ ys. x ∷ ys) (filter-each t xs (λ y has. each y (inr has))))
-
-has-filter : {X : Type 0} (t : X → Bool) (xs : List X) (q : X) → Has xs q → t q ≡ true → Has (filter t xs) q
-has-filter t [] q has is = elim has [ ]
-has-filter t (x ∷ xs) q (inl e) is = rw (ap t e ∙ is) (inl e)
-has-filter t (x ∷ xs) q (inr has) is =
-    let rest = has-filter t xs q has is in
-    elim (t x) as (λ b. Has (if b then x ∷ filter t xs else filter t xs) q) [ true ↦ inr rest | false ↦ rest ]
-
-pub passed : {X : Type 0} (t : X → Bool) (xs : List X) (q : X) → Has (filter t xs) q → t q ≡ true
-passed t [] q has = elim has [ ]
-passed t (x ∷ xs) q has = by (λ rest. passed t xs q rest) (t x) refl has where
-  by : (Has (filter t xs) q → t q ≡ true) → (b : Bool) → t x ≡ b → Has (if b then x ∷ filter t xs else filter t xs) q → t q ≡ true
-  by again true is (inl e) = ap t (sym e) ∙ is
-  by again true is (inr rest) = again rest
-  by again false is rest = again rest
-
-some-long : {X : Type 0} (xs : List X) (q : X) → Has xs q → 1 ≤ length xs
-some-long [] q has = elim has [ ]
-some-long (x ∷ xs) q has = omega arith
-
--- all are left if none passes
-pub drops-none : (t : PairRecord → Bool) (xs : List PairRecord) → ((q : PairRecord) → Has xs q → t q ≡ true → ⊥) → without t xs ≡ xs
-drops-none t xs none = filter-each (λ q. not (t q)) xs (λ q has. elim (t q) as (λ b. t q ≡ b → not b ≡ true) [
-  | true ↦ λ is. absurd (none q has is)
-  | false ↦ λ is. refl
-] refl)
-
 each : {X : Type 0} (P : X → Type 0) (x : X) (xs : List X) → P x → ((q : X) → Has xs q → P q) → (q : X) → Has (x ∷ xs) q → P q
 each P x xs here rest q (inl e) = subst P e here
 each P x xs here rest q (inr has) = rest q has
-
--- ---- numbers
-
--- a number names one pair
-pub named-once : (xs : List PairRecord) (p q : PairRecord) → rises xs ≡ true → Has xs p → Has xs q → p.number ≡ q.number → p ≡ q
-named-once [] p q rising a b same = elim a [ ]
-named-once (x ∷ xs) p q rising (inl a) (inl b) same = sym a ∙ b
-named-once (x ∷ xs) p q rising (inl a) (inr b) same =
-    let up = both (above x.number xs) (rises xs) rising in
-    let less = lt-from (all-has (λ (r : PairRecord). nat_lt x.number r.number) xs q up.0 b) in
-    let own : x.number ≡ p.number = ap (λ (r : PairRecord). r.number) a in
-    absurd (omega (arith, less, same, own))
-named-once (x ∷ xs) p q rising (inr a) (inl b) same =
-    let up = both (above x.number xs) (rises xs) rising in
-    let less = lt-from (all-has (λ (r : PairRecord). nat_lt x.number r.number) xs p up.0 a) in
-    let own : x.number ≡ q.number = ap (λ (r : PairRecord). r.number) b in
-    absurd (omega (arith, less, same, own))
-named-once (x ∷ xs) p q rising (inr a) (inr b) same = named-once xs p q (both (above x.number xs) (rises xs) rising).1 a b same
-
--- one pair is removed
-pub one-goes : (m : ℕ) (xs : List PairRecord) (p : PairRecord) → rises xs ≡ true → Has xs p → p.number ≡ m → length xs ≡ suc (length (without (is_numbered m) xs))
-one-goes m [] p rising has is = elim has [ ]
-one-goes m (x ∷ xs) p rising (inl e) is =
-    let here : x.number ≡ m = ap (λ (q : PairRecord). q.number) e ∙ is in
-    let up = both (above x.number xs) (rises xs) rising in
-    let stay : without (is_numbered m) xs ≡ xs = filter-each (λ q. not (is_numbered m q)) xs (λ q has.
-    ap not (apart m q.number (subst (λ k. nat_lt k q.number ≡ true) here (all-has (λ (r : PairRecord). nat_lt x.number r.number) xs q up.0 has)))) in
-    rw (eq-eqb x.number m here) (ap (λ (ys : List PairRecord). suc (length ys)) (sym stay))
-one-goes m (x ∷ xs) p rising (inr has) is =
-    let up = both (above x.number xs) (rises xs) rising in
-    let less : nat_lt x.number p.number ≡ true = all-has (λ (r : PairRecord). nat_lt x.number r.number) xs p up.0 has in
-    rw (below-apart m x.number (subst (λ k. nat_lt x.number k ≡ true) is less)) (ap suc (one-goes m xs p up.1 has is))
-
--- a pair that passes is removed, and then all others that pass
-pub without-both : (t : PairRecord → Bool) (old : List PairRecord) (p : PairRecord) → rises old ≡ true → Has old p → t p ≡ true
-    → without t (without (is_numbered p.number) old) ≡ without t old
-without-both t old p rising has is = filter-swap stays other old ∙ filter-each other (without t old) (λ q hq.
-    elim (q.number == p.number) as (λ b. q.number == p.number ≡ b → not b ≡ true) [
-      | true ↦ λ its.
-          let one = named-once old p q rising has (had-filtered stays old q hq) (sym (eqb-true q.number p.number its)) in
-          let passes : t q ≡ true = ap t (sym one) ∙ is in
-          let fails : not (t q) ≡ true = passed stays old q hq in
-          absurd (cc)
-      | false ↦ λ its. refl
-    ] refl)
-  where
-    stays : PairRecord → Bool
-    stays q = not (t q)
-
-    other : PairRecord → Bool
-    other q = not (is_numbered p.number q)
 
 -- ---- the least of those that pass
 
@@ -141,43 +50,80 @@ least-or-none t (x ∷ xs) = by (t x) refl (least-or-none t xs) where
 abbrev pub AreLower : (PairRecord → Bool) → List PairRecord → Type 0
 AreLower t xs = (p q : PairRecord) → Has xs p → Has xs q → t p ≡ true → t q ≡ false → p.priority ≤ q.priority
 
-block-goes : (limit : ℕ) (t : PairRecord → Bool) (n : ℕ) (old end gone : List PairRecord) → rises old ≡ true → length (filter t old) ≤ n
-    → length (filter t old) + limit ≤ length old → AreLower t old → EvictsInTurn limit gone (without t old) end → Evicts limit old end
-block-goes limit t zero old end gone rising few room low h = (
-  gone,
-  subst (λ (ps : List PairRecord). EvictsInTurn limit gone ps end) (drops-none t old (λ q has is.
-      let some = some-long (filter t old) q (has-filter t old q has is) in omega (arith, some, few))) h,
-)
-block-goes limit t (suc n) old end gone rising few room low h = by (λ left r f m l k. block-goes limit t n left end gone r f m l k) (least-or-none t old) where
-  by : ((left : List PairRecord) → rises left ≡ true → length (filter t left) ≤ n → length (filter t left) + limit ≤ length left → AreLower t left
-      → EvictsInTurn limit gone (without t left) end → Evicts limit left end) → LeastOrNone t old → Evicts limit old end
-  by again (inr none) = (gone, subst (λ (ps : List PairRecord). EvictsInTurn limit gone ps end) (drops-none t old none) h)
-  by again (inl (p, (has, is, least))) =
-      let m = p.number in
-      let other = λ (q : PairRecord). not (is_numbered m q) in
-      let left = without (is_numbered m) old in
-      let goes : length old ≡ suc (length left) = one-goes m old p rising has refl in
-      let goes-too : length (filter t old) ≡ suc (length (without (is_numbered m) (filter t old))) =
-      one-goes m (filter t old) p (rises-filter t old rising) (has-filter t old p has is) refl in
-      let swapped : length (filter t left) ≡ length (without (is_numbered m) (filter t old)) = ap length (filter-swap t other old) in
-      let same : without t left ≡ without t old = without-both t old p rising has is in
-      let rest = again left (rises-filter other old rising) (omega (arith, few, goes-too, swapped)) (omega (arith, room, goes, goes-too, swapped))
-      (λ a b ha hb. low a b (had-filtered other old a ha) (had-filtered other old b hb)) (subst (λ (ps : List PairRecord). EvictsInTurn limit gone ps end) (sym same) h) in
-      let lowest : IsLeast old p = (
-        has,
-        λ q hq. elim (t q) as (λ b. t q ≡ b → p.priority ≤ q.priority) [
-          | true ↦ λ passes. least q hq passes
-          | false ↦ λ fails. low p q has hq is fails
-        ] refl,
-      ) in
-      (p ∷ rest.0, (omega (arith, room, goes-too), lowest, rest.1))
+-- the entry at the front has the least priority
+first-low : (r : Rank) (rs : List Rank) → list_all (λ (q : Rank). nat_le r.priority q.priority) rs ≡ true → (s : Rank) → Has (r ∷ rs) s → r.priority ≤ s.priority
+first-low r rs low s (inl e) = let same : r.priority ≡ s.priority = ap (λ (q : Rank). q.priority) e in omega (arith, same)
+first-low r rs low s (inr has) = le-from (all-has (λ (q : Rank). nat_le r.priority q.priority) rs s low has)
 
-pub block-evicted : (limit : ℕ) (t : PairRecord → Bool) (old new : List PairRecord) → rises old ≡ true → count_by t old + limit ≤ length old → AreLower t old
-    → new ≡ without t old → EvictsSome limit old new
-block-evicted limit t old new rising room low is = λ end h.
-    let count = length-filter t old in
-    block-goes limit t (length (filter t old)) old end h.0 rising (omega arith) (omega (arith, room, count)) low
-    (subst (λ (ps : List PairRecord). EvictsInTurn limit h.0 ps end) is h.1)
+-- those that pass go in the order of their entries
+pub ranked-go : (limit : ℕ) (t : PairRecord → Bool) (rs : List Rank) (old rest end : List PairRecord) → are_ordered rs ≡ true → are_single rs ≡ true → rises old ≡ true
+    → HaveRanks t rs old → Agree rs old → length (filter t old) + limit ≤ length old → AreLower t old → EvictsInTurn limit rest (without t old) end
+    → EvictsInTurn limit (filter t (pairs_of rs old) ++ rest) old end
+ranked-go limit t [] old rest end ordered single rising have agree room low h =
+    subst (λ (ps : List PairRecord). EvictsInTurn limit rest ps end) (drops-none t old (λ q has is. elim (have q has is).1 [ ])) h
+ranked-go limit t (r ∷ rs) old rest end ordered single rising have agree room low h =
+    by (λ left up f g k l j. ranked-go limit t rs left rest end ord.1 one.1 up f g k l j) (pair_numbered r.number old) refl
+  where
+    ord : (list_all (λ (q : Rank). nat_le r.priority q.priority) rs ≡ true) × (are_ordered rs ≡ true)
+    ord = both (list_all (λ (q : Rank). nat_le r.priority q.priority) rs) (are_ordered rs) ordered
+
+    one : (list_all (λ (q : Rank). not (q.number == r.number)) rs ≡ true) × (are_single rs ≡ true)
+    one = both (list_all (λ (q : Rank). not (q.number == r.number)) rs) (are_single rs) single
+
+    later : Agree rs old
+    later s has p among same = agree s (inr has) p among same
+
+    Goes : List PairRecord → List PairRecord → Type 0
+    Goes gone left = EvictsInTurn limit (filter t gone ++ rest) left end
+
+    passing : (p : PairRecord) → pair_numbered r.number old ≡ Some p → t p ≡ true
+        → ((left : List PairRecord) → rises left ≡ true → HaveRanks t rs left → Agree rs left → length (filter t left) + limit ≤ length left → AreLower t left
+        → EvictsInTurn limit rest (without t left) end → Goes (pairs_of rs left) left)
+        → (limit < length old) × IsLeast old p × Goes (pairs_of rs old) (without (is_numbered p.number) old)
+    passing p found is again =
+        let m = p.number in
+        let number : m ≡ r.number = found-number r.number old p found in
+        let has = found-has r.number old p found in
+        let other = λ (q : PairRecord). not (is_numbered m q) in
+        let left = without (is_numbered m) old in
+        let goes : length old ≡ suc (length left) = one-goes m old p rising has refl in
+        let goes-too : length (filter t old) ≡ suc (length (without (is_numbered m) (filter t old))) =
+        one-goes m (filter t old) p (rises-filter t old rising) (has-filter t old p has is) refl in
+        let swapped : length (filter t left) ≡ length (without (is_numbered m) (filter t old)) = ap length (filter-swap t other old) in
+        let same : without t left ≡ without t old = without-both t old p rising has is in
+        let among : (q : PairRecord) → Has left q → Has old q = λ q hq. had-filtered other old q hq in
+        let rest-of = again left (rises-filter other old rising)
+        (narrower t r rs old left have among (λ q hq passes its. left-other m old q hq (its ∙ sym number)))
+        (λ s hs q hq its. later s hs q (among q hq) its)
+        (omega (arith, room, goes, goes-too, swapped)) (λ a b ha hb. low a b (among a ha) (among b hb))
+        (subst (λ (ps : List PairRecord). EvictsInTurn limit rest ps end) (sym same) h) in
+        let apart = subst (λ (k : ℕ). list_all (λ (q : Rank). not (q.number == k)) rs ≡ true) (sym number) one.0 in
+        let own : p.priority ≡ r.priority = agree r (inl refl) p has number in
+        let lowest : IsLeast old p = (
+          has,
+          λ q hq. elim (t q) as (λ b. t q ≡ b → p.priority ≤ q.priority) [
+            | true ↦ λ passes.
+                let s = have q hq passes in
+                let under = first-low r rs ord.0 s.0 s.1 in
+                omega (arith, under, own, s.3)
+            | false ↦ λ fails. low p q has hq is fails
+          ] refl,
+        ) in
+        (omega (arith, room, goes-too), lowest, subst (λ (ps : List PairRecord). Goes ps left) (pairs-other m rs old apart) rest-of)
+
+    by : ((left : List PairRecord) → rises left ≡ true → HaveRanks t rs left → Agree rs left → length (filter t left) + limit ≤ length left → AreLower t left
+        → EvictsInTurn limit rest (without t left) end → Goes (pairs_of rs left) left)
+        → (o : Option PairRecord) → pair_numbered r.number old ≡ o → Goes (cons_option o (pairs_of rs old)) old
+    by again None none =
+        again old rising (narrower t r rs old old have (λ q hq. hq) (λ q hq passes its. none-numbered r.number old none q hq its)) later room low h
+    by again (Some p) found = elim (t p) as (λ b. t p ≡ b
+        → EvictsInTurn limit ((if b then p ∷ filter t (pairs_of rs old) else filter t (pairs_of rs old)) ++ rest) old end) [
+          | true ↦ λ is. passing p found is again
+          | false ↦ λ fails. again old rising (narrower t r rs old old have (λ q hq. hq) (λ q hq passes its.
+              let number = found-number r.number old p found in
+              let same = named-once old p q rising (found-has r.number old p found) hq (number ∙ sym its) in
+              let no = ap t same in absurd (cc))) later room low h
+        ] refl
 
 -- ---- by priority and number
 

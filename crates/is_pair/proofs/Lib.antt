@@ -4,5 +4,6 @@ mod ChecklistIndex
 mod PriorityOrder
 pub mod DueTimes
 pub mod ConsentTimes
+pub mod ListParts
 pub mod RemovedPairs
 pub mod EvictedBlock

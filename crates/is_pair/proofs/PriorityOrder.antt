@@ -4,3 +4,5 @@ pub mod OrderedPairs
 pub mod GreatestPair
 pub mod LeastPair
 pub mod RecomputedPriorities
+pub mod RankedPairs
+pub mod SingleEntries

@@ -1,93 +1,147 @@
--- What is kept of the pairs that are removed.
-use Rattle.std.proofs.Common.{◌≡◌, ℕ, ◌<◌, ◌≤◌, ◌⊎◌, Bool, true, false, List, [], ◌∷◌, ◌++◌, length, drop, filter, get_or, zero, suc, nat_lt}
-use Rattle.std.proofs.Common.{inl, inr, refl, sym, subst, arith, if◌then◌else◌}
+-- What is listed of the pairs that are removed.
+use Rattle.std.proofs.Common.{◌≡◌, ◌==◌, ℕ, ◌+◌, ◌-◌, ◌<◌, ◌≤◌, Bool, true, false, not, List, [], ◌∷◌, ◌++◌, length, map, take, drop, filter, get_or, nat_lt, Some, None}
+use Rattle.std.proofs.Common.{refl, sym, ap, ◌∙◌, arith, append_assoc, if◌then◌else◌}
+use Rattle.std.proofs.lemmas.Bool.{eqb-true}
 use Rattle.std.proofs.lemmas.Bool.Decides.{nat_tests}
-use Rattle.std.proofs.lemmas.List.{length-append, length-drop}
+use Rattle.std.proofs.lemmas.List.{append-nil, length-append, length-drop, length-take, map-append, drop-drop, drop-append-le, take-append-drop, take_more}
+use Rattle.std.proofs.lemmas.List.Elements.{filter-append, filter_map-append}
+use Rattle.std.specs.List.{cons_option}
+use Rattle.std.proofs.lemmas.List.Sums.{length-filter, count_by-le-length}
+use Rattle.std.specs.Option.{option_to_list}
 use Rattle.is_proto.specs.Lists.{Has}
+use Rattle.is_pair.specs.declared.checklist.entries.Rank.{Rank}
 use Rattle.is_pair.specs.declared.checklist.removed.RemovedPair.{RemovedPair}
 use Rattle.is_pair.specs.declared.checklist.removed.Removal.{Removal}
 use Rattle.is_pair.specs.Pairs.{PairRecord}
-use Rattle.is_pair.specs.Removed.{with_removed, AreRemoved, IsOf, MayKeep, REMOVED_LIMIT}
+use Rattle.is_pair.specs.Multiset.{is_numbered, pair_numbered, rises}
+use Rattle.is_pair.specs.Lowest.{listed_by, pairs_of}
+use Rattle.is_pair.specs.Removed.{kept_as, last_removed, removed_after, RemovedFit, REMOVED_LIMIT}
+use Rattle.is_pair.proofs.ListParts.{named-once, none-numbered}
+use Rattle.is_pair.proofs.PairEntries.ChangedEntry.{above, both, found-number}
+use Rattle.is_pair.proofs.PriorityOrder.GreatestPair.{all-has, filter-none, found-has}
 
-pub has-at : {X : Type 0} (xs : List X) (i : ℕ) (x : X) → i < length xs → x ≡ get_or xs i x → Has xs x
-has-at [] i x within is = absurd (omega arith)
-has-at (y ∷ ys) zero x within is = inl (sym is)
-has-at (y ∷ ys) (suc i) x within is = inr (has-at ys i x (omega arith) is)
+-- ---- the last ones
 
--- among a list with one more at its end
-has-more : {X : Type 0} (xs : List X) (y x : X) → Has (xs ++ y ∷ []) x → Has xs x ⊎ (y ≡ x)
-has-more [] y x (inl e) = inr e
-has-more [] y x (inr h) = elim h [ ]
-has-more (z ∷ zs) y x (inl e) = inl (inl e)
-has-more (z ∷ zs) y x (inr h) = wider (has-more zs y x h)
-  where
-    wider : Has zs x ⊎ (y ≡ x) → Has (z ∷ zs) x ⊎ (y ≡ x)
-    wider (inl had) = inl (inr had)
-    wider (inr e) = inr e
+pub last-few : (rs : List RemovedPair) → length rs ≤ REMOVED_LIMIT → last_removed rs ≡ rs
+last-few rs few = let none : length rs - REMOVED_LIMIT ≡ 0 = omega (arith, few) in ap (λ (n : ℕ). drop n rs) none
 
-has-rest : {X : Type 0} (xs : List X) (x : X) → Has (drop 1 xs) x → Has xs x
-has-rest [] x h = elim h [ ]
-has-rest (y ∷ ys) x h = inr h
+pub last-more : (xs ys : List RemovedPair) → last_removed (last_removed xs ++ ys) ≡ last_removed (xs ++ ys)
+last-more xs ys =
+    let k = length xs - REMOVED_LIMIT in
+    let within : k ≤ length xs = omega arith in
+    let joined : drop k xs ++ ys ≡ drop k (xs ++ ys) = sym (drop-append-le k xs ys within) in
+    let rest = length (drop k (xs ++ ys)) - REMOVED_LIMIT in
+    let many : k + rest ≡ length (xs ++ ys) - REMOVED_LIMIT = omega (arith, length-drop k (xs ++ ys), length-append xs ys) in
+    ap last_removed joined ∙ drop-drop rest k (xs ++ ys) ∙ ap (λ (n : ℕ). drop n (xs ++ ys)) many
 
-pub had-filtered : {X : Type 0} (t : X → Bool) (xs : List X) (x : X) → Has (filter t xs) x → Has xs x
-had-filtered t [] x h = elim h [ ]
-had-filtered t (y ∷ ys) x h = (elim (t y) as (λ b. Has (if b then y ∷ filter t ys else filter t ys) x → Has (y ∷ ys) x) [
-  | true ↦ λ h. wider (had-filtered t ys x) h
-  | false ↦ λ h. inr (had-filtered t ys x h)
-]) h
-  where
-    wider : (Has (filter t ys) x → Has ys x) → Has (y ∷ filter t ys) x → Has (y ∷ ys) x
-    wider more (inl e) = inl e
-    wider more (inr h) = inr (more h)
+pub after-none : (reason : PairRecord → Removal) (rs : List RemovedPair) → length rs ≤ REMOVED_LIMIT → rs ≡ removed_after reason [] rs
+after-none reason rs few = sym (ap last_removed (append-nil rs) ∙ last-few rs few)
 
-one-more : (r q : RemovedPair) (rs : List RemovedPair) → Has (with_removed r rs) q → Has rs q ⊎ (r ≡ q)
-one-more r q rs h = (elim (nat_lt (length rs) REMOVED_LIMIT)
-    as (λ b. Has (if b then rs ++ r ∷ [] else drop 1 (rs ++ r ∷ [])) q → Has rs q ⊎ (r ≡ q)) [
-      | true ↦ λ h. has-more rs r q h
-      | false ↦ λ h. has-more rs r q (has-rest (rs ++ r ∷ []) q h)
-    ]) h
+pub after-both : (reason : PairRecord → Removal) (first second : List PairRecord) (rs : List RemovedPair)
+    → removed_after reason second (removed_after reason first rs) ≡ removed_after reason (first ++ second) rs
+after-both reason first second rs =
+    let f = λ (p : PairRecord). kept_as (reason p) p in
+    last-more (rs ++ map f first) (map f second)
+    ∙ ap last_removed (append_assoc rs (map f first) (map f second) ∙ ap (λ (t : List RemovedPair). rs ++ t) (sym (map-append f first second)))
 
-few-more : (r : RemovedPair) (rs : List RemovedPair) → length rs ≤ REMOVED_LIMIT → length (with_removed r rs) ≤ REMOVED_LIMIT
-few-more r rs few = (elim (nat_lt (length rs) REMOVED_LIMIT)
-    as (λ b. nat_lt (length rs) REMOVED_LIMIT ≡ b → length (if b then rs ++ r ∷ [] else drop 1 (rs ++ r ∷ [])) ≤ REMOVED_LIMIT) [
-      | true ↦ λ is. let less : length rs < REMOVED_LIMIT = grind (arith, nat_tests, is) in omega (arith, less, length-append rs (r ∷ []))
-      | false ↦ λ is. omega (arith, few, length-append rs (r ∷ []), length-drop 1 (rs ++ r ∷ []))
-    ]) refl
+-- one more is kept
+pub after-more : (reason : PairRecord → Removal) (gone : List PairRecord) (p : PairRecord) (rs old new : List RemovedPair) → old ≡ removed_after reason gone rs
+    → new ≡ last_removed (old ++ kept_as (reason p) p ∷ []) → new ≡ removed_after reason (gone ++ p ∷ []) rs
+after-more reason gone p rs old new before is =
+    is ∙ ap (λ (t : List RemovedPair). last_removed (t ++ kept_as (reason p) p ∷ [])) before ∙ after-both reason gone (p ∷ []) rs
 
-module _ (test : PairRecord → Bool) (reason : PairRecord → Removal) (pairs : List PairRecord) where
-  pub removed-none : (rs : List RemovedPair) → AreRemoved test reason pairs rs rs
-  removed-none rs = ((λ few. few), λ r h. inl h)
+pub after-some : (reason : PairRecord → Removal) (first second : List PairRecord) (rs old new : List RemovedPair) → old ≡ removed_after reason first rs
+    → new ≡ removed_after reason second old → new ≡ removed_after reason (first ++ second) rs
+after-some reason first second rs old new before is = is ∙ ap (removed_after reason second) before ∙ after-both reason first second rs
 
-  abbrev Reason : RemovedPair → Type 0
-  Reason r = (p : PairRecord) × Has pairs p × (test p ≡ true) × IsOf p r × (r.why ≡ reason p)
+-- ---- the pairs that pass
 
-  pub removed-more : (start old new : List RemovedPair) (r : RemovedPair) (p : PairRecord) → AreRemoved test reason pairs start old → MayKeep r old new
-      → Has pairs p → test p ≡ true → IsOf p r → r.why ≡ reason p → AreRemoved test reason pairs start new
-  removed-more start old new r p before (inl same) has passes is why = subst (AreRemoved test reason pairs start) (sym same) before
-  removed-more start old new r p before (inr more) has passes is why =
-      subst (AreRemoved test reason pairs start) (sym more) ((λ few. few-more r old (before.0 few)), λ q h. either q (one-more r q old h))
-    where
-      either : (q : RemovedPair) → Has old q ⊎ (r ≡ q) → Has start q ⊎ Reason q
-      either q (inl had) = before.1 q had
-      either q (inr e) = inr (subst Reason e (p, has, passes, is, why))
+pub filter-more : {X : Type 0} (t : X → Bool) (xs : List X) (i : ℕ) (x : X) → i < length xs → x ≡ get_or xs i x → t x ≡ true
+    → filter t (take (i + 1) xs) ≡ filter t (take i xs) ++ x ∷ []
+filter-more t xs i x within is passes =
+    ap (filter t) (take_more xs i x within) ∙ filter-append t (take i xs) (get_or xs i x ∷ []) ∙ rw (← is, passes) refl
 
--- some of the pairs are removed, after others were
-pub removed-then : (test some : PairRecord → Bool) (reason : PairRecord → Removal) (pairs left : List PairRecord) (start old new : List RemovedPair)
-    → ((p : PairRecord) → test p ≡ true) → ((p : PairRecord) → Has left p → Has pairs p)
-    → AreRemoved test reason pairs start old → AreRemoved some reason left old new → AreRemoved test reason pairs start new
-removed-then test some reason pairs left start old new every among before after =
-    ((λ few. after.0 (before.0 few)), λ r h. either r (after.1 r h))
-  where
-    either : (r : RemovedPair) → Has old r ⊎ Reason some reason left r → Has start r ⊎ Reason test reason pairs r
-    either r (inl had) = before.1 r had
-    either r (inr (p, has, passes, is, why)) = inr (p, among p has, every p, is, why)
+pub filter-other : {X : Type 0} (t : X → Bool) (xs : List X) (i : ℕ) (x : X) → i < length xs → x ≡ get_or xs i x → t x ≡ false
+    → filter t (take (i + 1) xs) ≡ filter t (take i xs)
+filter-other t xs i x within is fails =
+    ap (filter t) (take_more xs i x within) ∙ filter-append t (take i xs) (get_or xs i x ∷ []) ∙ rw (← is, fails) (append-nil (filter t (take i xs)))
 
--- more of the same pairs are removed
-pub removed-again : (test : PairRecord → Bool) (reason : PairRecord → Removal) (pairs : List PairRecord) (start old new : List RemovedPair)
-    → AreRemoved test reason pairs start old → AreRemoved test reason pairs old new → AreRemoved test reason pairs start new
-removed-again test reason pairs start old new before after =
-    ((λ few. after.0 (before.0 few)), λ r h. either r (after.1 r h))
-  where
-    either : (r : RemovedPair) → Has old r ⊎ Reason test reason pairs r → Has start r ⊎ Reason test reason pairs r
-    either r (inl had) = before.1 r had
-    either r (inr its) = inr its
+pub few-pass : {X : Type 0} (t : X → Bool) (xs : List X) → length (filter t xs) ≤ length xs
+few-pass t xs = omega (arith, length-filter t xs, count_by-le-length t xs)
+
+pub few-taken : {X : Type 0} (t : X → Bool) (xs : List X) (i : ℕ) → length (filter t (take i xs)) ≤ i
+few-taken t xs i = omega (arith, few-pass t (take i xs), length-take i xs)
+
+-- a number names one pair
+pub filter-one : (n : ℕ) (ps : List PairRecord) → rises ps ≡ true → filter (is_numbered n) ps ≡ option_to_list (pair_numbered n ps)
+filter-one n [] rising = refl
+filter-one n (p ∷ ps) rising =
+    let up = both (above p.number ps) (rises ps) rising in
+    elim (p.number == n) as (λ b. p.number == n ≡ b → (if b then p ∷ filter (is_numbered n) ps else filter (is_numbered n) ps)
+    ≡ option_to_list (if b then Some p else pair_numbered n ps)) [
+      | true ↦ λ is. ap (λ (qs : List PairRecord). p ∷ qs) (filter-none (is_numbered n) ps (λ q has its.
+          let less : p.number < q.number = grind (arith, nat_tests, all-has (λ (r : PairRecord). nat_lt p.number r.number) ps q up.0 has) in
+          let here = eqb-true p.number n is in let there = eqb-true q.number n its in omega (arith, less, here, there)))
+      | false ↦ λ is. filter-one n ps up.1
+    ] refl
+
+pub filter-only : (n : ℕ) (ps : List PairRecord) (p : PairRecord) → rises ps ≡ true → Has ps p → p.number ≡ n → filter (is_numbered n) ps ≡ p ∷ []
+filter-only n ps p rising has is = filter-one n ps rising ∙ ap option_to_list (elim (pair_numbered n ps) as (λ o. pair_numbered n ps ≡ o → o ≡ Some p) [
+  | Some q ↦ λ found. ap (λ (x : PairRecord). Some x) (named-once ps q p rising (found-has n ps q found) has (found-number n ps q found ∙ sym is))
+  | None ↦ λ none. absurd (none-numbered n ps none p has is)
+] refl)
+
+pub split-lengths : {X : Type 0} (t : X → Bool) (xs : List X) → length (filter t xs) + length (filter (λ (x : X). not (t x)) xs) ≡ length xs
+split-lengths t [] = refl
+split-lengths t (x ∷ xs) =
+    let rest = split-lengths t xs in
+    elim (t x) as (λ b. length (if b then x ∷ filter t xs else filter t xs)
+    + length (if not b then x ∷ filter (λ y. not (t y)) xs else filter (λ y. not (t y)) xs) ≡ length (x ∷ xs)) [
+      | true ↦ omega (arith, rest)
+      | false ↦ omega (arith, rest)
+    ]
+
+-- ---- capacity, after as many were listed as have gone
+
+pub fit-after : (len after cap gone left pairs : ℕ) → RemovedFit len cap pairs → after ≤ len + gone → gone + left ≡ pairs → RemovedFit after cap left
+fit-after len after cap gone left pairs fit few all = omega arith
+
+pub fit-more-after : (len after cap gone left pairs n : ℕ) → RemovedFit len cap (pairs + n) → after ≤ len + gone → gone + left ≡ pairs → RemovedFit after cap (left + n)
+fit-more-after len after cap gone left pairs n fit few all = omega arith
+
+-- ---- by priority
+
+pub listed-counts : (by_priority : Bool) (t : PairRecord → Bool) (rs : List Rank) (ps : List PairRecord) → length (filter t (pairs_of rs ps)) ≡ length (filter t ps)
+    → length (filter t (listed_by by_priority rs ps)) ≡ length (filter t ps)
+listed-counts true t rs ps same = same
+listed-counts false t rs ps same = refl
+
+of-one : (r : Rank) (ps : List PairRecord) → pairs_of (r ∷ []) ps ≡ option_to_list (pair_numbered r.number ps)
+of-one r ps = elim (pair_numbered r.number ps) as (λ o. cons_option o [] ≡ option_to_list o) [ Some p ↦ refl | None ↦ refl ]
+
+-- one entry more
+pub pairs-more : (t : PairRecord → Bool) (rs : List Rank) (ps : List PairRecord) (i : ℕ) (r d : Rank) → i < length rs → r ≡ get_or rs i d
+    → filter t (pairs_of (take (i + 1) rs) ps) ≡ filter t (pairs_of (take i rs) ps) ++ filter t (option_to_list (pair_numbered r.number ps))
+pairs-more t rs ps i r d within is =
+    ap (λ (qs : List Rank). filter t (pairs_of qs ps)) (take_more rs i d within)
+    ∙ ap (filter t) (filter_map-append (λ (q : Rank). pair_numbered q.number ps) (take i rs) (get_or rs i d ∷ []))
+    ∙ filter-append t (pairs_of (take i rs) ps) (pairs_of (get_or rs i d ∷ []) ps)
+    ∙ ap (λ (q : Rank). filter t (pairs_of (take i rs) ps) ++ filter t (pairs_of (q ∷ []) ps)) (sym is)
+    ∙ ap (λ (qs : List PairRecord). filter t (pairs_of (take i rs) ps) ++ filter t qs) (of-one r ps)
+
+pub few-so-far : (t : PairRecord → Bool) (rs : List Rank) (ps : List PairRecord) (i : ℕ) (r d : Rank) → i < length rs → r ≡ get_or rs i d
+    → length (filter t (pairs_of (take i rs) ps)) + length (filter t (option_to_list (pair_numbered r.number ps))) ≤ length (filter t (pairs_of rs ps))
+few-so-far t rs ps i r d within is =
+    let next = ap length (pairs-more t rs ps i r d within is) in
+    let whole = ap (λ (qs : List Rank). length (filter t (pairs_of qs ps))) (take-append-drop (i + 1) rs) in
+    let parts = ap (λ (qs : List PairRecord). length (filter t qs)) (filter_map-append (λ (q : Rank). pair_numbered q.number ps) (take (i + 1) rs) (drop (i + 1) rs)) in
+    let more = ap length (filter-append t (pairs_of (take (i + 1) rs) ps) (pairs_of (drop (i + 1) rs) ps)) in
+    omega (
+      arith,
+      next,
+      whole,
+      parts,
+      more,
+      length-append (filter t (pairs_of (take i rs) ps)) (filter t (option_to_list (pair_numbered r.number ps))),
+      length-append (filter t (pairs_of (take (i + 1) rs) ps)) (filter t (pairs_of (drop (i + 1) rs) ps)),
+    )

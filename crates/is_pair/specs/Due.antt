@@ -6,12 +6,12 @@ use Rattle.is_proto.specs.Lists.{Has, NonePass}
 use Rattle.is_proto.specs.Times.{MAX, MILLISECOND, SECOND, later}
 use Rattle.is_stun.specs.declared.timing.StunTiming.{StunTiming}
 use Rattle.is_stun.specs.declared.timing.Consent.{Consent}
-use Rattle.is_stun.specs.Timing.{consent_of, early_delay, is_modern, resend_delay, last_resend_delay, timeout_of}
+use Rattle.is_stun.specs.Timing.{consent_of, early_delay, is_modern, EARLY_INTERVAL, resend_delay, last_resend_delay, timeout_of}
 use Rattle.is_pair.specs.declared.pair.states.NominationState.{NominationState}
 use Rattle.is_pair.specs.declared.pair.states.NominationState.TheVariants.{None as Unnominated, Nominated, Attempt, Success}
-use Rattle.is_pair.specs.Checks.{Check, last_check, unanswered_count, first_unanswered}
+use Rattle.is_pair.specs.Checks.{Check, last_check, last_round_trip, unanswered_count, first_unanswered}
 use Rattle.is_pair.specs.States.{is_nominating}
-use Rattle.is_pair.specs.Pairs.{PairRecord, is_valid, is_recent, is_lite_alive}
+use Rattle.is_pair.specs.Pairs.{PairRecord, is_nominated, is_valid, is_recent, is_lite_alive}
 
 -- ---- when it is due
 
@@ -67,9 +67,37 @@ abbrev pub is_repeated_early : ℕ → StunTiming → PairRecord → Bool
 is_repeated_early now t p =
     if p.answers == 0 then is_early_on now t p else is_nominating p.nomination && nat_lt (unanswered_count p.checks) t.max_retransmits
 
--- the delay after the last check: with the profile `Modern` checks are repeated early
+-- A valid nominated pair has checks without a response.
+abbrev pub is_hushed : PairRecord → Bool
+is_hushed p = is_valid p && is_nominated p && nat_lt 0 (unanswered_count p.checks)
+
+-- how much later than the one before a response may come
+abbrev pub LATENESS : ℕ
+LATENESS = 50 * MILLISECOND
+
+-- how often it is checked at most, once `max_retransmits` checks have no response
+abbrev pub HUSHED_INTERVAL : ℕ
+HUSHED_INTERVAL = 500 * MILLISECOND
+
+-- and before
+abbrev pub hushed_interval : StunTiming → ℕ → ℕ
+hushed_interval t count = if nat_lt count t.max_retransmits then EARLY_INTERVAL else HUSHED_INTERVAL
+
+-- then the next check is sent once the response to the last one is late
+abbrev pub hushed_delay : StunTiming → PairRecord → ℕ
+hushed_delay t p = max (hushed_interval t (unanswered_count p.checks)) (later (unwrap_or (last_round_trip p.checks) 0) LATENESS)
+
+-- the delay after the last check: checks are repeated early, or after the RTO
+abbrev pub repeated_delay : ℕ → StunTiming → PairRecord → ℕ
+repeated_delay now t p = if is_repeated_early now t p then early_delay (silent_count p) else usual_delay now t p.checks
+
+-- with the profile `Modern`
+abbrev pub modern_delay : ℕ → StunTiming → PairRecord → ℕ
+modern_delay now t p = if is_hushed p then min (hushed_delay t p) (repeated_delay now t p) else repeated_delay now t p
+
+-- the delay after the last check
 abbrev pub delay_of : ℕ → StunTiming → PairRecord → ℕ
-delay_of now t p = if is_modern t && is_repeated_early now t p then early_delay (silent_count p) else usual_delay now t p.checks
+delay_of now t p = if is_modern t then modern_delay now t p else usual_delay now t p.checks
 
 -- that long after the last check, or now if there was none
 abbrev pub next_due_time : ℕ → StunTiming → PairRecord → ℕ

@@ -44,6 +44,11 @@ abbrev pub are_ordered : List Rank → Bool
 are_ordered [] = true
 are_ordered (r ∷ rs) = list_all (λ q. nat_le r.priority q.priority) rs && are_ordered rs
 
+-- no two have the same number
+abbrev pub are_single : List Rank → Bool
+are_single [] = true
+are_single (r ∷ rs) = list_all (λ q. not (q.number == r.number)) rs && are_single rs
+
 -- the entry has the ID, and its pair passes
 abbrev pub names_passing : List ℕ → (PairRecord → Bool) → List PairRecord → Kept → Bool
 names_passing id test pairs k = bytes_eq k.id.0 id && list_any (passes_at k.number test) pairs

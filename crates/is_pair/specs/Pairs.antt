@@ -12,6 +12,7 @@ use Rattle.is_pair.specs.States.{is_valid_state, is_nominated_state, state_once_
 use Rattle.is_pair.specs.States.{nomination_once_answered, nomination_from}
 use Rattle.is_pair.specs.Checks.{Check, IsCheckAt, answered_at, last_checks}
 
+-- a pair: the indices of its candidates, its priority, its checks, its states, and what the peer sent on it
 pub record PairRecord : Type 0 where
   pub number : ℕ
   -- the indices of its candidates in their lists
@@ -42,7 +43,7 @@ pub record PairRecord : Type 0 where
   -- the code of the last error response to one of its checks
   pub last_error : Option ℕ
 
--- arguments: number, local index, remote index, priority
+-- a new pair; arguments: number, local index, remote index, priority
 abbrev pub new_pair : ℕ → ℕ → ℕ → ℕ → PairRecord
 new_pair number local remote priority = record {
   number = number;
@@ -151,6 +152,7 @@ once_sent now kept p = record p {
   due = None;
 }
 
+-- after a check was sent: it is stored, with the last ones, and no due time is fixed
 abbrev pub checked : ℕ → StunTiming → Bool → List ℕ → PairRecord → PairRecord
 checked now t controlling id p = once_sent now t.max_retransmits (record p { checks = p.checks ++ check_of now controlling id p ∷ [] })
 

@@ -27,6 +27,7 @@ CheckedIsLater =
     (now at : ℕ) (t : StunTiming) (controlling : Bool) (id : List ℕ) (p : PairRecord) → IsPaced t → now < MAX
     → min now at < due_time_of at t (checked now t controlling id p)
 
+-- A check of a pair that is due by an earlier time leaves fewer pairs that are due by that time.
 abbrev pub FewerAreAhead : Type 0
 FewerAreAhead =
     (now by : ℕ) (t : StunTiming) (controlling : Bool) (id : List ℕ) (pairs : List PairRecord) (p : PairRecord) → IsPaced t → now < MAX → by ≤ now

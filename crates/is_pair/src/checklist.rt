@@ -1,9 +1,11 @@
 //! The checklist (RFC 8445, section 6.1.2): the pairs by their numbers, an index of the transaction IDs of their stored
 //! checks, and their order by priority.
 
-ghost use Rattle.std.specs.Prelude.{◌≡◌, true};
-ghost use Rattle.is_pair.specs.Entries.{are_ordered, ids_rise, IsIndex, IsRanking};
+ghost use Rattle.std.specs.Prelude.{◌≡◌, ◌≤◌, true, vec_len};
+ghost use Rattle.std.specs.VecDeque.{deque_len, deque_capacity};
+ghost use Rattle.is_pair.specs.Entries.{are_ordered, are_single, ids_rise, IsIndex, IsRanking};
 ghost use Rattle.is_pair.specs.Multiset.{rises};
+ghost use Rattle.is_pair.specs.Removed.{REMOVED_LIMIT, RemovedFit};
 
 mod beginning;
 mod changes;
@@ -46,21 +48,25 @@ pub struct Checklist {
     ranks: Vec<Rank>,
     /// Receives the checks of a pair whose queue is full.
     spare: VecDeque<BindingAttempt>,
-    /// The pairs that were removed last, the oldest first.
+    /// The pairs that were removed last, the oldest first. It has capacity for those that are still to be removed.
     removed: VecDeque<RemovedPair>,
     ghost rising: { rises pairs.items ≡ true },
     ghost by_id: { ids_rise index.items ≡ true },
     ghost indexed: { IsIndex index.items pairs.items },
     ghost ordered: { are_ordered ranks.items ≡ true },
     ghost ranked: { IsRanking ranks.items pairs.items },
+    ghost single: { are_single ranks.items ≡ true },
+    ghost few: { deque_len removed ≤ REMOVED_LIMIT },
+    ghost fit: { RemovedFit (deque_len removed) (deque_capacity removed) (vec_len pairs) },
 }
 
 impl Checklist {
     ghost use Rattle.std.specs.Prelude.{◌<◌, ◌+◌, ◌↔◌, ℕ, IsTrue, is_some, length, OnOk, [], ◌++◌, ◌∷◌};
     ghost use Rattle.std.specs.Option.{option_copied};
     ghost use Rattle.is_pair.specs.Multiset.{is_numbered, has_number, pair_numbered, are_below, without};
-    ghost use Rattle.is_pair.specs.Checklists.{multiset_of, HasRoom, HasCheckRoom};
-    ghost use Rattle.is_pair.specs.Removed.{removed_of, AreRemoved, HasRemovedRoom, IsKeptLast};
+    ghost use Rattle.is_pair.specs.Checklists.{multiset_of, HasRoom, HasCheckRoom, removed_of};
+    ghost use Rattle.is_pair.specs.Lowest.{order_of, ranked_of};
+    ghost use Rattle.is_pair.specs.Removed.{removed_passing};
 
     /// Makes a checklist without pairs.
     pub fn new(alloc: Global) -> Checklist
@@ -103,7 +109,7 @@ impl Checklist {
         listed::get(&self.pairs, number)
     }
 
-    /// Reserves capacity for n more pairs.
+    /// Reserves capacity for n more pairs, and to list them once they are removed.
     ///
     /// If the allocation fails, the pairs are unchanged.
     pub fn reserve(&mut self, n: usize) -> Result<(), AllocError>
@@ -113,6 +119,7 @@ impl Checklist {
         ensures check_room { (n : ℕ) → HasCheckRoom n self.old → HasCheckRoom n self.new }
         ensures removed { removed_of self.new ≡ removed_of self.old }
     {
+        removed::reserve(&mut self.removed, self.pairs.len(), n)?;
         reserve_few(&mut self.pairs, n)?;
         reserve_few(&mut self.ranks, n)
     }
@@ -136,41 +143,49 @@ impl Checklist {
         ranks::put(&mut self.ranks, rank);
     }
 
-    /// Removes the pairs that pass the test, without a trace.
-    fn drop_where<T: PairTest>(&mut self, test: &T)
+    /// Removes the pairs that pass the test, and lists them by priority or by number.
+    fn remove_passing<T: PairRemoval>(&mut self, test: &T, by_priority: bool)
         ensures left { multiset_of self.new ≡ without (T.passes test.now) (multiset_of self.old) }
         ensures room { (n : ℕ) → HasRoom n self.old → HasRoom n self.new }
         ensures check_room { (n : ℕ) → HasCheckRoom n self.old → HasCheckRoom n self.new }
         ensures below { (n : ℕ) → are_below n (multiset_of self.old) ≡ true → are_below n (multiset_of self.new) ≡ true }
-        ensures removed { removed_of self.new ≡ removed_of self.old }
+        ensures removed { removed_of self.new
+            ≡ removed_passing (T.passes test.now) (T.reason test.now) (order_of by_priority self.old) (removed_of self.old) }
     {
+        listed::len_is(&self.pairs);
+        removed::keep_passing(
+            &mut self.removed,
+            &self.pairs,
+            &self.ranks,
+            test,
+            by_priority,
+        );
         listed::drop_passing(&mut self.pairs, test);
+        listed::len_is(&self.pairs);
         index::keep_known(&mut self.index, &self.pairs);
         ranks::keep_known(&mut self.ranks, &self.pairs);
     }
 
-    /// Removes the pairs that pass the test.
+    /// Removes the pairs that pass the test, and lists them by number.
     pub fn remove_where<T: PairRemoval>(&mut self, test: &T)
         ensures left { multiset_of self.new ≡ without (T.passes test.now) (multiset_of self.old) }
         ensures room { (n : ℕ) → HasRoom n self.old → HasRoom n self.new }
         ensures check_room { (n : ℕ) → HasCheckRoom n self.old → HasCheckRoom n self.new }
         ensures below { (n : ℕ) → are_below n (multiset_of self.old) ≡ true → are_below n (multiset_of self.new) ≡ true }
-        ensures removed { AreRemoved (T.passes test.now) (T.reason test.now) (multiset_of self.old) (removed_of self.old) (removed_of self.new) }
+        ensures removed { removed_of self.new ≡ removed_passing (T.passes test.now) (T.reason test.now) (multiset_of self.old) (removed_of self.old) }
     {
-        removed::keep_passing(&mut self.removed, &self.pairs, test);
-        self.drop_where(test);
+        self.remove_passing(test, false);
     }
 
-    /// Removes the pairs that pass the test. Of those that are kept, the pairs of greatest priority are the last ones.
+    /// Removes the pairs that pass the test. They are listed by priority, so those of greatest priority are the last ones.
     pub fn remove_by_priority<T: PairRemoval>(&mut self, test: &T)
         ensures left { multiset_of self.new ≡ without (T.passes test.now) (multiset_of self.old) }
         ensures room { (n : ℕ) → HasRoom n self.old → HasRoom n self.new }
         ensures check_room { (n : ℕ) → HasCheckRoom n self.old → HasCheckRoom n self.new }
         ensures below { (n : ℕ) → are_below n (multiset_of self.old) ≡ true → are_below n (multiset_of self.new) ≡ true }
-        ensures removed { AreRemoved (T.passes test.now) (T.reason test.now) (multiset_of self.old) (removed_of self.old) (removed_of self.new) }
+        ensures removed { removed_of self.new ≡ removed_passing (T.passes test.now) (T.reason test.now) (ranked_of self.old) (removed_of self.old) }
     {
-        removed::keep_ranked(&mut self.removed, &self.pairs, &self.ranks, test);
-        self.drop_where(test);
+        self.remove_passing(test, true);
     }
 
     /// Removes the pair with the number, if there is one, for this reason.
@@ -179,11 +194,12 @@ impl Checklist {
         ensures room { (n : ℕ) → HasRoom n self.old → HasRoom n self.new }
         ensures check_room { (n : ℕ) → HasCheckRoom n self.old → HasCheckRoom n self.new }
         ensures below { (n : ℕ) → are_below n (multiset_of self.old) ≡ true → are_below n (multiset_of self.new) ≡ true }
-        ensures removed { AreRemoved (is_numbered number) (λ p. why) (multiset_of self.old) (removed_of self.old) (removed_of self.new) }
-        ensures kept { HasRemovedRoom self.old → IsKeptLast why (pair_numbered number (multiset_of self.old)) (removed_of self.old) (removed_of self.new) }
+        ensures removed { removed_of self.new ≡ removed_passing (is_numbered number) (λ p. why) (multiset_of self.old) (removed_of self.old) }
     {
+        listed::len_is(&self.pairs);
         removed::keep_numbered(&mut self.removed, &self.pairs, number, why);
         listed::take_out(&mut self.pairs, number);
+        listed::len_is(&self.pairs);
         index::drop_number(&mut self.index, number);
         ranks::drop_number(&mut self.ranks, number);
     }

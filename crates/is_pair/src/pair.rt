@@ -13,12 +13,14 @@ mod order;
 mod priority;
 pub(crate) mod replacing;
 mod requests;
+pub(crate) mod silence;
 mod states;
 mod statistics;
 
 pub use attempt::BindingAttempt;
 use is_candidate::{Candidate, CandidateKind};
 use is_proto::{Duration, IceError, Instant};
+pub use silence::Span;
 pub use states::{CheckState, NominationState};
 use std::alloc::Global;
 use std::collections::VecDeque;

@@ -9,3 +9,4 @@ pub mod CountedPairs
 pub mod LeastOfKind
 pub mod PairKinds
 pub mod RemovedInTurn
+pub mod LeftPair

@@ -11,6 +11,7 @@ is_connected New = false
 is_connected Checking = false
 is_connected Disconnected = false
 
+-- the state is Disconnected
 abbrev pub is_disconnected : IceConnectionState → Bool
 is_disconnected Disconnected = true
 is_disconnected New = false

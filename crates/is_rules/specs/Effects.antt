@@ -171,6 +171,7 @@ module _ {H P : Type 0} where
         (old new : AgentRecord H P) (s t : Stream) (call : Call P) (e : Entry)
         → IsSound old → GivesBased call → Step mac answers old s call e new t → PathEffect old call e new × IsSound new
 
+    -- Each transition from a state that satisfies the invariant has the effect `TradeEffect`.
     abbrev pub TradeTheorem : (P → CandidateRecord → ℕ → ℕ → Type 0) → Type 0
     TradeTheorem answers =
         (old new : AgentRecord H P) (s t : Stream) (call : Call P) (e : Entry)

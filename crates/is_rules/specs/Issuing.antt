@@ -1,5 +1,5 @@
 -- What a transition issues, and how it changes the queues.
-use Rattle.std.specs.Prelude.{◌≡◌, ℕ, Bool, true, List, [], ◌∷◌, ◌++◌, Option, Some, None, is_some, ◌⊎◌, if◌then◌else◌}
+use Rattle.std.specs.Prelude.{◌≡◌, ℕ, ◌&&◌, Bool, true, List, [], ◌∷◌, ◌++◌, Option, Some, None, is_some, ◌⊎◌, if◌then◌else◌}
 use Rattle.is_proto.specs.Lists.{Has}
 use Rattle.is_proto.specs.Packets.{Packet}
 use Rattle.is_candidate.specs.Candidates.{CandidateRecord}
@@ -10,6 +10,7 @@ use Rattle.is_stun.specs.Message.{Message}
 use Rattle.is_stun.specs.Checks.{binding_request, binding_reply, binding_role_conflict_reply, with_nomination}
 use Rattle.is_stun.specs.Writing.{written}
 use Rattle.is_stun.specs.Theorems.{IsPut}
+use Rattle.is_stun.specs.Timing.{is_modern}
 use Rattle.is_rules.specs.declared.credentials.IceCreds.{IceCreds}
 use Rattle.is_rules.specs.declared.emitted.Issued.{Issued}
 use Rattle.is_rules.specs.declared.emitted.Path.{Path}
@@ -22,6 +23,7 @@ use Rattle.is_rules.specs.Agent.{AgentRecord}
 use Rattle.is_rules.specs.Sending.{carried}
 use Rattle.is_rules.specs.Roles.{conflict_of}
 use Rattle.is_rules.specs.Queue.{queued_last, request_at}
+use Rattle.is_rules.specs.Restarting.{early_kept}
 use Rattle.is_rules.specs.Checking.{username_between}
 use Rattle.is_rules.specs.Steps.{Call, RestartIce, HandleTimeout, PollTransmit}
 use Rattle.is_rules.specs.Brought.{Brings, IsServing}
@@ -71,6 +73,8 @@ module _ {H P : Type 0} where
 
   abbrev pub Waits : AgentRecord H P → Call P → Entry → AgentRecord H P → Type 0
   Waits old (HandleTimeout now) e new = WaitsPast (request_at now old) e.answer old.queue new.queue
+  -- with `Modern` a restart empties the queue
+  Waits old (RestartIce creds keep) e new = new.queue ≡ early_kept (is_done e.answer && is_modern old.timing) old.queue
   Waits old call e new = WaitsWith old call e new
 
   -- ---- what is issued

@@ -35,6 +35,7 @@ pub mod Settling
 pub mod Checking
 pub mod Due
 pub mod TimeoutStart
+pub mod Leaving
 pub mod Timeouts
 pub mod Steps
 pub mod Sound

@@ -30,6 +30,7 @@ module _ {H P : Type 0} where
       (top : PairRecord) × Has a.pairs top × (is_eligible a.controlling top ≡ true) × (path ≡ Some (path_of a top))
       × IsChosen a.controlling (followed a) (selection_of a) (Some top)
 
+  -- an accepted success response, or a `handle_timeout` call that succeeds and serves no early request
   abbrev pub IsNominationPoint : AgentRecord H P → Call P → Entry → Type 0
   IsNominationPoint old (HandleTimeout now) e = (e.answer ≡ Done) × (request_at now old ≡ None)
   IsNominationPoint old call e = (at : ℕ) × (by : Path) × (m : Message) × Brings call e at by m × (m.class ≡ class.Success)

@@ -1,13 +1,16 @@
 -- ICE restarts (RFC 8445, section 9), and pairs that are formed again.
-use Rattle.std.specs.Prelude.{◌≡◌, ℕ, ◌++◌, ◌∷◌, Bool, true, false, List, [], length, map, Some, None, Result, Ok, Err}
+use Rattle.std.specs.Prelude.{◌≡◌, ℕ, ◌++◌, ◌∷◌, not, Bool, true, false, List, [], filter, length, map, Some, None, Result, Ok, Err}
 use Rattle.is_proto.specs.declared.error.IceError.{IceError}
 use Rattle.is_proto.specs.declared.error.IceError.TheVariants.{OutOfMemory, PairIdsExhausted, CredentialsTooLong}
 use Rattle.is_candidate.specs.Candidates.{CandidateRecord}
+use Rattle.is_stun.specs.Timing.{is_modern}
 use Rattle.is_rules.specs.declared.credentials.IceCreds.{IceCreds}
-use Rattle.is_rules.specs.declared.event.IceAgentEvent.TheVariants.{IceRestart}
+use Rattle.is_rules.specs.declared.event.IceAgentEvent.{IceAgentEvent}
+use Rattle.is_rules.specs.declared.event.IceAgentEvent.TheVariants.{IceRestart, NominatedSend}
 use Rattle.is_rules.specs.declared.event.IceConnectionState.TheVariants.{Checking}
 use Rattle.is_rules.specs.Fitting.{are_too_long}
 use Rattle.is_rules.specs.Agent.{AgentRecord, no_stats}
+use Rattle.is_rules.specs.Request.{RequestRecord}
 use Rattle.is_rules.specs.Forming.{HasNumbers, FormsAll, live_combinations}
 use Rattle.is_rules.specs.States.{with_state}
 
@@ -19,9 +22,24 @@ abbrev pub kept_local : Bool → List ℕ → List CandidateRecord → List Cand
 kept_local true ufrag cs = map (with_ufrag ufrag) cs
 kept_local false ufrag cs = []
 
+-- the early requests after a restart: none with `Modern`, since they came in the session before
+abbrev pub early_kept : Bool → List RequestRecord → List RequestRecord
+early_kept true queue = []
+early_kept false queue = queue
+
+-- The event reports a selected path.
+abbrev pub is_selection : IceAgentEvent → Bool
+is_selection (NominatedSend proto source destination) = true
+is_selection _ = false
+
+-- the events that wait once the pairs are cleared: with `Modern` none of a selected path, since its pair is gone
+abbrev pub events_kept : Bool → List IceAgentEvent → List IceAgentEvent
+events_kept true events = filter (λ e. not (is_selection e)) events
+events_kept false events = events
+
 module _ {H P : Type 0} where
-  -- These do not change: the role, the early requests, the selected number, that of the peer's last nomination, the number of the agent's
-  -- last nomination, the turns of kinds,
+  -- These do not change: the role, with `Original` the early requests, the selected number, that of the peer's last nomination, the number of
+  -- the agent's last nomination, the turns of kinds,
   -- the next pair number, the settings and the time of the last call.
   abbrev pub cleared : IceCreds → Bool → AgentRecord H P → AgentRecord H P
   cleared creds keep a = record a {
@@ -31,6 +49,7 @@ module _ {H P : Type 0} where
     remote = [];
     pairs = [];
     numbers_seen = false;
+    queue = early_kept (is_modern a.timing) a.queue;
     packets = [];
     events = [];
     discovered_sources = [];
@@ -55,9 +74,13 @@ module _ {H P : Type 0} where
   abbrev pub HasNumbersForAll : AgentRecord H P → Type 0
   HasNumbersForAll a = HasNumbers a.next_number (length (live_combinations a.local a.remote))
 
-  -- no pairs, and the state Checking
+  -- no pairs, and of the events those that are kept
+  abbrev pub unpaired : AgentRecord H P → AgentRecord H P
+  unpaired a = record a { pairs = []; events = events_kept (is_modern a.timing) a.events }
+
+  -- the same, and the state Checking
   abbrev pub emptied : AgentRecord H P → AgentRecord H P
-  emptied a = with_state Checking (record a { pairs = [] })
+  emptied a = with_state Checking (unpaired a)
 
   -- `recreate_candidate_pairs`: pairs of all candidates that are not discarded
   abbrev pub Recreates : AgentRecord H P → Result (Unit {0}) IceError → AgentRecord H P → Type 0

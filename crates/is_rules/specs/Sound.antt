@@ -33,8 +33,8 @@ is_started_state Waiting = false
 is_started_state InProgress = true
 is_started_state Succeeded = true
 
--- Without the invariant, a new candidate could give another path to a pair whose index is past the end, and a change of the pair
--- with a given number could change two pairs.
+-- The state satisfies the invariant. Without it, a new candidate could give another path to a pair whose index is past the end, and a
+-- change of the pair with a given number could change two pairs.
 pub record IsSound {H P : Type 0} (a : AgentRecord H P) : Type 0 where
   pub placed : ArePlaced a.local a.remote a.pairs
   pub rising : rises a.pairs ≡ true

@@ -146,7 +146,8 @@ module _ {H P : Type 0} (mac : H → List ℕ → List ℕ → List ℕ) (answer
   SetsRetransmits n old s e new t =
       MatchBool (n == 0) ((e ≡ quiet NotCalled) × (new ≡ old) × (t ≡ s)) (Becomes (with_retransmits n old) s e new t)
 
-  -- Only `handle_timeout` draws random words.
+  -- The call leads from the first state and random stream to this log entry, and to the second ones. Only `handle_timeout` draws random
+  -- words.
   abbrev pub Step : AgentRecord H P → Stream → Call P → Entry → AgentRecord H P → Stream → Type 0
   Step old s (SetMtu target warn) e new t = MayDo (SetsMtu old target warn) s e new t
   Step old s (SetControlTieBreaker tie_breaker) e new t = Becomes (record old { tie_breaker = tie_breaker }) s e new t

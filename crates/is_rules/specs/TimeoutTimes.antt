@@ -36,15 +36,19 @@ IsGiven old deadline = is_some deadline ≡ is_some old.last_time
 abbrev pub soonest : {H P : Type 0} → AgentRecord H P → ℕ → ℕ
 soonest a last = if is_idle a then min (soon a last) (later last (3 * SECOND)) else soon a last
 
+-- What `poll_timeout` returns is as `IsAhead` says.
 abbrev pub TimeoutIsAhead : Type 0 → Type 0 → Type 0
 TimeoutIsAhead H P = (old new : AgentRecord H P) (deadline : Option ℕ) → PollsTimeout old deadline new → IsAhead old deadline
 
+-- What `poll_timeout` returns is as `ComesInTime` says.
 abbrev pub TimeoutIsInTime : Type 0 → Type 0 → Type 0
 TimeoutIsInTime H P = (old new : AgentRecord H P) (deadline : Option ℕ) → PollsTimeout old deadline new → ComesInTime old deadline
 
+-- What `poll_timeout` returns is as `ComesSoon` says.
 abbrev pub TimeoutIsSoon : Type 0 → Type 0 → Type 0
 TimeoutIsSoon H P = (old new : AgentRecord H P) (deadline : Option ℕ) → PollsTimeout old deadline new → ComesSoon old deadline
 
+-- What `poll_timeout` returns is as `IsGiven` says.
 abbrev pub TimeoutIsGiven : Type 0 → Type 0 → Type 0
 TimeoutIsGiven H P = (old new : AgentRecord H P) (deadline : Option ℕ) → PollsTimeout old deadline new → IsGiven old deadline
 

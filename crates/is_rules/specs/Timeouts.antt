@@ -17,6 +17,7 @@ use Rattle.is_rules.specs.Request.{RequestRecord}
 use Rattle.is_rules.specs.Emitted.{nothing_emitted, emitted_by}
 use Rattle.is_pair.specs.Multiset.{without}
 use Rattle.is_rules.specs.Agent.{AgentRecord}
+use Rattle.is_rules.specs.Leaving.{path_left}
 use Rattle.is_rules.specs.Nominating.{Nominates}
 use Rattle.is_rules.specs.States.{same_state, evaluated}
 use Rattle.is_rules.specs.Settling.{started, settled}
@@ -71,11 +72,11 @@ module _ {H P : Type 0} where
     abbrev pub ServesQueued : RequestRecord → AgentRecord H P → Stream → Emitted → AgentRecord H P → Stream → Type 0
     ServesQueued q old s emitted new t = Serves mac q (first_taken old) emitted new × (t ≡ s)
 
-    -- nomination, removal of failed pairs, and a check
+    -- The selected pair may give way to another one. Then nomination, removal of failed pairs, and a check.
     abbrev pub MaintainsPairs : ℕ → AgentRecord H P → Stream → Emitted → AgentRecord H P → Stream → Type 0
     MaintainsPairs now old s emitted new t =
         (first second : Option Path) × (issued : Option Issued) × (named kept : AgentRecord H P)
-        × Nominates (at_timeout now old) first named
+        × Nominates (path_left now (at_timeout now old)) first named
         × RemovesExpired now named second kept
         × MayCheck mac now kept.remote_creds kept s issued new t
         × (emitted ≡ emitted_by issued first second)

@@ -1,11 +1,12 @@
 //! The kinds of many pairs: whether a local candidate reaches the outside is decided once, and not for each pair.
 
-ghost use Rattle.std.specs.Prelude.{◌≡◌, ◌<◌, ℕ, true, length, slice_index};
-ghost use Rattle.is_candidate.specs.Candidates.{candidate_at};
+ghost use Rattle.std.specs.Prelude.{◌≡◌, ◌<◌, ℕ, true, false, length, slice_index};
+ghost use Rattle.std.specs.List.{list_any};
+ghost use Rattle.is_candidate.specs.Candidates.{CandidateRecord, candidate_at};
 ghost use Rattle.is_rules.specs.Kept.{is_placed};
-ghost use Rattle.is_rules.specs.Kinds.{kind_of, side_of, KINDS};
+ghost use Rattle.is_rules.specs.Kinds.{is_reflexive, kind_of, side_of, KINDS};
 
-use crate::kinds::{remote_rank, side_of};
+use crate::kinds::{is_reflexive, remote_rank, side_of};
 use crate::places::candidate_at;
 use is_candidate::Candidate;
 use is_pair::pair::CandidatePair;
@@ -14,8 +15,25 @@ use is_pair::pair::CandidatePair;
 #[derive(Drop)]
 pub(crate) struct KindTable<'a> {
     local: &'a [Candidate],
+    /// Packets of every local candidate reach the outside.
+    all_outer: bool,
     sides: [u8; 64],
-    ghost right: { (place : ℕ) → place < 64 → place < length local.now → slice_index sides place ≡ side_of local.now (candidate_at local.now place) },
+    ghost outer: { all_outer ≡ true → (c : CandidateRecord) → side_of local.now c ≡ 0 },
+    ghost right: { all_outer ≡ false → (place : ℕ) → place < 64 → place < length local.now → slice_index sides place ≡ side_of local.now (candidate_at local.now place) },
+}
+
+/// A live candidate counts as server-reflexive.
+fn has_any_reflexive(local: &[Candidate]) -> bool
+    ensures { result ≡ list_any is_reflexive local.now }
+{
+    local.iter().any(|c| is_reflexive(c))
+}
+
+/// None does: then packets of each candidate reach the outside.
+fn are_all_outer(local: &[Candidate]) -> bool
+    ensures { result ≡ true → (c : CandidateRecord) → side_of local.now c ≡ 0 }
+{
+    !has_any_reflexive(local)
 }
 
 /// The parts of the first 64 candidates.
@@ -33,9 +51,18 @@ impl<'a> KindTable<'a> {
     pub(crate) fn new(local: &'a [Candidate]) -> KindTable<'a>
         ensures { result.local.now ≡ local.now }
     {
-        KindTable {
-            local,
-            sides: sides_of(local),
+        if are_all_outer(local) {
+            KindTable {
+                local,
+                all_outer: true,
+                sides: [0; 64],
+            }
+        } else {
+            KindTable {
+                local,
+                all_outer: false,
+                sides: sides_of(local),
+            }
         }
     }
 
@@ -44,7 +71,9 @@ impl<'a> KindTable<'a> {
         requires { place < length self.now.local.now }
         ensures { result ≡ side_of self.now.local.now (candidate_at self.now.local.now place) }
     {
-        if place < 64 {
+        if self.all_outer {
+            0
+        } else if place < 64 {
             self.sides[place]
         } else {
             side_of(self.local, candidate_at(self.local, place))

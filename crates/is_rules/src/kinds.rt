@@ -40,7 +40,7 @@ fn counted_kind(candidate: &Candidate) -> CandidateKind
 }
 
 /// A live candidate that counts as server-reflexive.
-fn is_reflexive(candidate: &Candidate) -> bool
+pub(crate) fn is_reflexive(candidate: &Candidate) -> bool
     ensures { result ≡ is_reflexive candidate.now }
 {
     same_kind(counted_kind(candidate), CandidateKind::ServerReflexive) && !is_discarded(candidate)

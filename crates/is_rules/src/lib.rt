@@ -15,6 +15,7 @@ pub mod evicting;
 pub mod forming;
 mod kind_table;
 pub mod kinds;
+pub mod leaving;
 pub mod limit;
 pub mod local;
 mod lowest;

@@ -84,51 +84,54 @@ fn counts_that_stay(counts: &[usize; 16], pairs: usize, limit: usize) -> [usize;
     stays
 }
 
-/// The last pair of each kind that goes, as the order by priority has them.
+/// The last pair of each kind that goes, as the order by priority has them, if so many pairs go.
 fn last_of_each(
     pairs: &Checklist,
     kinds: &KindTable<'_>,
     remote: &[Candidate],
     counts: &[usize; 16],
     stays: &[usize; 16],
+    many: usize,
 ) -> Last {
     let mut left = *counts;
+    let mut going = 0usize;
     let mut last = Last {
         priorities: [0; 16],
         numbers: [0; 16],
     };
     for place in 0..pairs.len() {
+        if going >= many {
+            return last;
+        }
         if let Some(pair) = pairs.ranked(place) {
             if kinds.has(remote, pair) {
-                go_on(
-                    &mut last,
-                    &mut left,
-                    stays,
-                    kinds.kind_of(remote, pair),
-                    pair,
-                );
+                let kind = kinds.kind_of(remote, pair);
+                going += go_on(&mut last, &mut left, stays, kind, pair);
             }
         }
     }
     last
 }
 
-/// The pair is the next one of its kind: it is the last one to go so far, if more are left than stay.
+/// The pair is the next one of its kind: it is the last one to go so far, if more are left than stay. Returns how many go: 1 or 0.
 fn go_on(
     last: &mut Last,
     left: &mut [usize; 16],
     stays: &[usize; 16],
     kind: u8,
     pair: &CandidatePair,
-)
+) -> usize
     requires within { kind < KINDS }
+    ensures few { result ≤ 1 }
 {
     let kind = kind as usize;
-    if left[kind] > stays[kind] {
-        left[kind] -= 1;
-        last.priorities[kind] = pair.prio();
-        last.numbers[kind] = pair.id().0;
+    if left[kind] <= stays[kind] {
+        return 0;
     }
+    left[kind] -= 1;
+    last.priorities[kind] = pair.prio();
+    last.numbers[kind] = pair.id().0;
+    1
 }
 
 /// How many pairs of each kind pass the test.
@@ -174,7 +177,8 @@ fn evict_together(
 {
     pairs.numbers_rise();
     let stays = counts_that_stay(counts, pairs.len(), limit);
-    let last = last_of_each(pairs, kinds, remote, counts, &stays);
+    let many = pairs.len().saturating_sub(limit);
+    let last = last_of_each(pairs, kinds, remote, counts, &stays, many);
     let going = Going {
         kinds,
         remote,

@@ -27,7 +27,7 @@ use is_pair::pair::{CandidatePair, CheckState};
 use is_pair::renominate;
 
 /// The pair may be selected.
-fn is_eligible(pair: &CandidatePair, controlling: bool) -> bool
+pub fn is_eligible(pair: &CandidatePair, controlling: bool) -> bool
     ensures { result ≡ is_eligible controlling pair.now }
 {
     pair.state() == CheckState::Succeeded && (controlling || pair.is_nominated())

@@ -1,12 +1,18 @@
-//! ICE restarts (RFC 8445, section 9): the local candidates that are kept; the agent's part: `is_agent::restarting`.
+//! ICE restarts (RFC 8445, section 9): the local candidates, early requests and events that are kept; the agent's part:
+//! `is_agent::restarting`.
 
-ghost use Rattle.std.specs.Prelude.{◌≡◌, IfOk, map};
+ghost use Rattle.std.specs.Prelude.{◌≡◌, ◌≤◌, true, IfOk, map};
+ghost use Rattle.std.specs.VecDeque.{deque_len, deque_capacity};
 ghost use Rattle.is_rules.specs.Kept.{NoneTooHigh};
-ghost use Rattle.is_rules.specs.Restarting.{with_ufrag, kept_local};
+ghost use Rattle.is_rules.specs.RequestView.{waiting_view};
+ghost use Rattle.is_rules.specs.Restarting.{with_ufrag, kept_local, early_kept, events_kept, is_selection};
 
+use crate::event::IceAgentEvent;
+use crate::request::Waiting;
 use is_candidate::Candidate;
 use is_proto::Text;
 use std::alloc::{AllocError, Global};
+use std::collections::VecDeque;
 
 /// A copy of the candidate with this username fragment.
 fn renamed(candidate: &Candidate, ufrag: &Text, alloc: Global) -> Result<Candidate, AllocError>
@@ -48,5 +54,41 @@ pub fn kept_local(
         all_renamed(alloc, local, ufrag)
     } else {
         Ok(Vec::new(alloc))
+    }
+}
+
+/// Removes the early requests, with `Modern`: they came in the session before.
+pub fn keep_early(queue: &mut VecDeque<Waiting>, modern: bool)
+    ensures { map waiting_view queue.new.items ≡ early_kept modern (map waiting_view queue.old.items) }
+{
+    if modern {
+        queue.clear();
+    }
+}
+
+/// The event reports a selected path.
+fn is_selection(event: &IceAgentEvent) -> bool
+    ensures { result ≡ is_selection event.now }
+{
+    matches!(*event, IceAgentEvent::NominatedSend { .. })
+}
+
+/// Removes the events of selected paths, whose pairs are gone.
+fn drop_selections(events: &mut VecDeque<IceAgentEvent>)
+    ensures items { events.new.items ≡ events_kept true events.old.items }
+    ensures len { deque_len events.new ≤ deque_len events.old }
+    ensures capacity { deque_capacity events.new ≡ deque_capacity events.old }
+{
+    events.retain(|event| !is_selection(event));
+}
+
+/// Removes the events of selected paths, with `Modern`.
+pub fn keep_events(events: &mut VecDeque<IceAgentEvent>, modern: bool)
+    ensures items { events.new.items ≡ events_kept modern events.old.items }
+    ensures len { deque_len events.new ≤ deque_len events.old }
+    ensures capacity { deque_capacity events.new ≡ deque_capacity events.old }
+{
+    if modern {
+        drop_selections(events);
     }
 }

@@ -63,6 +63,7 @@ module _ {H : Type 0} where
     pub udp : udp_of new ≡ udp_of old
     pub tcp : RelaysReceive mac now local source bytes (tcp_of old) result (tcp_of new)
 
+  -- A datagram that a STUN client waits for is for no other; any other one is for the TURN clients of its transport.
   abbrev pub Receives : Transport → (H → List ℕ → List ℕ → List ℕ) → Instant → SocketAddr → SocketAddr → List ℕ → Servers H → Option Arrived
       → Servers H → Type 0
   Receives Udp mac now local source bytes old result new = ReceivesUdp mac now local source bytes old result new

@@ -47,6 +47,7 @@ Takes now local source bytes old own new = TakesAt (position (is_at local source
 abbrev pub earliest : List Mapping → Option Instant
 earliest l = fold earlier_time None (map time_of l)
 
+-- the place of the first client whose time is this one, if it has come
 abbrev pub due_by : Option Instant → Instant → List Mapping → Option ℕ
 due_by None now l = None
 due_by (Some first) now l = if nat_le first.0 now.0 then position (is_due_at first) l else None

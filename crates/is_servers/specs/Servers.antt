@@ -57,6 +57,8 @@ abbrev pub added_tcp : {H : Type 0} → Transport → Instant → SocketAddr →
 added_tcp Udp now local client l = l
 added_tcp Tcp now local client l = turn_added now local client l
 
+-- A TURN client is added to those of its transport and started, unless its socket has one at this server whose end was not reported
+-- yet.
 pub record AddsTurn {H : Type 0} (now : Instant) (transport : Transport) (local : SocketAddr) (client : TurnClient H) (old new : Servers H)
     : Type 0 where
   pub mappings : mappings_of new ≡ mappings_of old
@@ -65,16 +67,19 @@ pub record AddsTurn {H : Type 0} (now : Instant) (transport : Transport) (local 
 
 -- ---- calls for all clients
 
+-- Each TURN client requests a permission for the peer.
 pub record AsksPermissions {H : Type 0} (now : Instant) (peer : SocketAddr) (old new : Servers H) : Type 0 where
   pub mappings : mappings_of new ≡ mappings_of old
   pub udp : ChangesEach (RequestsPermission now peer) (udp_of old) (udp_of new)
   pub tcp : ChangesEach (RequestsPermission now peer) (tcp_of old) (tcp_of new)
 
+-- Each TURN client asks its server whether the allocation is there.
 pub record ProbesAll {H : Type 0} (now : Instant) (old new : Servers H) : Type 0 where
   pub mappings : mappings_of new ≡ mappings_of old
   pub udp : ChangesEach (Probes now) (udp_of old) (udp_of new)
   pub tcp : ChangesEach (Probes now) (tcp_of old) (tcp_of new)
 
+-- Each client ends.
 pub record ClosesAll {H : Type 0} (now : Instant) (old new : Servers H) : Type 0 where
   pub mappings : mappings_of new ≡ map closed (mappings_of old)
   pub udp : ChangesEach (Closes now) (udp_of old) (udp_of new)
@@ -97,6 +102,7 @@ Loses Tcp local old new = LosesTcp local old new
 
 -- ---- questions
 
+-- the earliest time of a client
 abbrev pub next_time : {H : Type 0} → Servers H → Option Instant
 next_time s = earlier_time (earliest (mappings_of s)) (earlier_time (earliest_time (udp_of s)) (earliest_time (tcp_of s)))
 

@@ -17,6 +17,7 @@ pub record Url : Type 0 where
   pub host : List ℕ
   pub port : ℕ
 
+-- a URL without its memory layout
 abbrev pub url_view : ServerUrl → Url
 url_view u = record { scheme = u.scheme; is_secure = u.is_secure; transport = u.transport; host = u.host.now; port = u.port }
 

@@ -17,6 +17,7 @@ mask_of id = from_be_bytes w128 (to_be_bytes w32 MAGIC ++ id)
 
 -- ---- writing: an unused byte, the family, the port, the address
 
+-- the value of an XOR address: a zero byte, the family, and the port and the address xored with their masks
 unfoldable pub xor_address : List ℕ → SocketAddr → List ℕ
 xor_address id (V4 a) = 0 ∷ 1 ∷ to_be_bytes w16 (bit_xor (v4_port a) PORT_MASK) ++ to_be_bytes w32 (bit_xor (ipv4_bits (v4_ip a)) MAGIC)
 xor_address id (V6 a) = 0 ∷ 2 ∷ to_be_bytes w16 (bit_xor (v6_port a) PORT_MASK) ++ to_be_bytes w128 (bit_xor (ipv6_bits (v6_ip a)) (mask_of id))
@@ -36,6 +37,7 @@ port_in value = bit_xor (u16_of (slice_index value 2) (slice_index value 3)) POR
 abbrev pub ipv4_socket : ℕ → ℕ → SocketAddr
 ipv4_socket bits port = V4 (record { ip = record { octets = to_be_bytes w32 bits }; port = port })
 
+-- the IPv6 address with these bits and this port, without flow information and scope
 abbrev pub ipv6_socket : ℕ → ℕ → SocketAddr
 ipv6_socket bits port =
     V6 (record { ip = record { segments = segments_of (to_be_bytes w128 bits) }; port = port; flowinfo = 0; scope_id = 0 })

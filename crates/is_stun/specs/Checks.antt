@@ -29,5 +29,6 @@ binding_reply id address = built Binding Success id (record no_attributes { xor_
 abbrev pub ROLE_CONFLICT : ℕ
 ROLE_CONFLICT = 487
 
+-- the error response 487 (Role Conflict) to a check (RFC 8445, section 7.3.1.1)
 abbrev pub binding_role_conflict_reply : List ℕ → Message
 binding_role_conflict_reply id = built Binding Failure id (record no_attributes { error_code = Some (ROLE_CONFLICT, codes "Role Conflict") })

@@ -31,6 +31,7 @@ pub record AttributesRecord : Type 0 where
   pub nomination : Option ℕ
   pub fingerprint : Option ℕ
 
+-- a message without any attribute
 abbrev pub no_attributes : AttributesRecord
 no_attributes = record {
   username = None;

@@ -33,6 +33,7 @@ attributes_view a =
 abbrev pub integrity_view : RawIntegrity → Integrity
 integrity_view i = record { mac = i.mac.now; text = signed_text i.front.now i.len }
 
+-- a message, without its memory layout
 abbrev pub message_view : StunMessage → Message
 message_view m =
     record {

@@ -124,6 +124,7 @@ fault_of bytes =
     option_or (header_fault bytes)
     (option_or (attributes_fault (tlvs_of (body_of bytes))) (demand_fault (message_of bytes)))
 
+-- The bytes encode this message: they have no fault, and the message is what they say.
 pub record Reads (bytes : List ℕ) (m : Message) : Type 0 where
   pub faultless : fault_of bytes ≡ None
   pub spelled : m ≡ message_of bytes

@@ -137,6 +137,7 @@ plain m = record m { attributes = plain_attributes m.attributes }
 abbrev pub IsWrittenPlain : (List ℕ → List ℕ → List ℕ) → Option (List ℕ) → Message → Type 0
 IsWrittenPlain mac key m = written mac key m ≡ written mac key (plain m)
 
+-- A response is written as the same bytes, whatever flow information and scope its address has.
 abbrev pub PlainReply : (List ℕ → List ℕ → List ℕ) → List ℕ → List ℕ → SocketAddr → Type 0
 PlainReply mac key id a = written mac (Some key) (binding_reply id a) ≡ written mac (Some key) (binding_reply id (plain_address a))
 
@@ -171,6 +172,7 @@ LONGEST_CHECK = 76 + WRITTEN_USERNAME_LIMIT + 4
 abbrev pub LONGEST_NUMBERED_CHECK : ℕ
 LONGEST_NUMBERED_CHECK = LONGEST_CHECK + 8
 
+-- A check whose USERNAME is not too long takes as many bytes as `check_len` says.
 abbrev pub CheckTakes : List ℕ → List ℕ → List ℕ → Bool → ℕ → ℕ → Bool → Type 0
 CheckTakes key id username controlling tie_breaker priority nominates =
     length username ≤ WRITTEN_USERNAME_LIMIT
@@ -194,5 +196,6 @@ pub record RoundTripsTo (mac : List ℕ → List ℕ → List ℕ) (key bytes : 
   pub put : IsPut bytes (plain m)
   pub back : demand_fault (sealed m) ≡ None → ReadsBack mac key bytes (plain m)
 
+-- What was written with a key for this message round-trips, if its class is known and its channel number is in range.
 abbrev pub RoundTripsAs : (List ℕ → List ℕ → List ℕ) → List ℕ → List ℕ → Message → Type 0
 RoundTripsAs mac key bytes m = IsClass m.class → IfSome m.attributes.channel_number IsChannelNumber → RoundTripsTo mac key bytes m

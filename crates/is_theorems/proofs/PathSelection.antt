@@ -11,3 +11,4 @@ pub mod NominatedByPeer
 pub mod NominatedByPeerPerAgent
 pub mod SelectedAtRequests
 pub mod SelectedInCall
+pub mod ReplacedPaths

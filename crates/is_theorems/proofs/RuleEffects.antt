@@ -5,5 +5,6 @@ pub mod SelectedPaths
 pub mod NominatedPairs
 pub mod ChangedPairs
 pub mod TriggeredPairs
+pub mod PathsThatAreLeft
 pub mod Reselection
 pub mod NotedErrors

@@ -45,6 +45,7 @@ module _ {H P : Type 0} where
   Ends answers a call e path = (p : PairRecord) × Has a.pairs p × UsesAddressesOf a path p × MayEnd answers a call e p
 
   module _ (mac : H → List ℕ → List ℕ → List ℕ) (answers : P → CandidateRecord → ℕ → ℕ → Type 0) where
+    -- One of these calls may remove a pair that uses the path's addresses.
     abbrev pub EndsAlong : (xs : List (Call P × Entry)) (old new : AgentRecord H P) → Course mac answers xs old new → Path → Type 0
     EndsAlong [] old new course path = ⊥
     EndsAlong (x ∷ rest) old new course path = Ends answers old x.0 x.1 path ⊎ EndsAlong rest course.0 new course.5 path

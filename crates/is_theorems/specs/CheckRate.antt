@@ -53,25 +53,34 @@ MayCallAt gap now [] = Unit {0}
 MayCallAt gap now (x ∷ before) =
     (lets_call now x.call x.entry.answer ≡ true) ⊎ ((is_before gap now x.call ≡ true) ⊎ ((is_timeout x.call ≡ false) × MayCallAt gap now before))
 
--- The caller is patient: it makes no `handle_timeout` call sooner than the time that `poll_timeout` returned, unless it comes so long
--- after the one before. With 5 ms that is so of who goes by `poll_timeout_soon`, if the call before served no early request.
-abbrev pub IsPatient : {P : Type 0} → (gap : ℕ) → List (Logged P) → Type 0
-IsPatient gap [] = Unit {0}
-IsPatient gap (x ∷ before) = ((now : ℕ) → x.call ≡ HandleTimeout now → MayCallAt gap now before) × IsPatient gap before
+-- The log has a `handle_timeout` call at this time or later.
+abbrev pub HasCalled : {P : Type 0} → ℕ → List (Logged P) → Type 0
+HasCalled from [] = ⊥
+HasCalled from (x ∷ before) = ((now : ℕ) × (x.call ≡ HandleTimeout now) × (from ≤ now)) ⊎ HasCalled from before
+
+-- The caller is patient in the span that begins at `from` and is so long: from the first `handle_timeout` call in it to its end none comes
+-- sooner than the time that `poll_timeout` returned, unless it comes so long after the one before. With 5 ms that is so of who goes by
+-- `poll_timeout_soon`, if the call before served no early request.
+abbrev pub IsPatient : {P : Type 0} → (from long gap : ℕ) → List (Logged P) → Type 0
+IsPatient from long gap [] = Unit {0}
+IsPatient from long gap (x ∷ before) =
+    ((now : ℕ) → x.call ≡ HandleTimeout now → now < from + long → HasCalled from before → MayCallAt gap now before) × IsPatient from long gap before
 
 module _ {H P : Type 0} where
-  -- When `poll_timeout` is called after a `handle_timeout` call at `from` or later, the pacing interval is at least `pace`. If there is nothing
-  -- to check, the next call comes after 3 s.
-  abbrev pub IsPacedAt : (from pace : ℕ) → AgentRecord H P → Logged P → Type 0
-  IsPacedAt from pace a x = x.call ≡ PollTimeout → (last : ℕ) → a.last_time ≡ Some last → from ≤ last → pace ≤ min (3 * SECOND) (pacing_of last a)
+  -- When `poll_timeout` is called after a `handle_timeout` call in the span, the pacing interval is at least `pace`. If there is nothing to
+  -- check, the next call comes after 3 s.
+  abbrev pub IsPacedAt : (from long pace : ℕ) → AgentRecord H P → Logged P → Type 0
+  IsPacedAt from long pace a x =
+      x.call ≡ PollTimeout → (last : ℕ) → a.last_time ≡ Some last → from ≤ last → last < from + long → pace ≤ min (3 * SECOND) (pacing_of last a)
 
-  -- The pacing interval that is set is at least 50 ms, the default.
+  -- In the second that begins then, the pacing interval that is set is at least 50 ms, the default.
   abbrev pub IsSlowAt : ℕ → AgentRecord H P → Logged P → Type 0
-  IsSlowAt from a x = x.call ≡ PollTimeout → (last : ℕ) → a.last_time ≡ Some last → from ≤ last → 50 * MILLISECOND ≤ a.timing_advance
+  IsSlowAt from a x =
+      x.call ≡ PollTimeout → (last : ℕ) → a.last_time ≡ Some last → from ≤ last → last < from + SECOND → 50 * MILLISECOND ≤ a.timing_advance
 
-  -- It is not early: the profile is `Original`, the agent is settled, or no pair is at its beginning.
+  -- It is not early in this second: the profile is `Original`, the agent is settled, or no pair is at its beginning.
   abbrev pub IsLateAt : ℕ → AgentRecord H P → Logged P → Type 0
-  IsLateAt from a x = x.call ≡ PollTimeout → (last : ℕ) → a.last_time ≡ Some last → from ≤ last → is_early last a ≡ false
+  IsLateAt from a x = x.call ≡ PollTimeout → (last : ℕ) → a.last_time ≡ Some last → from ≤ last → last < from + SECOND → is_early last a ≡ false
 
   module _ (mac : H → List ℕ → List ℕ → List ℕ) (answers : P → CandidateRecord → ℕ → ℕ → Type 0) where
     -- ---- the theorems
@@ -80,19 +89,20 @@ module _ {H P : Type 0} where
     abbrev pub TimeoutsCheck : Type 0
     TimeoutsCheck = (first last : AgentRecord H P) (log : List (Logged P)) → SharedRun mac answers first log last → check_count log ≤ timeout_count log
 
-    -- A patient caller: in any span of time at most as many checks are sent as pacing intervals begin in it. The agent itself sends a check in
-    -- each `handle_timeout` call in which a pair is due, however soon it comes after the one before.
+    -- In any span of time in which the caller is patient, at most as many checks are sent as pacing intervals begin in it. The agent itself
+    -- sends a check in each `handle_timeout` call in which a pair is due, however soon it comes after the one before.
     abbrev pub ChecksArePaced : Type 0
     ChecksArePaced =
         (first last : AgentRecord H P) (log : List (Logged P)) (from long pace : ℕ) → IsNewlyCreated first → (run : SharedRun mac answers first log last)
-        → IsPatient pace log → BeforeEach mac answers (IsPacedAt from pace) first log last run → 0 < pace → from + long ≤ MAX
+        → IsPatient from long pace log → BeforeEach mac answers (IsPacedAt from long pace) first log last run → 0 < pace → from + long ≤ MAX
         → checks_in_span from long log ≤ begun_in long pace
 
-    -- With the default pacing interval, in any second: at most 200 checks with either profile, also of a caller whose calls are only 5 ms
-    -- apart; and 20 of one that goes by `poll_timeout`, while it is not early.
+    -- With the default pacing interval, in any second: at most 200 checks with either profile, also of a caller whose calls in it are only
+    -- 5 ms apart; and 20 of one that goes by `poll_timeout` in it, if the agent is not early then.
     abbrev pub SecondsHaveFewChecks : Type 0
     SecondsHaveFewChecks =
         (first last : AgentRecord H P) (log : List (Logged P)) (from : ℕ) → IsNewlyCreated first → (run : SharedRun mac answers first log last)
         → BeforeEach mac answers (IsSlowAt from) first log last run → from + SECOND ≤ MAX
-        → (IsPatient LEAST_TA log → checks_in_span from SECOND log ≤ 200)
-        × (IsPatient (50 * MILLISECOND) log → BeforeEach mac answers (IsLateAt from) first log last run → checks_in_span from SECOND log ≤ 20)
+        → (IsPatient from SECOND LEAST_TA log → checks_in_span from SECOND log ≤ 200)
+        × (IsPatient from SECOND (50 * MILLISECOND) log → BeforeEach mac answers (IsLateAt from) first log last run
+        → checks_in_span from SECOND log ≤ 20)

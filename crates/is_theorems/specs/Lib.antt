@@ -55,3 +55,4 @@ pub mod TimedSelections
 pub mod TimedSteadyRounds
 pub mod CheckRate
 pub mod SilentPairs
+pub mod GivingWay

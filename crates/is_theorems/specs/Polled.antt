@@ -39,18 +39,21 @@ module _ {H P : Type 0} (mac : H → List ℕ → List ℕ → List ℕ) (answer
 
   -- ---- the theorems, of a `NominatedSend` that waits after any execution from a newly created agent
 
+  -- The path of each `NominatedSend` that waits was selected since the last ICE restart.
   abbrev pub WaitingAreSelected : Type 0
   WaitingAreSelected =
       (first last : AgentRecord H P) (log : List (Logged P))
       → IsNewlyCreated first → SharedRun mac answers first log last
       → (path : Path) → Has last.events (selecting path) → IsSelectedSince log path
 
+  -- Never lite: the path of each that waits was selected since the last ICE restart, and answered by then.
   abbrev pub WaitingAreAnswered : Type 0
   WaitingAreAnswered =
       (first last : AgentRecord H P) (log : List (Logged P))
       → IsNewlyCreated first → NeverLite log → SharedRun mac answers first log last
       → (path : Path) → Has last.events (selecting path) → IsAnsweredSince mac first.provider log path
 
+  -- Never lite, and controlled since the last ICE restart: the peer nominated the path of each that waits.
   abbrev pub WaitingAreNominatedByPeer : Type 0
   WaitingAreNominatedByPeer =
       (first last : AgentRecord H P) (log : List (Logged P))

@@ -1,5 +1,5 @@
 -- How a call changes the event queue.
-use Rattle.std.specs.Prelude.{◌≡◌, ℕ, List, [], ◌∷◌, ◌++◌, Option, Some, ◌⊎◌}
+use Rattle.std.specs.Prelude.{◌≡◌, ℕ, true, List, [], ◌∷◌, ◌++◌, Option, Some, ◌⊎◌}
 use Rattle.rand_core.specs.Stream.{Stream}
 use Rattle.is_proto.specs.Lists.{Has}
 use Rattle.is_candidate.specs.Candidates.{CandidateRecord}
@@ -10,7 +10,8 @@ use Rattle.is_rules.specs.declared.event.IceAgentEvent.TheVariants.{IceRestart, 
 use Rattle.is_rules.specs.declared.event.IceConnectionState.TheVariants.{Checking}
 use Rattle.is_rules.specs.Agent.{AgentRecord}
 use Rattle.is_rules.specs.Polls.{IsPolled}
-use Rattle.is_rules.specs.Steps.{Call, RestartIce, PollEvent, Answer, Done, Happened, Entry, quiet, Step}
+use Rattle.is_rules.specs.Restarting.{events_kept}
+use Rattle.is_rules.specs.Steps.{Call, RestartIce, RecreateCandidatePairs, PollEvent, Answer, Done, Happened, Entry, quiet, Step}
 use Rattle.is_rules.specs.Issuing.{QueuesPackets}
 
 -- Elements are appended at the end.
@@ -22,10 +23,12 @@ abbrev pub Begins : Answer → IceCreds → List IceAgentEvent → List IceAgent
 Begins Done creds old new = (new ≡ IceRestart creds ∷ []) ⊎ (new ≡ IceRestart creds ∷ IceConnectionStateChange Checking ∷ [])
 Begins _ creds old new = new ≡ old
 
--- `poll_event` removes the first event. Any other call except an ICE restart appends.
+-- `poll_event` removes the first event. Any other call except an ICE restart appends. `recreate_candidate_pairs` may remove each
+-- `NominatedSend` before that, since its pair is gone.
 abbrev pub Reports : {P : Type 0} → Call P → Entry → List IceAgentEvent → List IceAgentEvent → Type 0
 Reports PollEvent e old new = (given : Option IceAgentEvent) × (e ≡ quiet (Happened given)) × IsPolled old given new
 Reports (RestartIce creds keep) e old new = Begins e.answer creds old new
+Reports RecreateCandidatePairs e old new = Extends old new ⊎ Extends (events_kept true old) new
 Reports _ e old new = Extends old new
 
 -- the event that reports a selected path

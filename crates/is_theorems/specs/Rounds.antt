@@ -150,6 +150,7 @@ module _ {H P : Type 0} (mac : H → List ℕ → List ℕ → List ℕ) (answer
   abbrev pub AnsweredRoundsSelect : Type 0
   AnsweredRoundsSelect = (first : AgentRecord H P) (s : Stream) (log : List (Logged P)) → IsFresh first → RoundsSelect first s log
 
+  -- Each segment of an execution leads from one state to another.
   abbrev pub PartsAreRuns : Type 0
   PartsAreRuns = (first last : AgentRecord H P) (s t : Stream) (log : List (Logged P)) → Run mac answers first s log last t → PartsPersist first s log
 

@@ -20,6 +20,7 @@ pub record SettingsRecord (P : Type 0) : Type 0 where
   pub mtu_warn : ℕ
   pub preference : Option P
 
+-- all that the caller sets: the settings of an agent, its tie-breaker, MTU and preference object, and whether it is lite
 abbrev pub all_settings_of : {H P : Type 0} → AgentRecord H P → SettingsRecord P
 all_settings_of a = record {
   settings = settings_of a;

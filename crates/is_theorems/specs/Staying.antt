@@ -1,6 +1,6 @@
 -- How long a pair exists: a valid pair stays valid, a nominated pair stays nominated, and one that a request came to keeps it, until it is
 -- removed.
-use Rattle.std.specs.Prelude.{◌≡◌, ℕ, ◌⊎◌, true, nat_lt, List, Some, None}
+use Rattle.std.specs.Prelude.{◌≡◌, ℕ, ◌||◌, ◌⊎◌, true, nat_lt, List, Some, None}
 use Rattle.rand_core.specs.Stream.{Stream}
 use Rattle.is_proto.specs.Lists.{Has}
 use Rattle.is_candidate.specs.Candidates.{CandidateRecord}
@@ -16,6 +16,7 @@ use Rattle.is_theorems.specs.Runs.{IsFresh, Point}
 use Rattle.is_rules.specs.Sending.{path_of}
 use Rattle.is_rules.specs.Sound.{IsSound, GivesBased}
 use Rattle.is_rules.specs.Steps.{Call, AddLocalCandidate, AddRemoteCandidate, InvalidateCandidate, RestartIce, RecreateCandidatePairs, HandleTimeout, Added, Done, Flag, Entry, Step}
+use Rattle.is_rules.specs.Leaving.{gives_way}
 use Rattle.is_rules.specs.Timeouts.{is_expired}
 
 module _ {H P : Type 0} where
@@ -35,14 +36,14 @@ module _ {H P : Type 0} where
       (local_to_discard c old ≡ Some p.local) ⊎ ((local_to_discard c old ≡ None) × (remote_to_discard c old ≡ Some p.remote))
 
   -- The transition may remove the pair: a pair of an added candidate replaces or evicts it; its candidate is discarded; the pairs
-  -- are cleared; or its checks were not answered in time (RFC 7675).
+  -- are cleared; its checks were not answered in time (RFC 7675); or it gives way to a pair that is answered.
   abbrev pub MayEnd : (P → CandidateRecord → ℕ → ℕ → Type 0) → AgentRecord H P → Call P → Entry → PairRecord → Type 0
   MayEnd answers old (AddLocalCandidate c) e p = (e.answer ≡ Added) × MayEndByLocal answers old c p
   MayEnd answers old (AddRemoteCandidate c) e p = (e.answer ≡ Done) × MayEndByRemote old c p
   MayEnd answers old (InvalidateCandidate c) e p = (e.answer ≡ Flag true) × IsOfDiscarded old c p
   MayEnd answers old (RestartIce creds keep) e p = e.answer ≡ Done
   MayEnd answers old RecreateCandidatePairs e p = e.answer ≡ Done
-  MayEnd answers old (HandleTimeout now) e p = (e.answer ≡ Done) × (request_at now old ≡ None) × (is_expired now old p ≡ true)
+  MayEnd answers old (HandleTimeout now) e p = (e.answer ≡ Done) × (request_at now old ≡ None) × ((is_expired now old p || gives_way now old p) ≡ true)
   MayEnd answers old _ e p = ⊥
 
   module _ (mac : H → List ℕ → List ℕ → List ℕ) (answers : P → CandidateRecord → ℕ → ℕ → Type 0) where

@@ -95,5 +95,6 @@ module _ {H P : Type 0} where
     pub requests : length a.queue ≤ QUEUE_LIMIT
 
   module _ (mac : H → List ℕ → List ℕ → List ℕ) (answers : P → CandidateRecord → ℕ → ℕ → Type 0) where
+    -- After any execution of a newly created agent the queues are as short as `IsShort` says.
     abbrev pub QueuesAreShort : Type 0
     QueuesAreShort = (first last : AgentRecord H P) (log : List (Logged P)) → IsNewlyCreated first → SharedRun mac answers first log last → IsShort log last

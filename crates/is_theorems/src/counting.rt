@@ -12,9 +12,9 @@ pub fn timeouts_check<H: Sha1HmacProvider, P: LocalPreference>()
     ensures { TimeoutsCheck H.mac P.answers }
 {}
 
-/// From a newly created agent, which may share its random source, with a caller that calls `handle_timeout` no sooner than the time that
-/// `poll_timeout` returned: in any span of time at most as many checks are sent as pacing intervals begin in it, whatever is received. So it
-/// is 20 in a second with the default interval of 50 ms, and 200 while it is early.
+/// From a newly created agent, which may share its random source: in any span of time in which the caller calls `handle_timeout` no sooner
+/// than the time that `poll_timeout` returned, at most as many checks are sent as pacing intervals begin in it, whatever is received. The
+/// first call in the span may come at any time. So it is 20 in a second with the default interval of 50 ms, and 200 if it is early.
 pub fn checks_are_paced<H: Sha1HmacProvider, P: LocalPreference>()
     ensures paced { ChecksArePaced H.mac P.answers }
     ensures seconds { SecondsHaveFewChecks H.mac P.answers }

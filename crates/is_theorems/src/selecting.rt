@@ -4,6 +4,7 @@ ghost use Rattle.is_theorems.specs.Asked.{AskedAreSelected};
 ghost use Rattle.is_theorems.specs.AskedCourses.{SuccessesSelect, AcceptedNominationsAreSelected};
 ghost use Rattle.is_theorems.specs.AtOnce.{RequestsSelect, NominationsSelectAtOnce};
 ghost use Rattle.is_theorems.specs.AtOnceCourses.{CompletedNominationsAreSelected};
+ghost use Rattle.is_theorems.specs.GivingWay.{PathsAreReplaced};
 ghost use Rattle.is_theorems.specs.Polled.{WaitingAreSelected, WaitingAreAnswered, WaitingAreNominatedByPeer};
 ghost use Rattle.is_theorems.specs.Progress.{AnswersSelect, TimeoutsSelect};
 ghost use Rattle.is_theorems.specs.Runs.{SelectedAreAnswered, SelectedAreNominatedByPeer, PointsAreTop, TakersAreValid, AskedAreNominated};
@@ -123,4 +124,11 @@ pub fn accepted_nominations_are_selected<H: Sha1HmacProvider, P: LocalPreference
 /// comes second, the profile `Modern` is a precondition.
 pub fn completed_nominations_are_selected<H: Sha1HmacProvider, P: LocalPreference>()
     ensures { CompletedNominationsAreSelected H.mac P.answers }
+{}
+
+/// From a newly created agent: if a `handle_timeout` call that serves no early request removes a pair that did not expire, it was the selected
+/// one, and none of its last `max_retransmits` checks had a response. Another pair had a response to a check that was sent after one of these;
+/// it is still there, and may be selected. So the agent has a selected path then.
+pub fn paths_are_replaced<H: Sha1HmacProvider, P: LocalPreference>()
+    ensures { PathsAreReplaced H.mac P.answers }
 {}

@@ -29,6 +29,7 @@ time_after now by = at_time (later now.0 by)
 
 -- ---- starting
 
+-- a client that was not started: it sends nothing
 abbrev pub new_client : SocketAddr → ClientTiming → StunClient
 new_client server timing = record {
   server = server;

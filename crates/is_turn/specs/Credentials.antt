@@ -14,6 +14,7 @@ pub record Challenge : Type 0 where
   pub nonce : List ℕ
   pub key : List ℕ
 
+-- what a client knows of a user, without its memory layout
 pub record Credentials : Type 0 where
   pub username : List ℕ
   -- none once the server has shown that it knows it
@@ -26,6 +27,7 @@ pub record Credentials : Type 0 where
 abbrev pub challenge_of : RawChallenge → Challenge
 challenge_of c = record { realm = octets_of c.realm; nonce = octets_of c.nonce; key = c.key }
 
+-- credentials without their memory layout
 abbrev pub credentials_of : RawCredentials → Credentials
 credentials_of c = record {
   username = octets_of c.username;

@@ -24,6 +24,7 @@ pub data Datagram : Type 0 where
   unasked : Datagram
   unparsed : Datagram
 
+-- a datagram as the code reads it, without its memory layout
 abbrev pub incoming_view : Incoming → Datagram
 incoming_view (ChannelData number contents) = channel_data number contents.now
 incoming_view (Data peer contents) = peer_data peer contents.now

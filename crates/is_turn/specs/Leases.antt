@@ -25,6 +25,7 @@ use Rattle.is_turn.specs.Session.{RETRY, renewal_of}
 
 -- ---- addresses
 
+-- The addresses are equal in every part.
 abbrev pub same_address : SocketAddr → SocketAddr → Bool
 same_address (V4 a) (V4 b) = bytes_eq (ipv4_octets (v4_ip a)) (ipv4_octets (v4_ip b)) && v4_port a == v4_port b
 same_address (V6 a) (V6 b) =

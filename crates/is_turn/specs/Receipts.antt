@@ -5,12 +5,14 @@ use Rattle.is_turn.specs.declared.outcome.Reason.{Reason}
 use Rattle.is_turn.specs.declared.turn.TurnReceived.{TurnReceived}
 use Rattle.is_turn.specs.declared.turn.TurnReceived.TheVariants.{Other, Own, Dropped, Data}
 
+-- what a datagram was for the client: nothing, its own, dropped and why, or data of a peer
 pub data Receipt : Type 0 where
   other : Receipt
   own : Receipt
   dropped : Reason → Receipt
   peer_data : SocketAddr → List ℕ → Receipt
 
+-- what the client returned, without its memory layout
 abbrev pub received_view : TurnReceived → Receipt
 received_view Other = other
 received_view Own = own

@@ -107,6 +107,8 @@ abbrev pub IsLeaseGenuine : (List ℕ → List ℕ → List ℕ) → List ℕ �
 IsLeaseGenuine mac bytes l =
     (m : Message) × (place : ℕ) × (datagram_of bytes ≡ response m) × IsSignedFor mac m (key_in (attempt_of m (at_place place l)))
 
+-- With credentials, what the client believes of its allocation stays, unless the datagram is genuine, also for a lease, or a
+-- redirection.
 abbrev pub OnlyByGenuine : (List ℕ → List ℕ → List ℕ) → List ℕ → Session → List Lease → Option Credentials → Session → Type 0
 OnlyByGenuine mac bytes s l c new =
     IsSome c → SameBelief s new ⊎ ((IsGenuine mac bytes s ⊎ IsRedirection bytes s) ⊎ IsLeaseGenuine mac bytes l)

@@ -65,6 +65,7 @@ earlier_time (Some a) (Some b) = Some (at_time (min a.0 b.0))
 abbrev pub earliest_time : {H : Type 0} → List (Relay H) → Option Instant
 earliest_time l = fold earlier_time None (map time_of_relay l)
 
+-- the place of the first client whose time is this one, if it has come
 abbrev pub due_by : {H : Type 0} → Option Instant → Instant → List (Relay H) → Option ℕ
 due_by None now l = None
 due_by (Some first) now l = if nat_le first.0 now.0 then position (is_due_at first) l else None
@@ -73,6 +74,7 @@ due_by (Some first) now l = if nat_le first.0 now.0 then position (is_due_at fir
 abbrev pub due_relay : {H : Type 0} → Instant → List (Relay H) → Option ℕ
 due_relay now l = due_by (earliest_time l) now l
 
+-- what the clock does to the client in this place, if there is one
 abbrev pub TimesOutAt : {H : Type 0} → Option ℕ → Instant → Stream → Stream → List (Relay H) → List (Relay H) → Type 0
 TimesOutAt None now stream stream_new old new = (new ≡ old) × (stream_new ≡ stream)
 TimesOutAt (Some place) now stream stream_new old new = ChangesAt place (RelayTimesOut now stream stream_new) old new

@@ -13,6 +13,7 @@ use Rattle.is_turn.specs.declared.answer.Answer.TheVariants.{Unparsed, Unasked, 
 use Rattle.is_turn.specs.Answer.{IsRead}
 use Rattle.is_turn.specs.Client.{pending_id, time_after}
 
+-- what `receive` returns of a datagram
 abbrev pub received : Answer → Received
 received Unparsed = results.Unparsed
 received Unasked = results.Unasked

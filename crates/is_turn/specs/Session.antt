@@ -52,6 +52,7 @@ abbrev pub is_ready : Phase → Bool
 is_ready Ready = true
 is_ready _ = false
 
+-- a TURN client that was not started, without its credentials
 abbrev pub new_session : SocketAddr → Option AddressFamily → ClientTiming → ℕ → Session
 new_session server family timing lifetime = record {
   server = server;

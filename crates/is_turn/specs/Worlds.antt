@@ -82,6 +82,7 @@ IsHonest mac m now sent accepted c (Some o) =
 
 -- ---- what happens to a client
 
+-- a client with its leases and its credentials, its clock, and the packets that left
 pub record World : Type 0 where
   pub session : Session
   pub leases : List Lease
@@ -216,6 +217,7 @@ pub record BeliefIsTrue (accepted : List Acceptance) (w : World) : Type 0 where
   pub allocation : AllocationIsHeld w.session.phase w.session.until w.clock accepted
   pub leases : (place : ℕ) → LeaseIsHeld (at_place place w.leases) w.clock accepted
 
+-- What the client believes is true in each of these states.
 abbrev pub BeliefIsAlwaysTrue : List Acceptance → List World → Type 0
 BeliefIsAlwaysTrue accepted [] = Unit {0}
 BeliefIsAlwaysTrue accepted (w ∷ rest) = BeliefIsTrue accepted w × BeliefIsAlwaysTrue accepted rest

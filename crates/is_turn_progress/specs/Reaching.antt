@@ -120,6 +120,7 @@ IsAnswered mac r d x (next ∷ rest) = Passes mac r d x next × IsAnswered mac r
 
 -- ---- from `start` to the allocation
 
+-- credentials that had no challenge, or none
 abbrev pub IsNewUser : Option Credentials → Type 0
 IsNewUser None = Unit {0}
 IsNewUser (Some c) = (username : List ℕ) × (password : List ℕ) × (c ≡ new_credentials username password)

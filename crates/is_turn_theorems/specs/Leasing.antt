@@ -103,6 +103,7 @@ pub record IsLeaseAhead (k : Limits) (place : ℕ) (w : World) (x : Entry) : Typ
       → x.after.clock + lease_margin k ≤ time_or_never (at_place place w.leases).until
   pub stays : is_ready w.session.phase ≡ true → is_given (at_place place w.leases) ≡ true → is_given (at_place place x.after.leases) ≡ true
 
+-- At each of these calls the believed end of the lease in this place is ahead, and the call does not end it.
 abbrev pub LeaseNeverLapses : Limits → ℕ → World → List Entry → Type 0
 LeaseNeverLapses k place w [] = Unit {0}
 LeaseNeverLapses k place w (x ∷ rest) = IsLeaseAhead k place w x × LeaseNeverLapses k place x.after rest

@@ -5,6 +5,7 @@ use Rattle.is_turn.specs.declared.timing.ClientTiming.{ClientTiming}
 use Rattle.is_turn.specs.Session.{PACE, lifetime_of}
 use Rattle.is_turn.specs.Timing.{first_wait, next_wait}
 
+-- bounds on how late the caller and the server are, and on how much there is
 pub record Limits : Type 0 where
   -- `handle_timeout` is called so late at most
   pub late : ℕ

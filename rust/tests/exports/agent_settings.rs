@@ -1,32 +1,12 @@
 //! All that a user may choose, set and read.
 
 use crate::abi::{
-    self, AgentSettings, is_ice_agent_free, is_ice_agent_new, is_ice_modern_settings, is_ice_original_settings, is_ice_set_settings,
-    is_ice_settings,
+    self, Agent, AgentSettings, AgentStatus, is_ice_agent_free, is_ice_agent_new, is_ice_modern_settings, is_ice_original_settings,
+    is_ice_set_settings, is_ice_settings, is_ice_status,
 };
 use crate::no_agent;
 
-/// The numbers of the original, and of RFC 8445, sections 14.2 and 14.3.
-pub(super) const ORIGINAL: AgentSettings = AgentSettings {
-    timing_advance: 50_000_000,
-    initial_rto: 250_000_000,
-    max_rto: 3_000_000_000,
-    lite_timeout: 15_000_000_000,
-    consent_timeout: 0,
-    max_retransmits: 9,
-    max_pairs: 100,
-    max_discovered: usize::MAX,
-    max_candidates: usize::MAX,
-    room: [0, 0, 0, 0],
-    modern: false,
-    strict_consent: false,
-    renomination: false,
-};
-
-const MODERN: AgentSettings =
-    AgentSettings { max_rto: 2_900_000_000, max_retransmits: 11, max_discovered: 32, max_candidates: 100, modern: true, ..ORIGINAL };
-
-/// Each field with another value than those above.
+/// Each field with another value than any settings of the library.
 const OTHERS: AgentSettings = AgentSettings {
     timing_advance: 1,
     initial_rto: 2,
@@ -59,15 +39,54 @@ fn are_same(one: &AgentSettings, other: &AgentSettings) -> bool {
         && one.renomination == other.renomination
 }
 
+/// The settings of the original, as the library has them.
+pub(super) fn original() -> AgentSettings {
+    let mut settings = OTHERS;
+    match is_ice_original_settings(&mut settings) {
+        abi::OK => settings,
+        _ => OTHERS,
+    }
+}
+
+/// Those with which a new agent begins, as the library has them.
+pub(super) fn modern() -> AgentSettings {
+    let mut settings = OTHERS;
+    match is_ice_modern_settings(&mut settings) {
+        abi::OK => settings,
+        _ => OTHERS,
+    }
+}
+
+pub(super) fn status_of(slot: &mut Agent) -> AgentStatus {
+    let mut status = AgentStatus { state: 9, controlling: true, lite: true, mtu: 0, mtu_warn: 0, ice_timeout: 0, max_candidates: 0 };
+    let _code = is_ice_status(slot, &mut status);
+    status
+}
+
+/// How long a response keeps a pair of a new agent: the longest RTO and a whole series of checks (RFC 7675).
+pub(super) fn consent_of(slot: &mut Agent) -> u64 {
+    modern().max_rto + status_of(slot).ice_timeout
+}
+
+/// The numbers of both are in the table "Settings" of docs/API.md, which a test in Python compares with the library.
 #[test]
 fn named_settings_are_written() {
-    let mut settings = OTHERS;
-    let given = is_ice_original_settings(&mut settings);
-    assert!(given == abi::OK);
-    assert!(are_same(&settings, &ORIGINAL));
-    let given = is_ice_modern_settings(&mut settings);
-    assert!(given == abi::OK);
-    assert!(are_same(&settings, &MODERN));
+    let changed = AgentSettings {
+        max_rto: modern().max_rto,
+        max_retransmits: modern().max_retransmits,
+        max_discovered: modern().max_discovered,
+        max_candidates: modern().max_candidates,
+        modern: true,
+        ..original()
+    };
+    assert!(are_same(&changed, &modern()));
+    assert!(!original().modern);
+    assert!(original().max_discovered == usize::MAX);
+    assert!(original().max_candidates == usize::MAX);
+    assert!(original().consent_timeout == 0);
+    assert!(original().room == [0, 0, 0, 0]);
+    assert!(!original().strict_consent);
+    assert!(!original().renomination);
 }
 
 #[test]
@@ -81,8 +100,8 @@ fn settings_are_set_and_read() {
     assert!(made == abi::OK);
     let asked = is_ice_settings(&mut slot, &mut settings);
     assert!(asked == abi::OK);
-    assert!(are_same(&settings, &MODERN));
-    for wanted in [OTHERS, ORIGINAL] {
+    assert!(are_same(&settings, &modern()));
+    for wanted in [OTHERS, original()] {
         let set = is_ice_set_settings(&mut slot, &wanted);
         assert!(set == abi::OK);
         let asked = is_ice_settings(&mut slot, &mut settings);
@@ -103,6 +122,6 @@ fn without_a_check_nothing_is_set() {
     assert!(set == abi::BAD_LIMIT);
     let asked = is_ice_settings(&mut slot, &mut settings);
     assert!(asked == abi::OK);
-    assert!(are_same(&settings, &MODERN));
+    assert!(are_same(&settings, &modern()));
     is_ice_agent_free(&mut slot);
 }

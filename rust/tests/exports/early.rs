@@ -1,6 +1,6 @@
 //! Requests that arrive before the remote credentials, and the deadline that a slot keeps.
 
-use super::agent_settings::ORIGINAL;
+use super::agent_settings::original;
 use super::{REQUEST, address, host, no_packet};
 use crate::abi::{
     self, Agent, is_ice_add_local, is_ice_add_remote, is_ice_agent_free, is_ice_agent_new, is_ice_early_count, is_ice_handle_packet,
@@ -162,13 +162,13 @@ fn early_requests_are_served_without_delay() {
 fn the_original_is_polled() {
     let mut slot = no_agent();
     assert!(begins(&mut slot));
-    assert!(is_ice_set_settings(&mut slot, &ORIGINAL) == abi::OK);
+    assert!(is_ice_set_settings(&mut slot, &original()) == abi::OK);
     let known = is_ice_set_remote_credentials(&mut slot, b"SQAt", b"x");
     assert!(known == abi::OK);
     assert!(times_out(&mut slot, 0));
     assert!(deadline(&mut slot) == 3_000 * MS);
     // A response waits to be sent.
     assert!(takes(&mut slot, 10 * MS, 2000));
-    assert!(deadline(&mut slot) == 50 * MS);
+    assert!(deadline(&mut slot) == original().timing_advance);
     is_ice_agent_free(&mut slot);
 }

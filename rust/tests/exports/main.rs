@@ -304,7 +304,7 @@ fn settings_and_lines_are_reported() {
     assert!(asked == abi::OK);
     assert!(status.state == 0);
     assert!(status.mtu == 1150);
-    assert!(status.max_candidates == 100);
+    assert!(status.max_candidates == agent_settings::modern().max_candidates);
     let added = is_ice_add_local(&mut slot, &host(address(1, 1000)), &mut index);
     assert!(added == abi::OK);
     let reported = is_ice_local_candidate(&mut slot, 0, &mut line, &mut length);

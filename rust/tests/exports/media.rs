@@ -1,5 +1,6 @@
 //! The path for media through an ICE restart, silence of the selected path, and packets that could not be sent.
 
+use super::agent_settings::consent_of;
 use super::selected::{begin, is_at, times_out};
 use super::{address, no_event, passes};
 use crate::abi::{
@@ -9,11 +10,8 @@ use crate::abi::{
 };
 use crate::no_agent;
 
-/// When the response arrives that selects the path, and consent to it ends: after the longest RTO of 2.9 s and a series of checks of
-/// 26.7 s (RFC 7675).
+/// When the response arrives that selects the path.
 const SELECTED: u64 = 30_000_000;
-
-const CONSENT_END: u64 = 29_630_000_000;
 
 /// Both agents, of which the first one has selected its path. Whether it has.
 fn selects(near: &mut Agent, far: &mut Agent) -> bool {
@@ -61,13 +59,14 @@ fn media_goes_on_through_a_restart() {
     let again = is_ice_restart(&mut near, b"CCCC", b"RRRR", true);
     assert!(again == abi::OK);
     assert!(media_port(&mut near, SELECTED) == 2000);
-    assert!(media_port(&mut near, CONSENT_END - 1) == 2000);
-    assert!(takes_from(&mut near, CONSENT_END - 1, &address(2, 2000)));
-    assert!(media_port(&mut near, CONSENT_END) == 9);
-    assert!(!takes_from(&mut near, CONSENT_END, &address(2, 2000)));
+    let end = SELECTED + consent_of(&mut near);
+    assert!(media_port(&mut near, end - 1) == 2000);
+    assert!(takes_from(&mut near, end - 1, &address(2, 2000)));
+    assert!(media_port(&mut near, end) == 9);
+    assert!(!takes_from(&mut near, end, &address(2, 2000)));
     let more = is_ice_restart(&mut near, b"DDDD", b"SSSS", true);
     assert!(more == abi::OK);
-    assert!(media_port(&mut near, CONSENT_END - 1) == 2000);
+    assert!(media_port(&mut near, end - 1) == 2000);
     is_ice_agent_free(&mut near);
     is_ice_agent_free(&mut far);
 }

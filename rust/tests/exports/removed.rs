@@ -1,14 +1,14 @@
 //! Pairs that were removed, and why.
 
-use super::agent_settings::ORIGINAL;
+use super::agent_settings::{consent_of, modern, original};
 use super::selected::is_at;
 use super::stun::no_texts;
 use super::{REQUEST, address, host, no_packet, passes};
 use crate::abi::{
-    self, Address, Agent, MediaPath, RemovedPair, StunMessage, StunNumber, StunTransaction, is_ice_add_local, is_ice_add_remote,
-    is_ice_agent_free, is_ice_agent_new, is_ice_handle_packet, is_ice_handle_timeout, is_ice_invalidate, is_ice_poll_transmit,
-    is_ice_removed_at, is_ice_removed_count, is_ice_restart, is_ice_set_controlling, is_ice_set_lite, is_ice_set_max_pairs,
-    is_ice_set_remote_credentials, is_ice_set_settings, is_ice_stun_write,
+    self, Address, Agent, AgentSettings, MediaPath, RemovedPair, StunMessage, StunNumber, StunTransaction, is_ice_add_local,
+    is_ice_add_remote, is_ice_agent_free, is_ice_agent_new, is_ice_handle_packet, is_ice_handle_timeout, is_ice_invalidate,
+    is_ice_poll_transmit, is_ice_removed_at, is_ice_removed_count, is_ice_restart, is_ice_set_controlling, is_ice_set_lite,
+    is_ice_set_max_pairs, is_ice_set_remote_credentials, is_ice_set_settings, is_ice_stun_write,
 };
 use crate::no_agent;
 
@@ -73,8 +73,8 @@ fn is_of(removed: &RemovedPair, last: u8, reason: i32) -> bool {
         && removed.reason == reason
 }
 
-/// A controlling agent at 10.0.0.1:1000, of a peer BBBB with the password QQQQ; by the original and with two checks at most if
-/// `checks_twice`. Whether it was made.
+/// A controlling agent at 10.0.0.1:1000, of a peer BBBB with the password QQQQ; by the original, with an RTO of 250 ms and two
+/// checks at most, if `checks_twice`. Whether it was made.
 fn begins(slot: &mut Agent, checks_twice: bool) -> bool {
     let mut index = 9;
     let made = is_ice_agent_new(slot, b"AAAA", b"PPPP", 1);
@@ -83,8 +83,7 @@ fn begins(slot: &mut Agent, checks_twice: bool) -> bool {
     let added = is_ice_add_local(slot, &host(own()), &mut index);
     let mut set = abi::OK;
     if checks_twice {
-        let mut settings = ORIGINAL;
-        settings.max_retransmits = 2;
+        let settings = AgentSettings { initial_rto: 250 * MS, max_retransmits: 2, ..original() };
         set = is_ice_set_settings(slot, &settings);
     }
     made == abi::OK && leads == abi::OK && known == abi::OK && added == abi::OK && set == abi::OK
@@ -217,7 +216,7 @@ fn is_peer(slot: &mut Agent) -> bool {
     made == abi::OK && known == abi::OK && added == abi::OK
 }
 
-// Consent ends 29.6 s after the last answered check was sent (RFC 7675, section 5.1, has 30 s at most).
+// RFC 7675, section 5.1, has 30 s at most.
 #[test]
 fn a_pair_that_lost_consent_is_removed() {
     let mut near = no_agent();
@@ -229,8 +228,10 @@ fn a_pair_that_lost_consent_is_removed() {
     assert!(begun == abi::OK);
     assert!(passes(&mut near, &mut far, 10 * MS));
     assert!(passes(&mut far, &mut near, 20 * MS));
-    assert!(checks(&mut near, 29_599 * MS, b"twelve other"));
-    assert!(fails(&mut near, 29_600 * MS));
+    let end = consent_of(&mut near);
+    assert!(end < 30_000 * MS);
+    assert!(checks(&mut near, end - MS, b"twelve other"));
+    assert!(fails(&mut near, end));
     let removed = removed_at(&mut near, 0);
     assert!(is_of(&removed, 2, CONSENT_LOST));
     assert!(removed.checks_sent == 2);
@@ -252,14 +253,13 @@ fn is_asked(slot: &mut Agent, lite: bool) -> bool {
     made == abi::OK && set == abi::OK && known == abi::OK && added == abi::OK && taken == abi::OK
 }
 
-// A lite agent keeps a pair for 15 s after the last check on it.
 #[test]
 fn a_lite_agent_removes_the_pair_of_a_silent_peer() {
     let mut slot = no_agent();
     assert!(is_asked(&mut slot, true));
-    let kept = is_ice_handle_timeout(&mut slot, 14_999 * MS, b"twelve bytes");
+    let kept = is_ice_handle_timeout(&mut slot, modern().lite_timeout - MS, b"twelve bytes");
     assert!(kept == abi::OK);
-    assert!(fails(&mut slot, 15_000 * MS));
+    assert!(fails(&mut slot, modern().lite_timeout));
     let removed = removed_at(&mut slot, 0);
     assert!(is_of(&removed, 2, PEER_SILENT));
     assert!(removed.checks_sent == 0);

@@ -1,10 +1,11 @@
 //! The selected path and that of a valid pair, and what a new agent begins with.
 
+use super::agent_settings::{consent_of, modern, status_of};
 use super::{address, host, no_event, passes};
 use crate::abi::{
-    self, Address, Agent, AgentStatus, Event, MediaPath, NominatedPair, is_ice_add_local, is_ice_add_remote, is_ice_agent_free,
-    is_ice_agent_new, is_ice_handle_timeout, is_ice_nominated, is_ice_poll_event, is_ice_restart, is_ice_set_controlling,
-    is_ice_set_remote_credentials, is_ice_status, is_ice_valid_path,
+    self, Address, Agent, Event, MediaPath, NominatedPair, is_ice_add_local, is_ice_add_remote, is_ice_agent_free, is_ice_agent_new,
+    is_ice_handle_timeout, is_ice_nominated, is_ice_poll_event, is_ice_restart, is_ice_retransmit_timeout, is_ice_set_controlling,
+    is_ice_set_remote_credentials, is_ice_valid_path,
 };
 use crate::no_agent;
 
@@ -135,15 +136,18 @@ pub(super) fn is_at(at: &Address, last: u8, port: u16) -> bool {
     at.family == 4 && at.bytes[0] == 10 && at.bytes[3] == last && at.port == port
 }
 
+// RFC 7675, section 5.1, has 30 s at most; browsers hold a path as long.
 #[test]
-fn a_new_agent_keeps_consent_for_thirty_seconds() {
+fn a_new_agent_keeps_consent_for_nearly_thirty_seconds() {
     let mut slot = no_agent();
-    let mut status = AgentStatus { state: 9, controlling: true, lite: true, mtu: 0, mtu_warn: 0, ice_timeout: 0, max_candidates: 0 };
+    let mut timeout = 0;
     let made = is_ice_agent_new(&mut slot, b"AAAA", b"PPPP", 1);
     assert!(made == abi::OK);
-    let asked = is_ice_status(&mut slot, &mut status);
-    assert!(asked == abi::OK);
-    // The delays after the second to the eleventh check, and the last one again: 0.5 + 1 + 2 + 8 * 2.9 s.
-    assert!(status.ice_timeout == 26_700_000_000);
+    assert!(29_000_000_000 < consent_of(&mut slot));
+    assert!(consent_of(&mut slot) < 30_000_000_000);
+    let settings = modern();
+    let returned = is_ice_retransmit_timeout(settings.initial_rto, settings.max_rto, settings.max_retransmits, &mut timeout);
+    assert!(returned == abi::OK);
+    assert!(status_of(&mut slot).ice_timeout == timeout);
     is_ice_agent_free(&mut slot);
 }

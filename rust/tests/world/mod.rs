@@ -25,6 +25,19 @@ pub fn creds(ufrag: &str) -> IceCreds {
     IceCreds { ufrag: ufrag.to_owned(), pass: format!("password-of-{ufrag}") }
 }
 
+/// Gives the agent the delays from which the times in a test follow, whatever a new agent has: an RTO of 250 ms doubles up to 2.9 s, and
+/// there are 11 checks.
+pub fn set_delays(agent: &mut IceAgent) {
+    agent.set_initial_stun_rto(ms(250));
+    agent.set_max_stun_rto(ms(2900));
+    agent.set_max_stun_retransmits(11);
+}
+
+/// How long a response keeps a pair, by the RTOs (RFC 7675).
+pub fn consent(agent: &IceAgent) -> Duration {
+    agent.settings().max_rto + agent.ice_timeout()
+}
+
 /// An agent, and its events so far.
 pub struct Side {
     pub agent: IceAgent,

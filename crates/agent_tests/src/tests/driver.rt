@@ -22,15 +22,17 @@ pub(super) struct Player {
 }
 
 impl Player {
-    /// A controlled agent. Agents with different tie-breakers draw different ids.
+    /// A controlled agent with the timing of stories. Agents with different tie-breakers draw different ids.
     pub(super) fn new(
         alloc: Global,
         ufrag: &str,
         pass: &str,
         tie_breaker: u64,
     ) -> Result<Player, IceError> {
+        let mut agent = Agent::new(alloc, creds(alloc, ufrag, pass)?, tie_breaker)?;
+        times(&mut agent);
         Ok(Player {
-            agent: Agent::new(alloc, creds(alloc, ufrag, pass)?, tie_breaker)?,
+            agent,
             rng: Pcg32::seed_from_u64(tie_breaker),
             alloc,
             sent: None,
@@ -230,6 +232,15 @@ impl Player {
         }
         true
     }
+}
+
+/// Sets the timing from which the times in stories follow, whatever a new agent has: Ta is 50 ms, and of 9 checks without a response
+/// the last ones are 3 s apart.
+fn times(agent: &mut Agent) {
+    agent.set_timing_advance(Duration::from_millis(50));
+    agent.set_initial_stun_rto(Duration::from_millis(250));
+    agent.set_max_stun_rto(Duration::from_millis(3000));
+    agent.set_max_stun_retransmits(9);
 }
 
 /// The packet arrives; whether the agent accepts it.

@@ -246,15 +246,15 @@ const URGENT: [Story; 5] = [
             Takes(Answer(10, FIRST)),
             Does(CheckTo(50, FIRST, true)),
             Does(CheckTo(100, SECOND, false)),
-            // every second check goes to it, if it is due: 100 ms after each of the first two that nominate it, and 200 ms after the third
+            // every second check goes to it: it is due 100 ms after each that nominates it
             Does(CheckTo(150, FIRST, true)),
             Does(CheckTo(200, At(4, 2000), false)),
             Does(CheckTo(250, FIRST, true)),
             Does(CheckTo(300, At(5, 2000), false)),
-            Does(CheckTo(350, At(6, 2000), false)),
-            Does(CheckTo(400, At(7, 2000), false)),
+            Does(CheckTo(350, FIRST, true)),
+            Does(CheckTo(400, At(6, 2000), false)),
             Does(CheckTo(450, FIRST, true)),
-            Does(CheckTo(500, At(8, 2000), false)),
+            Does(CheckTo(500, At(7, 2000), false)),
         ],
     ),
 ];

@@ -10,6 +10,7 @@ use super::step::Step::*;
 use super::step::{At, Setting, Whose};
 use super::story::{Story, play};
 use super::*;
+use is::Profile;
 use is::pair::CheckState;
 
 #[test]
@@ -138,7 +139,7 @@ const SENDERS: [Story; 3] = [
 
 // ---- the limit, and priorities
 
-const LIMITED: [Story; 3] = [
+const LIMITED: [Story; 4] = [
     Story(
         "the_limit_acts_where_pairs_are_formed",
         &[
@@ -167,6 +168,24 @@ const LIMITED: [Story; 3] = [
             Does(Peer("candidate:1 1 udp 7 10.0.0.4 4000 typ host")),
             Holds(HasPair(OTHER, true)),
             Holds(Remotes(&[At(2, 2000), At(3, 3000), At(4, 4000)])),
+        ],
+    ),
+    // the pair of the path is gone; the original leaves the event
+    Story(
+        "pairs_that_are_formed_again_leave_no_selection_behind",
+        &[
+            Begin(Paired),
+            Set(Setting::Profile(Profile::Modern)),
+            Does(Check(0)),
+            Takes(Answer(50, At(2, 2000))),
+            Does(Recreate),
+            Emits(Selected(None)),
+            Begin(Paired),
+            Set(Setting::Profile(Profile::Original)),
+            Does(Check(0)),
+            Takes(Answer(50, At(2, 2000))),
+            Does(Recreate),
+            Emits(Selected(Some(At(2, 2000)))),
         ],
     ),
     Story(

@@ -18,7 +18,7 @@ fn requests_wait(rt: HostRuntime) -> Result<(), Fail> {
     play(rt.alloc(), &STORIES)
 }
 
-const STORIES: [Story; 8] = [
+const STORIES: [Story; 9] = [
     Story(
         "the_last_100_requests_wait",
         &[
@@ -44,6 +44,26 @@ const STORIES: [Story; 8] = [
             Does(Creds(Whose::Remote, "SQAt", "x")),
             Does(Check(21499)),
             Emits(Replied(PASSWORD)),
+        ],
+    ),
+    // a request of the session before; the original serves it in the new one
+    Story(
+        "a_restart_drops_early_requests",
+        &[
+            Begin(Early),
+            Set(Setting::Profile(Profile::Modern)),
+            Takes(Request(0, At(1, 1000))),
+            Does(Creds(Whose::Restarted, "new1", "newpass")),
+            Does(Creds(Whose::Remote, "SQAt", "x")),
+            Does(Timeout(0)),
+            Emits(NoPacket),
+            Begin(Early),
+            Set(Setting::Profile(Profile::Original)),
+            Takes(Request(0, At(1, 1000))),
+            Does(Creds(Whose::Restarted, "new1", "newpass")),
+            Does(Creds(Whose::Remote, "SQAt", "x")),
+            Does(Check(0)),
+            Emits(Replied("newpass")),
         ],
     ),
     Story(

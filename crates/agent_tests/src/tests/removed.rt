@@ -1,5 +1,6 @@
 //! Why pairs were removed.
 
+use super::settings::LITE;
 use super::step::Call::*;
 use super::step::Emitted::*;
 use super::step::Held::*;
@@ -79,9 +80,9 @@ const SILENT: [Story; 4] = [
             Does(Host(At(1, 1000))),
             Write(Message::Request(true, true), "nearpass"),
             Takes(Served(0, THERE)),
-            Does(Timeout(14_999)),
+            Does(Timeout(LITE - 1)),
             Holds(Removed(&[])),
-            Does(Timeout(15_000)),
+            Does(Timeout(LITE)),
             Holds(Removed(&[(THERE, Removal::PeerSilent, 0, None)])),
         ],
     ),

@@ -1,5 +1,6 @@
 //! ICE restarts, new agents, and ICE-lite agents.
 
+use super::settings::LITE;
 use super::step::Call::*;
 use super::step::Emitted::*;
 use super::step::Held::*;
@@ -111,7 +112,7 @@ const VIABLE: [Story; 6] = [
         ],
     ),
     Story(
-        "a_lite_agent_waits_15_seconds_for_its_peer",
+        "a_lite_agent_waits_for_its_peer",
         &[
             Begin(Known),
             Set(Setting::Lite),
@@ -119,10 +120,10 @@ const VIABLE: [Story; 6] = [
             Does(Check(0)),
             Does(Timeout(50)),
             Emits(Events("DRcNC")),
-            Does(Timeout(14999)),
+            Does(Timeout(LITE - 1)),
             Emits(Nothing),
             Shows(Viable(At(2, 2000), true)),
-            Does(Timeout(15000)),
+            Does(Timeout(LITE)),
             Emits(Events("x")),
             Emits(NoPacket),
             Shows(Viable(At(2, 2000), false)),
@@ -148,13 +149,13 @@ const VIABLE: [Story; 6] = [
             Does(Timeout(50000)),
             Emits(Events("x")),
             Shows(Viable(At(2, 2000), false)),
-            // the same cut ends the path with the default
+            // without that setting the path ends sooner
             Begin(Known),
             Set(Setting::Lite),
             Takes(Request(0, At(1, 1000))),
             Does(Check(0)),
             Does(Timeout(50)),
-            Does(Timeout(18000)),
+            Does(Timeout(LITE)),
             Shows(Viable(At(2, 2000), false)),
             Shows(Disconnected),
         ],
@@ -193,9 +194,9 @@ const VIABLE: [Story; 6] = [
             Holds(Number(PEER, 1)),
             // not as if it had received a packet at the first `handle_timeout` call
             Does(Timeout(10000)),
-            Does(Timeout(14999)),
+            Does(Timeout(LITE - 1)),
             Shows(Viable(At(2, 2000), true)),
-            Does(Timeout(15000)),
+            Does(Timeout(LITE)),
             Holds(HasPair(PEER, false)),
             Shows(Disconnected),
         ],

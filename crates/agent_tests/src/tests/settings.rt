@@ -18,7 +18,8 @@ fn settings_are_kept(rt: HostRuntime) -> Result<(), Fail> {
 /// A tie-breaker that the agent sends in the controlling role.
 const TIE: u64 = 0x0102_0304_0506_0708;
 
-/// What a new agent is set to: the numbers of the original, and of RFC 8445, sections 14.2 and 14.3.
+/// What a new agent is set to: the numbers of the original, and of RFC 8445, sections 14.2 and 14.3. No other test has them: stories
+/// set the timing that they need.
 const ORIGINAL: Settings = Settings {
     profile: Profile::Original,
     timing_advance: Duration(50_000_000),
@@ -43,6 +44,9 @@ const MODERN: Settings = Settings {
     max_discovered: Some(32),
     ..ORIGINAL
 };
+
+/// How many milliseconds a new lite agent keeps a pair without a check of its peer.
+pub(super) const LITE: u64 = ORIGINAL.lite_timeout.0 / 1_000_000;
 
 const STORIES: [Story; 5] = [
     Story(

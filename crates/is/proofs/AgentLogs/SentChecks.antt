@@ -28,7 +28,7 @@ module _ {H P : Type 0} (mac : H → List ℕ → List ℕ → List ℕ) (answer
     checks_stay_paced law from long pace paced some ends before mid after x point patient =
         let run = run_to mac answers first s log before mid x after point in
         law first after (x ∷ before) from long pace (new_first mac answers first fresh) (shared_run mac answers first s (x ∷ before) after point.following run) patient
-        (before_each (IsPacedAt from pace) first after s point.following (x ∷ before) run (λ b m a y p. paced b m a y (deeper mac answers first s log (x ∷ before) point.rest b m y a point.split p)))
+        (before_each (IsPacedAt from long pace) first after s point.following (x ∷ before) run (λ b m a y p. paced b m a y (deeper mac answers first s log (x ∷ before) point.rest b m y a point.split p)))
         some ends
 
     pub seconds_stay_short : SecondsHaveFewChecks {H = H} mac answers → SecondsStayShort mac answers first s log

@@ -1,5 +1,5 @@
 -- A pair that was checked is due after the time of the check, whenever its due time is computed from then on.
-use Rattle.std.proofs.Common.{◌≡◌, ℕ, zero, suc, ◌+◌, ◌-◌, ◌*◌, ◌/◌, ◌^◌, ◌==◌, ◌<◌, ◌≤◌, ◌&&◌, Bool, true, false, List, [], ◌∷◌, ◌++◌, length, drop, reverse, position, min, max, Option, Some, None, unwrap_or, if◌then◌else◌, refl, ap, sym, ◌∙◌, subst, arith}
+use Rattle.std.proofs.Common.{◌≡◌, ℕ, zero, suc, ◌+◌, ◌-◌, ◌*◌, ◌/◌, ◌^◌, ◌==◌, ◌<◌, ◌≤◌, ◌&&◌, nat_lt, Bool, true, false, List, [], ◌∷◌, ◌++◌, length, drop, reverse, position, min, max, Option, Some, None, unwrap_or, if◌then◌else◌, refl, ap, sym, ◌∙◌, subst, arith}
 use Rattle.std.specs.Prelude.{slice_get}
 use Rattle.std.specs.Option.{option_map_or}
 use Rattle.std.proofs.Math.Nat.{one-le-pow, one-le-mul}
@@ -14,9 +14,9 @@ use Rattle.is_stun.specs.Timing.{delay_millis, resend_delay, early_delay, is_mod
 use Rattle.is_pair.specs.declared.pair.states.NominationState.{NominationState}
 use Rattle.is_pair.specs.declared.pair.states.NominationState.TheVariants.{None as Unnominated, Nominated, Attempt, Success}
 use Rattle.is_pair.specs.States.{nomination_once_sent}
-use Rattle.is_pair.specs.Checks.{Check, is_answered, last_checks, last_check, unanswered_count}
+use Rattle.is_pair.specs.Checks.{Check, is_answered, last_checks, last_check, last_round_trip, unanswered_count}
 use Rattle.is_pair.specs.Pairs.{PairRecord, check_of, checked}
-use Rattle.is_pair.specs.Due.{is_silent, delaying_count, usual_delay, is_repeated_early, silent_count, delay_of, next_due_time, computed_due_time}
+use Rattle.is_pair.specs.Due.{is_silent, delaying_count, usual_delay, is_hushed, is_repeated_early, hushed_delay, HUSHED_INTERVAL, LATENESS, modern_delay, repeated_delay, silent_count, delay_of, next_due_time, computed_due_time}
 use Rattle.is_pair.specs.Turns.{IsPaced, CheckedIsLater}
 
 -- ---- the delay
@@ -100,12 +100,29 @@ early-positive n = least _ _ (product EARLY_INTERVAL _ (omega arith) (one-le-pow
   least x y h k = omega (arith, h, k)
 
 wait-positive : (at : ℕ) (t : StunTiming) (q : PairRecord) → IsPaced t → 0 < unanswered_count q.checks → 0 < length q.checks → 0 < delay_of at t q
-wait-positive at t q paced open_still some = either (is_modern t && is_repeated_early at t q) where
+wait-positive at t q paced open_still some = either (is_modern t) where
   usual : 0 < usual_delay at t q.checks
   usual = delay-positive t (delaying_count at t q.checks) paced (delaying at t q.checks open_still some)
 
-  either : (b : Bool) → 0 < (if b then early_delay (silent_count q) else usual_delay at t q.checks)
-  either true = early-positive (silent_count q)
+  hushed : 0 < hushed_delay t q
+  hushed = most (nat_lt (unanswered_count q.checks) t.max_retransmits) (later (unwrap_or (last_round_trip q.checks) 0) LATENESS) where
+    most : (b : Bool) (y : ℕ) → 0 < max (if b then EARLY_INTERVAL else HUSHED_INTERVAL) y
+    most true y = omega arith
+    most false y = omega arith
+
+  sooner : (x y : ℕ) → 0 < x → 0 < y → 0 < min x y
+  sooner x y h k = omega (arith, h, k)
+
+  repeated : (b : Bool) → 0 < (if b then early_delay (silent_count q) else usual_delay at t q.checks)
+  repeated true = early-positive (silent_count q)
+  repeated false = usual
+
+  modern : (b : Bool) → 0 < (if b then min (hushed_delay t q) (repeated_delay at t q) else repeated_delay at t q)
+  modern true = sooner (hushed_delay t q) (repeated_delay at t q) hushed (repeated (is_repeated_early at t q))
+  modern false = repeated (is_repeated_early at t q)
+
+  either : (b : Bool) → 0 < (if b then modern_delay at t q else usual_delay at t q.checks)
+  either true = modern (is_hushed q)
   either false = usual
 
 -- so the next one is later

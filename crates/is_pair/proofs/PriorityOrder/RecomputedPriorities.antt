@@ -10,7 +10,7 @@ use Rattle.is_pair.specs.Entries.{is_rank, rank_now, IsRanking}
 use Rattle.is_pair.proofs.PairEntries.ChangedEntry.{both, none-passes, numbered-changed, one-passes, rises-changed}
 use Rattle.is_pair.proofs.PriorityOrder.GreatestPair.{any-has, has-any}
 
-number-now : (qs : List PairRecord) (r : Rank) → (rank_now qs r).number ≡ r.number
+pub number-now : (qs : List PairRecord) (r : Rank) → (rank_now qs r).number ≡ r.number
 number-now qs r = elim (pair_numbered r.number qs) as (λ o. (option_map_or (λ (p : PairRecord). record r { priority = p.priority }) o r).number ≡ r.number) [ Some p ↦ refl | None ↦ refl ]
 
 -- the ranks of a pair
@@ -47,7 +47,7 @@ module _ (ps : List PairRecord) (rs : List Rank) (rising : rises ps ≡ true) (r
       let own = ranked p.priority n ∙ one-passes n (λ q. q.priority == p.priority) ps p rising found ∙ eq-eqb p.priority p.priority refl in
       any-weaker (is_rank p.priority n) (λ (r : Rank). r.number == n) (λ r is. (both (r.number == n) (r.priority == p.priority) is).0) rs own
 
-  has-none : (n : ℕ) → pair_numbered n ps ≡ None → list_any (λ (r : Rank). r.number == n) rs ≡ false
+  pub has-none : (n : ℕ) → pair_numbered n ps ≡ None → list_any (λ (r : Rank). r.number == n) rs ≡ false
   has-none n none =
       elim (list_any (λ (r : Rank). r.number == n) rs) as (λ b. list_any (λ (r : Rank). r.number == n) rs ≡ b → b ≡ false) [
         | true ↦ λ some.

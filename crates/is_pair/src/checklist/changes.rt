@@ -4,8 +4,7 @@ ghost use Rattle.std.specs.Prelude.{◌≡◌, ◌<◌, ℕ, true, map};
 ghost use Rattle.is_pair.specs.Multiset.{are_below, change_pair, with_priority, KeepsKeys};
 ghost use Rattle.is_pair.specs.Pairs.{heard, undue, with_error};
 ghost use Rattle.is_pair.specs.Due.{asked};
-ghost use Rattle.is_pair.specs.Checklists.{multiset_of, HasRoom, HasCheckRoom};
-ghost use Rattle.is_pair.specs.Removed.{removed_of};
+ghost use Rattle.is_pair.specs.Checklists.{multiset_of, HasRoom, HasCheckRoom, removed_of};
 
 use super::{Checklist, PairChange, PairPriority, listed, ranks};
 use crate::pair::CandidatePair;

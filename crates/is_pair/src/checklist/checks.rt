@@ -6,8 +6,7 @@ ghost use Rattle.std.specs.Option.{option_copied};
 ghost use Rattle.rand_core.specs.Stream.{fill_bytes};
 ghost use Rattle.is_pair.specs.Multiset.{are_below, change_pair, has_number, is_awaiting, keeps, IsAwaiting, RecordsAnswer};
 ghost use Rattle.is_pair.specs.Pairs.{checked};
-ghost use Rattle.is_pair.specs.Checklists.{multiset_of, HasRoom, HasCheckRoom};
-ghost use Rattle.is_pair.specs.Removed.{removed_of};
+ghost use Rattle.is_pair.specs.Checklists.{multiset_of, HasRoom, HasCheckRoom, removed_of};
 
 use super::{Checklist, PairTest, index, listed};
 use crate::pair::CandidatePair;

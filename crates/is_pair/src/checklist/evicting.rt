@@ -2,10 +2,9 @@
 
 ghost use Rattle.std.specs.Prelude.{◌≡◌, ℕ, true};
 ghost use Rattle.std.specs.Option.{option_copied};
+ghost use Rattle.is_pair.specs.Lowest.{EvictsAll};
 ghost use Rattle.is_pair.specs.Multiset.{are_below, Evicts, IsLeastPassing, IsLowest};
-ghost use Rattle.is_pair.specs.Checklists.{multiset_of, HasRoom, HasCheckRoom};
-ghost use Rattle.is_pair.specs.Removed.{removed_of, AreRemoved};
-ghost use Rattle.is_pair.specs.declared.checklist.removed.Removal.TheVariants.{Evicted};
+ghost use Rattle.is_pair.specs.Checklists.{multiset_of, HasRoom, HasCheckRoom, removed_of};
 
 use super::{Checklist, PairTest, Removal, listed, ranks};
 use crate::pair::CandidatePair;
@@ -37,7 +36,7 @@ impl Checklist {
         ensures room { (n : ℕ) → HasRoom n self.old → HasRoom n self.new }
         ensures check_room { (n : ℕ) → HasCheckRoom n self.old → HasCheckRoom n self.new }
         ensures below { (n : ℕ) → are_below n (multiset_of self.old) ≡ true → are_below n (multiset_of self.new) ≡ true }
-        ensures removed { AreRemoved (λ p. true) (λ p. Evicted) (multiset_of self.old) (removed_of self.old) (removed_of self.new) }
+        ensures removed { EvictsAll limit (multiset_of self.old) (multiset_of self.new) (removed_of self.old) (removed_of self.new) }
     {
         while self.len() > limit {
             match self.least() {
@@ -56,7 +55,7 @@ impl Checklist {
         ensures room { (n : ℕ) → HasRoom n self.old → HasRoom n self.new }
         ensures check_room { (n : ℕ) → HasCheckRoom n self.old → HasCheckRoom n self.new }
         ensures below { (n : ℕ) → are_below n (multiset_of self.old) ≡ true → are_below n (multiset_of self.new) ≡ true }
-        ensures removed { AreRemoved (λ p. true) (λ p. Evicted) (multiset_of self.old) (removed_of self.old) (removed_of self.new) }
+        ensures removed { EvictsAll limit (multiset_of self.old) (multiset_of self.new) (removed_of self.old) (removed_of self.new) }
     {
         self.evict_block(limit);
         self.evict_each(limit);

@@ -2,8 +2,7 @@
 //! many pairs and has one would keep the memory of all.
 
 ghost use Rattle.std.specs.Prelude.{◌≡◌, ◌≤◌, vec_len, vec_capacity};
-ghost use Rattle.is_pair.specs.Checklists.{multiset_of};
-ghost use Rattle.is_pair.specs.Removed.{removed_of};
+ghost use Rattle.is_pair.specs.Checklists.{multiset_of, removed_of};
 
 use super::Checklist;
 

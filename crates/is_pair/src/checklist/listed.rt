@@ -138,6 +138,11 @@ pub(super) fn take_out(pairs: &mut Vec<CandidatePair>, number: u64)
     pairs.retain(|pair| pair.id().0 != number);
 }
 
+/// The length of the list is that of its items. Does nothing; code whose proof needs this calls it.
+pub(super) fn len_is(pairs: &Vec<CandidatePair>)
+    ensures { vec_len pairs.now ≡ length pairs.now.items }
+{}
+
 // ---- queries over all pairs
 
 /// Whether any pair passes the test.

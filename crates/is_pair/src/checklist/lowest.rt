@@ -1,16 +1,12 @@
 //! Pairs of lowest priority that are removed at once, when the limit removes many (RFC 8445, section 6.1.2.5).
 
-ghost use Rattle.std.specs.Prelude.{◌≡◌, ℕ, true, count_by, IfSome};
+ghost use Rattle.std.specs.Prelude.{◌≡◌, ℕ, true, count_by, slice_get};
 ghost use Rattle.std.specs.Option.{option_copied};
-ghost use Rattle.is_proto.specs.Lists.{Has};
-ghost use Rattle.is_pair.specs.Pairs.{PairRecord};
 ghost use Rattle.is_pair.specs.Multiset.{are_below};
-ghost use Rattle.is_pair.specs.Lowest.{EvictsSome};
-ghost use Rattle.is_pair.specs.Checklists.{multiset_of, HasRoom, HasCheckRoom};
-ghost use Rattle.is_pair.specs.Removed.{removed_of, AreRemoved};
-ghost use Rattle.is_pair.specs.declared.checklist.removed.Removal.TheVariants.{Evicted};
+ghost use Rattle.is_pair.specs.Lowest.{ranked_of, AreRanked, EvictsSome};
+ghost use Rattle.is_pair.specs.Checklists.{multiset_of, HasRoom, HasCheckRoom, removed_of};
 
-use super::{Checklist, PairRemoval, PairTest, Removal, listed};
+use super::{Checklist, PairRemoval, PairTest, Removal, listed, ranks};
 use crate::pair::CandidatePair;
 
 /// Fewer pairs than these are removed one after another.
@@ -53,17 +49,22 @@ fn count<T: PairTest>(pairs: &[CandidatePair], test: &T) -> usize
 impl Checklist {
     /// Returns the pair at a place in the order by priority, the least first.
     pub fn ranked(&self, place: usize) -> Option<&CandidatePair>
-        ensures { IfSome (option_copied result) (λ p. Has (multiset_of self.now) p) }
+        ensures { option_copied result ≡ slice_get (ranked_of self.now) place }
     {
-        match self.ranks.get(place) {
+        match ranks::at(&self.ranks, place) {
             Some(rank) => listed::get(&self.pairs, rank.number),
             None => None,
         }
     }
 
+    /// The pairs in the order by priority are all pairs, each once. Does nothing; code whose proof needs this calls it.
+    pub fn ranks_rise(&self)
+        ensures { AreRanked (multiset_of self.now) (ranked_of self.now) }
+    {}
+
     /// A test that the pairs up to this place in the order by priority pass, if those of one priority are in the order of their numbers.
     fn lowest(&self, place: usize) -> Option<Lowest> {
-        let rank = self.ranks.get(place)?;
+        let rank = ranks::at(&self.ranks, place)?;
         Some(Lowest {
             priority: rank.priority,
             number: rank.number,
@@ -72,12 +73,10 @@ impl Checklist {
 
     /// Removes pairs of lowest priority at once, no more than there are over the limit. It may leave some of those to be removed.
     pub(super) fn evict_block(&mut self, limit: usize)
-        ensures evicted { EvictsSome limit (multiset_of self.old) (multiset_of self.new) }
-        ensures among { (p : PairRecord) → Has (multiset_of self.new) p → Has (multiset_of self.old) p }
+        ensures evicted { EvictsSome limit (multiset_of self.old) (multiset_of self.new) (removed_of self.old) (removed_of self.new) }
         ensures room { (n : ℕ) → HasRoom n self.old → HasRoom n self.new }
         ensures check_room { (n : ℕ) → HasCheckRoom n self.old → HasCheckRoom n self.new }
         ensures below { (n : ℕ) → are_below n (multiset_of self.old) ≡ true → are_below n (multiset_of self.new) ≡ true }
-        ensures removed { AreRemoved (λ p. true) (λ p. Evicted) (multiset_of self.old) (removed_of self.old) (removed_of self.new) }
     {
         let excess = self.pairs.len().saturating_sub(limit);
         if excess < FEW {

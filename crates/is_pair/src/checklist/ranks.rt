@@ -1,9 +1,9 @@
 //! The pairs of a checklist in the order of their priorities.
 
-ghost use Rattle.std.specs.Prelude.{◌≡◌, ◌<◌, ◌≤◌, ◌==◌, ◌+◌, not, true, Bool, ◌||◌, filter, find, map, reverse, vec_len, vec_capacity};
+ghost use Rattle.std.specs.Prelude.{◌≡◌, ◌<◌, ◌≤◌, ◌==◌, ◌+◌, not, true, false, Bool, ◌||◌, filter, find, map, reverse, slice_get, vec_len, vec_capacity};
 ghost use Rattle.std.specs.List.{list_any};
 ghost use Rattle.is_pair.specs.Multiset.{has_number, rises};
-ghost use Rattle.is_pair.specs.Entries.{are_ordered, has_passing, rank_now};
+ghost use Rattle.is_pair.specs.Entries.{are_ordered, are_single, has_passing, rank_now};
 ghost use Rattle.is_pair.specs.declared.checklist.entries.Rank.{Rank};
 
 use super::entries::Rank;
@@ -15,8 +15,11 @@ use crate::pair::CandidatePair;
 pub(crate) fn put(ranks: &mut Vec<Rank>, rank: Rank)
     requires room { vec_len ranks.old < vec_capacity ranks.old }
     requires ordered { are_ordered ranks.old.items ≡ true }
+    requires single { are_single ranks.old.items ≡ true }
+    requires other { list_any (λ r. r.number == rank.number) ranks.old.items ≡ false }
     ensures any { (test : Rank → Bool) → list_any test ranks.new.items ≡ (test rank || list_any test ranks.old.items) }
     ensures ordered { are_ordered ranks.new.items ≡ true }
+    ensures single { are_single ranks.new.items ≡ true }
     ensures len { vec_len ranks.new ≡ vec_len ranks.old + 1 }
     ensures capacity { vec_capacity ranks.new ≡ vec_capacity ranks.old }
 {
@@ -24,6 +27,13 @@ pub(crate) fn put(ranks: &mut Vec<Rank>, rank: Rank)
     if ranks.insert(place, rank).is_err() {
         unreachable!()
     }
+}
+
+/// Returns the one at a place.
+pub(crate) fn at(ranks: &[Rank], place: usize) -> Option<Rank>
+    ensures { result ≡ slice_get ranks.now place }
+{
+    ranks.get(place).copied()
 }
 
 /// Removes those of pairs that no longer exist.
@@ -111,8 +121,10 @@ fn rank_now(rank: Rank, pairs: &[CandidatePair]) -> Rank
 /// Sorts all by the current priorities of their pairs.
 pub(crate) fn rebuild_order(ranks: &mut Vec<Rank>, pairs: &[CandidatePair])
     requires rising { rises pairs.now ≡ true }
+    requires single { are_single ranks.old.items ≡ true }
     ensures any { (test : Rank → Bool) → list_any test ranks.new.items ≡ list_any test (map (rank_now pairs.now) ranks.old.items) }
     ensures ordered { are_ordered ranks.new.items ≡ true }
+    ensures single { are_single ranks.new.items ≡ true }
     ensures len { vec_len ranks.new ≡ vec_len ranks.old }
     ensures capacity { vec_capacity ranks.new ≡ vec_capacity ranks.old }
 {

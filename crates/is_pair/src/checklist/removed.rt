@@ -1,15 +1,17 @@
 //! The pairs that were removed last, and why: for callers that ask why a session failed. Nothing is decided by them.
 
-ghost use Rattle.std.specs.Prelude.{◌≡◌, ◌<◌, ◌==◌, ℕ, not, true, List, [], filter, length, slice_get};
-ghost use Rattle.std.specs.Option.{option_copied};
+ghost use Rattle.std.specs.Prelude.{◌≡◌, ◌≤◌, ◌+◌, ◌==◌, ◌++◌, ◌∷◌, ℕ, not, true, List, [], filter, length, slice_get, OnOk};
+ghost use Rattle.std.specs.Option.{option_copied, option_to_list};
 ghost use Rattle.std.specs.VecDeque.{deque_len, deque_capacity};
 ghost use Rattle.is_pair.specs.Multiset.{is_numbered, pair_numbered, rises};
-ghost use Rattle.is_pair.specs.Checklists.{multiset_of, HasRoom, HasCheckRoom};
-ghost use Rattle.is_pair.specs.Removed.{removed_of, with_removed, AreRemoved, IsKeptLast, IsOf, MayKeep};
+ghost use Rattle.is_pair.specs.Lowest.{listed_by, pairs_of};
+ghost use Rattle.is_pair.specs.Checklists.{multiset_of, HasRoom, HasCheckRoom, removed_of};
+ghost use Rattle.is_pair.specs.Removed.{REMOVED_LIMIT, kept_as, last_removed, removed_passing, RemovedFit};
 
 use super::entries::Rank;
 use super::{Checklist, PairTest, listed};
 use crate::pair::{CandidatePair, CheckState};
+use std::alloc::AllocError;
 use std::collections::VecDeque;
 
 /// The greatest number of removed pairs that are kept.
@@ -20,7 +22,8 @@ const LIMIT: usize = 32;
 pub enum Removal {
     /// No response arrived to any of its checks.
     NoResponse,
-    /// A response arrived once, and then consent ended (RFC 7675, section 5.1).
+    /// A response arrived once, and then consent ended (RFC 7675, section 5.1); or it was the selected pair, and none of its last checks
+    /// had a response while another pair had one.
     ConsentLost,
     /// The agent is an ICE-lite agent, and the peer's checks stopped.
     PeerSilent,
@@ -70,8 +73,7 @@ pub trait PairRemoval: PairTest {
 
 impl RemovedPair {
     fn of(pair: &CandidatePair, why: Removal) -> RemovedPair
-        ensures is { IsOf pair.now result }
-        ensures why { result.why ≡ why }
+        ensures { result ≡ kept_as why pair.now }
     {
         RemovedPair {
             number: pair.id().0,
@@ -87,17 +89,38 @@ impl RemovedPair {
     }
 }
 
-/// Keeps one more, and drops the oldest beyond the limit. It is left out if memory is short.
-fn keep(removed: &mut VecDeque<RemovedPair>, pair: RemovedPair)
-    ensures kept { MayKeep pair removed.old.items removed.new.items }
-    ensures with_room { deque_len removed.old < deque_capacity removed.old → removed.new.items ≡ with_removed pair removed.old.items }
+/// Reserves capacity to list n more pairs and this many others, or as many as are listed at most.
+pub(super) fn reserve(
+    removed: &mut VecDeque<RemovedPair>,
+    pairs: usize,
+    n: usize,
+) -> Result<(), AllocError>
+    requires few { deque_len removed.old ≤ REMOVED_LIMIT }
+    ensures items { removed.new.items ≡ removed.old.items }
+    ensures len { deque_len removed.new ≡ deque_len removed.old }
+    ensures ok { OnOk result (RemovedFit (deque_len removed.new) (deque_capacity removed.new) (pairs + n)) }
+    ensures capacity { deque_capacity removed.old ≤ deque_capacity removed.new }
 {
-    if removed.push_back(pair).is_ok() && removed.len() > LIMIT {
-        let _ = removed.pop_front();
-    }
+    let free = LIMIT - removed.len();
+    removed.reserve_exact(pairs.saturating_add(n).min(free))
 }
 
-/// Keeps the pair with the number, if there is one.
+/// Lists one more, and drops the oldest beyond the limit.
+fn keep(removed: &mut VecDeque<RemovedPair>, pair: RemovedPair)
+    requires few { deque_len removed.old ≤ REMOVED_LIMIT }
+    requires room { RemovedFit (deque_len removed.old) (deque_capacity removed.old) 1 }
+    ensures kept { removed.new.items ≡ last_removed (removed.old.items ++ pair ∷ []) }
+    ensures few { deque_len removed.new ≤ REMOVED_LIMIT }
+    ensures len { deque_len removed.new ≤ deque_len removed.old + 1 }
+    ensures capacity { deque_capacity removed.new ≡ deque_capacity removed.old }
+{
+    if removed.len() >= LIMIT {
+        let _ = removed.pop_front();
+    }
+    removed.push_back_reserved(pair);
+}
+
+/// Lists the pair with the number, if there is one.
 pub(super) fn keep_numbered(
     removed: &mut VecDeque<RemovedPair>,
     pairs: &[CandidatePair],
@@ -105,22 +128,31 @@ pub(super) fn keep_numbered(
     why: Removal,
 )
     requires rising { rises pairs.now ≡ true }
-    ensures removed { AreRemoved (is_numbered number) (λ p. why) pairs.now removed.old.items removed.new.items }
-    ensures with_room { deque_len removed.old < deque_capacity removed.old
-        → IsKeptLast why (pair_numbered number pairs.now) removed.old.items removed.new.items }
+    requires few { deque_len removed.old ≤ REMOVED_LIMIT }
+    requires room { RemovedFit (deque_len removed.old) (deque_capacity removed.old) (length pairs.now) }
+    ensures removed { removed.new.items ≡ removed_passing (is_numbered number) (λ p. why) pairs.now removed.old.items }
+    ensures few { deque_len removed.new ≤ REMOVED_LIMIT }
+    ensures len { deque_len removed.new ≤ deque_len removed.old + length (filter (is_numbered number) pairs.now) }
+    ensures capacity { deque_capacity removed.new ≡ deque_capacity removed.old }
 {
-    if let Some(pair) = listed::get(pairs, number) {
-        keep(removed, RemovedPair::of(pair, why));
+    match listed::get(pairs, number) {
+        Some(pair) => keep(removed, RemovedPair::of(pair, why)),
+        None => {}
     }
 }
 
-/// Keeps the pairs that pass the test.
-pub(super) fn keep_passing<T: PairRemoval>(
+/// Lists the pairs that pass the test, in the order of their numbers.
+fn keep_by_number<T: PairRemoval>(
     removed: &mut VecDeque<RemovedPair>,
     pairs: &[CandidatePair],
     test: &T,
 )
-    ensures { AreRemoved (T.passes test.now) (T.reason test.now) pairs.now removed.old.items removed.new.items }
+    requires few { deque_len removed.old ≤ REMOVED_LIMIT }
+    requires room { RemovedFit (deque_len removed.old) (deque_capacity removed.old) (length pairs.now) }
+    ensures removed { removed.new.items ≡ removed_passing (T.passes test.now) (T.reason test.now) pairs.now removed.old.items }
+    ensures few { deque_len removed.new ≤ REMOVED_LIMIT }
+    ensures len { deque_len removed.new ≤ deque_len removed.old + length (filter (T.passes test.now) pairs.now) }
+    ensures capacity { deque_capacity removed.new ≡ deque_capacity removed.old }
 {
     for pair in pairs {
         if test.passes(pair) {
@@ -129,7 +161,7 @@ pub(super) fn keep_passing<T: PairRemoval>(
     }
 }
 
-/// Keeps the pair with the number if it passes the test.
+/// Lists the pair with the number if it passes the test.
 fn keep_if<T: PairRemoval>(
     removed: &mut VecDeque<RemovedPair>,
     pairs: &[CandidatePair],
@@ -137,7 +169,15 @@ fn keep_if<T: PairRemoval>(
     test: &T,
 )
     requires rising { rises pairs.now ≡ true }
-    ensures { AreRemoved (T.passes test.now) (T.reason test.now) pairs.now removed.old.items removed.new.items }
+    requires few { deque_len removed.old ≤ REMOVED_LIMIT }
+    requires room { RemovedFit (deque_len removed.old) (deque_capacity removed.old) (length (filter (T.passes test.now)
+        (option_to_list (pair_numbered number pairs.now)))) }
+    ensures removed { removed.new.items ≡ removed_passing (T.passes test.now) (T.reason test.now) (option_to_list (pair_numbered number pairs.now))
+        removed.old.items }
+    ensures few { deque_len removed.new ≤ REMOVED_LIMIT }
+    ensures len { deque_len removed.new ≤ deque_len removed.old
+        + length (filter (T.passes test.now) (option_to_list (pair_numbered number pairs.now))) }
+    ensures capacity { deque_capacity removed.new ≡ deque_capacity removed.old }
 {
     if let Some(pair) = listed::get(pairs, number) {
         if test.passes(pair) {
@@ -146,23 +186,53 @@ fn keep_if<T: PairRemoval>(
     }
 }
 
-/// Keeps the pairs that pass the test, in this order.
-pub(super) fn keep_ranked<T: PairRemoval>(
+/// Lists the pairs that pass the test, in the order of the entries.
+fn keep_ranked<T: PairRemoval>(
     removed: &mut VecDeque<RemovedPair>,
     pairs: &[CandidatePair],
     ranks: &[Rank],
     test: &T,
 )
     requires rising { rises pairs.now ≡ true }
-    ensures { AreRemoved (T.passes test.now) (T.reason test.now) pairs.now removed.old.items removed.new.items }
+    requires few { deque_len removed.old ≤ REMOVED_LIMIT }
+    requires room { RemovedFit (deque_len removed.old) (deque_capacity removed.old) (length (filter (T.passes test.now) (pairs_of ranks.now pairs.now))) }
+    ensures removed { removed.new.items ≡ removed_passing (T.passes test.now) (T.reason test.now) (pairs_of ranks.now pairs.now) removed.old.items }
+    ensures few { deque_len removed.new ≤ REMOVED_LIMIT }
+    ensures len { deque_len removed.new ≤ deque_len removed.old + length (filter (T.passes test.now) (pairs_of ranks.now pairs.now)) }
+    ensures capacity { deque_capacity removed.new ≡ deque_capacity removed.old }
 {
     for rank in ranks {
         keep_if(removed, pairs, rank.number, test);
     }
 }
 
+/// Lists the pairs that pass the test, by priority or by number.
+pub(super) fn keep_passing<T: PairRemoval>(
+    removed: &mut VecDeque<RemovedPair>,
+    pairs: &[CandidatePair],
+    ranks: &[Rank],
+    test: &T,
+    by_priority: bool,
+)
+    requires rising { rises pairs.now ≡ true }
+    requires few { deque_len removed.old ≤ REMOVED_LIMIT }
+    requires room { RemovedFit (deque_len removed.old) (deque_capacity removed.old) (length pairs.now) }
+    requires ranked { length (filter (T.passes test.now) (pairs_of ranks.now pairs.now)) ≤ length pairs.now }
+    ensures removed { removed.new.items
+        ≡ removed_passing (T.passes test.now) (T.reason test.now) (listed_by by_priority ranks.now pairs.now) removed.old.items }
+    ensures few { deque_len removed.new ≤ REMOVED_LIMIT }
+    ensures len { deque_len removed.new ≤ deque_len removed.old + length (filter (T.passes test.now) (listed_by by_priority ranks.now pairs.now)) }
+    ensures capacity { deque_capacity removed.new ≡ deque_capacity removed.old }
+{
+    if by_priority {
+        keep_ranked(removed, pairs, ranks, test);
+    } else {
+        keep_by_number(removed, pairs, test);
+    }
+}
+
 impl Checklist {
-    /// Returns the removed pair with this index, the one that was removed first before the others. At most 32 are kept, the last ones.
+    /// Returns the removed pair with this index, the one that was removed first before the others. The last 32 are kept.
     pub fn removed(&self, index: usize) -> Option<&RemovedPair>
         ensures { option_copied result ≡ slice_get (removed_of self.now) index }
     {
@@ -171,7 +241,8 @@ impl Checklist {
 
     /// Returns how many removed pairs are kept.
     pub fn removed_count(&self) -> usize
-        ensures { result ≡ length (removed_of self.now) }
+        ensures count { result ≡ length (removed_of self.now) }
+        ensures few { result ≤ REMOVED_LIMIT }
     {
         self.removed.len()
     }

@@ -4,6 +4,7 @@ ghost use Rattle.std.specs.Prelude.{◌≡◌, ◌<◌, ◌≤◌, ◌-◌, OnOk
 ghost use Rattle.std.specs.Option.{option_copied};
 ghost use Rattle.std.specs.VecDeque.{deque_len, deque_capacity};
 ghost use Rattle.is_pair.specs.Checks.{first_unanswered, has_id, is_answered, last_check, last_checks, unanswered_count};
+ghost use Rattle.is_pair.specs.Silence.{first_of_last};
 
 use super::attempt::BindingAttempt;
 use is_stun::stun::TransId;
@@ -69,6 +70,13 @@ pub(crate) fn unanswered(attempts: &VecDeque<BindingAttempt>) -> usize
         .rev()
         .position(|attempt| attempt.is_answered());
     answered.unwrap_or(attempts.len())
+}
+
+/// Returns the check with which the last `n` begin.
+pub(crate) fn first_of_last(attempts: &VecDeque<BindingAttempt>, n: usize) -> Option<BindingAttempt>
+    ensures { result ≡ first_of_last n attempts.now.items }
+{
+    attempts.get(attempts.len().saturating_sub(n)).copied()
 }
 
 /// Returns the index of the first check with this transaction ID, if there is one.

@@ -4,7 +4,7 @@ ghost use Rattle.std.specs.Prelude.{◌≡◌, ◌<◌, is_some, min, option_map
 ghost use Rattle.is_proto.specs.Times.{later};
 ghost use Rattle.is_pair.specs.Pairs.{is_valid, undue};
 ghost use Rattle.is_pair.specs.Due.{asked, delaying_count, due_time_of, is_heard, is_in_time, is_possible, long_before, next_due_time, computed_due_time};
-ghost use Rattle.is_pair.specs.Due.{delay_of, has_early_checks, is_beginning, is_early_on, is_early_silence, is_open, is_repeated_early, is_triggered, is_urgent, is_within, is_within_series, is_young, moved_up, silent_count, triggered, usual_delay};
+ghost use Rattle.is_pair.specs.Due.{delay_of, has_early_checks, hushed_delay, hushed_interval, is_hushed, modern_delay, repeated_delay, is_beginning, is_early_on, is_early_silence, is_open, is_repeated_early, is_triggered, is_urgent, is_within, is_within_series, is_young, moved_up, silent_count, triggered, usual_delay};
 
 use super::attempt::BindingAttempt;
 use super::requests::is_recent;
@@ -25,6 +25,16 @@ const BEGINNING: Duration = Duration(500_000_000);
 /// again after the first one that follows a request of the peer. By then the loss of each of ten checks, or of its response, is unlikely,
 /// and a path that is slow or dead is not filled (RFC 8489, section 6.2.1).
 const EARLY_TIME: Duration = Duration(2_500_000_000);
+
+/// The shortest delay after which a check of a nominated pair that is silent is repeated.
+const EARLY_INTERVAL: Duration = Duration(100_000_000);
+
+/// The same, once `max_retransmits` of its checks have no response.
+const HUSHED_INTERVAL: Duration = Duration(500_000_000);
+
+/// How much later than the one before a response may come, before the check is repeated: a longer jitter is rare, and costs only a
+/// check.
+const LATENESS: Duration = Duration(50_000_000);
 
 /// Whether less than the span has passed since a time, if there is one.
 fn is_within(span: Duration, now: Instant, since: Option<Instant>) -> bool
@@ -177,12 +187,52 @@ impl CandidatePair {
         }
     }
 
+    /// Whether the pair is valid and nominated, and has checks without a response.
+    fn is_hushed(&self) -> bool
+        ensures { result ≡ is_hushed self.now }
+    {
+        self.is_valid() && self.is_nominated() && 0 < attempts::unanswered(&self.binding_attempts)
+    }
+
+    /// Returns the delay after which the response to the last check is late.
+    fn hushed_delay(&self, timing: &StunTiming) -> Duration
+        ensures { result.0 ≡ hushed_delay timing.now self.now }
+    {
+        let round_trip = self.last_successful_rtt().unwrap_or(Duration(0));
+        hushed_interval(timing, attempts::unanswered(&self.binding_attempts)).max(
+            round_trip.saturating_add(LATENESS),
+        )
+    }
+
+    /// Returns the delay after the last check: checks are repeated early, or after the RTO.
+    fn repeated_delay(&self, now: Instant, timing: &StunTiming) -> Duration
+        ensures { result.0 ≡ repeated_delay now.0 timing.now self.now }
+    {
+        if self.is_repeated_early(now, timing) {
+            early_delay(self.silent_count())
+        } else {
+            usual_delay(&self.binding_attempts, now, timing)
+        }
+    }
+
+    /// Returns the delay after the last check with the profile `Modern`: in the silence of a nominated pair it is short.
+    fn modern_delay(&self, now: Instant, timing: &StunTiming) -> Duration
+        ensures { result.0 ≡ modern_delay now.0 timing.now self.now }
+    {
+        let delay = self.repeated_delay(now, timing);
+        if self.is_hushed() {
+            self.hushed_delay(timing).min(delay)
+        } else {
+            delay
+        }
+    }
+
     /// Returns the delay after the last check.
     fn delay(&self, now: Instant, timing: &StunTiming) -> Duration
         ensures { result.0 ≡ delay_of now.0 timing.now self.now }
     {
-        if timing.is_modern() && self.is_repeated_early(now, timing) {
-            early_delay(self.silent_count())
+        if timing.is_modern() {
+            self.modern_delay(now, timing)
         } else {
             usual_delay(&self.binding_attempts, now, timing)
         }
@@ -236,6 +286,17 @@ fn long_before(now: Instant) -> Instant
     ensures { result.0 ≡ long_before now.0 }
 {
     now.checked_sub(HEAD_START).unwrap_or(now)
+}
+
+/// Returns how often a nominated pair is checked at most, by how many of its checks have no response.
+fn hushed_interval(timing: &StunTiming, count: usize) -> Duration
+    ensures { result.0 ≡ hushed_interval timing.now count }
+{
+    if count < timing.max_retransmits() {
+        EARLY_INTERVAL
+    } else {
+        HUSHED_INTERVAL
+    }
 }
 
 /// Returns the RTO after the last check.

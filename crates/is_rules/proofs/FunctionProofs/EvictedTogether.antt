@@ -8,7 +8,8 @@ use Rattle.is_candidate.specs.Candidates.{CandidateRecord}
 use Rattle.is_pair.specs.Pairs.{PairRecord}
 use Rattle.is_pair.specs.Multiset.{is_numbered, rises, without, IsLeastPassing}
 use Rattle.is_pair.specs.Lowest.{is_low}
-use Rattle.is_pair.proofs.EvictedBlock.{at-least, at-most, drops-none, filter-swap, least-or-none, passed, without-both, LeastOrNone}
+use Rattle.is_pair.proofs.EvictedBlock.{at-least, at-most, least-or-none, LeastOrNone}
+use Rattle.is_pair.proofs.ListParts.{drops-none, filter-swap, passed, without-both}
 use Rattle.is_pair.proofs.PairEntries.ChangedEntry.{rises-filter}
 use Rattle.is_rules.specs.Kept.{is_placed}
 use Rattle.is_rules.specs.Kinds.{kind_of, KINDS}

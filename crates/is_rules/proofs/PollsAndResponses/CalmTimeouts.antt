@@ -24,6 +24,7 @@ use Rattle.is_rules.specs.Checking.{all_asked, check_sent, is_selected_number, C
 use Rattle.is_rules.specs.Forming.{sides_of}
 use Rattle.is_rules.specs.Nominating.{followed, is_eligible, is_pressing, nominated_by_self, nominated_emitted, nominates_at_once, numbers, pair_selected}
 use Rattle.is_rules.specs.Nominating.{remains, selection_of, with_selection, IsChosen, NamesTop, Nominates, Selection}
+use Rattle.is_rules.specs.Leaving.{path_left}
 use Rattle.is_rules.specs.Request.{RequestRecord}
 use Rattle.is_rules.specs.Timeouts.{at_request, at_timeout, expired_gone, is_expired, timeout_begun, MaintainsPairs, RemovesExpired, ServesQueued}
 use Rattle.is_rules.specs.TimeoutTimes.{NominationsAreSent}
@@ -299,8 +300,8 @@ module _ {H P : Type 0} where
     pub calm-after : (now : ℕ) (old new : AgentRecord H P) (s t : Stream) (emitted : Emitted) → old.lite ≡ false → is_some old.remote_creds ≡ true
         → MaintainsPairs mac now old s emitted new t → is_pressing new ≡ false
     calm-after now old new s t emitted full known (first, second, issued, named, kept, names, gone, sends, is) =
-        let stays : base kept ≡ base old = removes-base now named kept second gone ∙ nominates-base (at_timeout now old) named first names in
-        let settled = removes-settled now named kept second (nominates-settled (at_timeout now old) named first names) gone in
+        let stays : base kept ≡ base old = removes-base now named kept second gone ∙ nominates-base (path_left now (at_timeout now old)) named first names in
+        let settled = removes-settled now named kept second (nominates-settled (path_left now (at_timeout now old)) named first names) gone in
         checks-calm now kept.remote_creds kept new s t issued (ap (λ (b : Base). b.0) stays ∙ full) (ap (λ (b : Base). is_some b.1) stays ∙ known) settled sends
 
     pub nominations-sent : NominationsAreSent P mac

@@ -21,6 +21,7 @@ use Rattle.is_rules.specs.Forming.{formed, with_pair}
 use Rattle.is_rules.specs.Nominating.{nominated_emitted, with_selection, Nominates, NominatesWhere}
 use Rattle.is_rules.specs.Places.{local_place}
 use Rattle.is_rules.specs.Queue.{request_at}
+use Rattle.is_rules.specs.Leaving.{path_left}
 use Rattle.is_rules.specs.Request.{RequestRecord}
 use Rattle.is_rules.specs.Roles.{conflict_of, switched}
 use Rattle.is_rules.specs.Serving.{is_misled, names_another, pair_served, request_counted, selects_at_requests, with_sender, with_sender_at, Drops}
@@ -112,7 +113,7 @@ module _ {H P : Type 0} where
 
     maintains : (now : ℕ) (old new : AgentRecord H P) (s t : Stream) (emitted : Emitted) → MaintainsPairs mac now old s emitted new t → new.last_time ≡ Some now
     maintains now old new s t emitted (first, second, issued, named, kept, names, gone, sends, is) =
-        let at_first = nominates (at_timeout now old) named first names in
+        let at_first = nominates (path_left now (at_timeout now old)) named first names in
         let at_second = removes now named kept second gone in
         let at_last = checks now kept.remote_creds kept new s t issued sends in
         cc

@@ -41,6 +41,7 @@ use Rattle.is_theorems.proofs.RuleEffects.NominatedPairs.{SelectsPath, selects_p
 use Rattle.is_theorems.proofs.CallEffects.FailedCallsAndNewAgents.{mtu_kept, controlling_kept, local_kept, remote_kept, restart_kept, recreation_kept, enrolment_kept, storing_kept}
 use Rattle.is_theorems.specs.Settings.{SettingsRecord, all_settings_of, SettingsAreSet}
 use Rattle.is_theorems.proofs.RuleEffects.NotedErrors.{recoded, by_failure}
+use Rattle.is_rules.specs.Leaving.{path_left}
 
 module _ {H P : Type 0} where
   abbrev Same : AgentRecord H P → AgentRecord H P → Type 0
@@ -154,7 +155,7 @@ module _ {H P : Type 0} where
 
     pub maintains : (now : ℕ) (old new : AgentRecord H P) (s t : Stream) (emitted : Emitted) → MaintainsPairs mac now old s emitted new t → Same (at_timeout now old) new
     maintains now old new s t emitted (first, second, issued, named, kept, nominating, giving, checking, is) =
-        checks now kept.remote_creds kept new s t issued checking ∙ (gives-up-same now named kept second giving ∙ nominates-same (at_timeout now old) named first nominating)
+        checks now kept.remote_creds kept new s t issued checking ∙ (gives-up-same now named kept second giving ∙ nominates-same (path_left now (at_timeout now old)) named first nominating)
 
     times-out : (now : ℕ) (request : Option RequestRecord) (old new : AgentRecord H P) (s t : Stream) (emitted : Emitted)
         → MatchOption request (MaintainsPairs mac now old s emitted new t) (λ q. ServesQueued mac q (at_request now old) s emitted new t) → Same old new

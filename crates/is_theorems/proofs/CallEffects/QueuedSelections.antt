@@ -2,6 +2,7 @@
 use Rattle.is_stun.specs.declared.header.Class.TheVariants as class
 use Rattle.is_theorems.proofs.CallEffects.AddedCandidates.{by_adding_local, by_adding_remote, by_waking}
 use Rattle.is_theorems.proofs.CallEffects.FailedCallsAndNewAgents.{controlling_kept, enrolment_kept, local_kept, mtu_kept, recreation_kept, remote_kept, restart_kept, storing_kept}
+use Rattle.is_theorems.proofs.RuleEffects.EarlierAndNewPairs.{Has-filter}
 use Rattle.is_theorems.proofs.RuleEffects.UnchangedSettings.{either}
 use Rattle.is_theorems.specs.Reporting.{EventsAreSelected, selecting}
 use Rattle.is_candidate.specs.Candidates.{CandidateRecord, candidate_at}
@@ -20,7 +21,7 @@ use Rattle.is_rules.specs.Places.{local_place}
 use Rattle.is_rules.specs.Polls.{IsPolled}
 use Rattle.is_rules.specs.Queue.{first_taken, request_at}
 use Rattle.is_rules.specs.Request.{RequestRecord, request_in}
-use Rattle.is_rules.specs.Restarting.{cleared, emptied, restarted}
+use Rattle.is_rules.specs.Restarting.{cleared, emptied, events_kept, is_selection, restarted, unpaired}
 use Rattle.is_rules.specs.Roles.{conflict_of, switched}
 use Rattle.is_rules.specs.Serving.{AddsUnknownSender, CountsAndServes, Drops, FindsOrAddsPair, Queues, RecordsAndResponds, ResolvesRoleConflict, ResolvesRoleConflictBy, Serves, is_misled, names_another, pair_served, request_counted, selects_at_requests, trigger_time, with_sender, with_sender_at}
 use Rattle.is_rules.specs.Settings.{with_retransmits}
@@ -41,12 +42,14 @@ use Rattle.is_rules.specs.declared.places.RemotePlace.TheVariants.{Barred, Full,
 use Rattle.is_rules.specs.declared.roles.Conflict.{Conflict}
 use Rattle.is_rules.specs.declared.roles.Conflict.TheVariants.{Absent, Send487, SwitchRole}
 use Rattle.is_stun.specs.Message.{Message}
+use Rattle.is_stun.specs.Timing.{is_modern}
 use Rattle.is_stun.specs.declared.header.Class.{Class}
 use Rattle.rand_core.specs.Stream.{Stream}
 use Rattle.std.proofs.Common.{Bool, Err, List, None, Ok, Option, Some, [], ap, false, if◌then◌else◌, inl, inr, is_some, length, not, refl, subst, sym, true, ℕ, ◌&&◌, ◌++◌, ◌==◌, ◌∙◌, ◌∷◌, ◌≡◌, ◌⊎◌}
 use Rattle.std.specs.List.{list_any}
 use Rattle.std.specs.Prelude.{MatchBool, MatchOption}
 use Rattle.is_theorems.proofs.RuleEffects.NotedErrors.{recoded, by_failure}
+use Rattle.is_rules.specs.Leaving.{path_left}
 
 abbrev pub is_other : IceAgentEvent → Bool
 is_other (NominatedSend proto source destination) = false
@@ -76,6 +79,11 @@ has-last [] e x (inr none) = absurd none
 has-last (y ∷ es) e x (inl is) = inl (inl is)
 has-last (y ∷ es) e x (inr has) = elim (has-last es e x has) [ inl there ↦ inl (inr there) | inr is ↦ inr is ]
 
+-- an event that is kept was there
+kept_had : (modern : Bool) (es : List IceAgentEvent) (e : IceAgentEvent) → Has (events_kept modern es) e → Has es e
+kept_had true es e has = Has-filter (λ (x : IceAgentEvent). not (is_selection x)) es e has
+kept_had false es e has = has
+
 module _ {H P : Type 0} (In : Path → Type 0) where
   abbrev pub Adds : AgentRecord H P → AgentRecord H P → Type 0
   Adds old new = (path : Path) → Has new.events (selecting path) → Has old.events (selecting path) ⊎ In path
@@ -96,6 +104,10 @@ module _ {H P : Type 0} (In : Path → Type 0) where
   other : (b : Bool) (a : AgentRecord H P) (e : IceAgentEvent) → is_other e ≡ true → Adds a (record a { events = if b then a.events else a.events ++ e ∷ [] })
   other true a e is path has = inl has
   other false a e is path has = elim (has-last a.events e (selecting path) has) [ inl there ↦ inl there | inr here ↦ no-such path e is here ]
+
+  -- those that are kept when the pairs are cleared
+  unpaired_adds : (a : AgentRecord H P) → Adds a (unpaired a)
+  unpaired_adds a path has = inl (kept_had (is_modern a.timing) a.events (selecting path) has)
 
   -- ---- states and nomination
 
@@ -156,7 +168,7 @@ module _ {H P : Type 0} (In : Path → Type 0) where
       → ((path : Path) → Has emitted.selected_paths (Some path) → In path) → MaintainsPairs mac now old s emitted new t → Adds old new
   maintains_adds mac now old new s t emitted may (first, second, issued, named, kept_, nominating, giving, checking, is) =
       more old kept_ new
-      (more old named kept_ (nominates_adds (at_timeout now old) named first (λ path o. may path (subst (λ (x : Emitted). Has x.selected_paths (Some path)) (sym is) (first-in first second path o))) nominating)
+      (more old named kept_ (nominates_adds (path_left now (at_timeout now old)) named first (λ path o. may path (subst (λ (x : Emitted). Has x.selected_paths (Some path)) (sym is) (first-in first second path o))) nominating)
       (removes_expired_adds now named kept_ second (λ path o. may path (subst (λ (x : Emitted). Has x.selected_paths (Some path)) (sym is) (second-in first second path o))) giving))
       (check_adds mac now kept_.remote_creds kept_ new s t issued checking)
 
@@ -324,7 +336,7 @@ module _ {H P : Type 0} (In : Path → Type 0) where
         reselected old mid new path e _ emitted reported is may again (kept old mid h.1)
     steps old new s t (RestartIce creds keep) e may (Ok _, reported, h, drawn) = restarts creds keep old new h.1
     steps old new s t (RestartIce creds keep) e may (Err error, reported, h, drawn) = kept old new (restart_kept old new creds keep error h)
-    steps old new s t RecreateCandidatePairs e may (Ok _, reported, (some, h), drawn) = more old (emptied old) new (state_adds Checking (record old { pairs = [] })) (forms_adds (emptied old) new _ h)
+    steps old new s t RecreateCandidatePairs e may (Ok _, reported, (some, h), drawn) = more old (unpaired old) new (unpaired_adds old) (more (unpaired old) (emptied old) new (state_adds Checking (unpaired old)) (forms_adds (emptied old) new _ h))
     steps old new s t RecreateCandidatePairs e may (Err error, reported, h, drawn) = kept old new (recreation_kept old new error h)
     steps old new s t (ReceivePacket now via bytes) e may (h, drawn) = receives now old new via bytes e may h
     steps old new s t (HandleTimeout now) e may (Ok _, emitted, reported, h) = times-out now (request_at now old) old new s t emitted (as-emitted e _ emitted reported may) h

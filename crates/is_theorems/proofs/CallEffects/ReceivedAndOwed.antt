@@ -1,5 +1,5 @@
 -- For each call: what it received was accepted; which early requests are stored; what it owes; what a clear leaves.
-use Rattle.std.proofs.Common.{◌≡◌, ℕ, zero, suc, ◌+◌, ◌-◌, ◌≤◌, Bool, true, false, List, [], ◌∷◌, ◌++◌, drop, length, Option, Some, None, is_some, Ok, Err, inl, inr, ◌⊎◌, refl, ap, sym, ◌∙◌, subst, arith, if◌then◌else◌}
+use Rattle.std.proofs.Common.{◌≡◌, ℕ, zero, suc, ◌+◌, ◌-◌, ◌≤◌, ◌&&◌, Bool, true, false, List, [], ◌∷◌, ◌++◌, drop, length, Option, Some, None, is_some, Ok, Err, inl, inr, ◌⊎◌, refl, ap, sym, ◌∙◌, subst, arith, if◌then◌else◌}
 use Rattle.rand_core.specs.Stream.{Stream}
 use Rattle.is_proto.specs.Lists.{Has, head}
 use Rattle.is_proto.specs.declared.error.IceError.{IceError}
@@ -11,11 +11,12 @@ use Rattle.is_stun.specs.declared.header.Class.TheVariants as class
 use Rattle.is_stun.specs.declared.header.Method.{Method}
 use Rattle.is_stun.specs.declared.header.Method.TheVariants.{Binding}
 use Rattle.is_stun.specs.Message.{Message}
+use Rattle.is_stun.specs.Timing.{is_modern}
 use Rattle.is_rules.specs.declared.credentials.IceCreds.{IceCreds}
 use Rattle.is_rules.specs.declared.emitted.Issued.{Issued}
 use Rattle.is_rules.specs.declared.emitted.Path.{Path}
 use Rattle.is_rules.specs.Request.{RequestRecord, request_in}
-use Rattle.is_rules.specs.Steps.{Answer, Done, Flag, Unparsed, Rejected, Entry, quiet, is_rejection, is_not_accepted}
+use Rattle.is_rules.specs.Steps.{Answer, Done, Flag, Unparsed, Rejected, Entry, quiet, is_done, is_rejection, is_not_accepted}
 use Rattle.is_rules.specs.Emitted.{nothing_emitted}
 use Rattle.is_rules.specs.Agent.{AgentRecord}
 use Rattle.is_rules.specs.Queue.{next_request, queue_left, QUEUE_LIMIT, queued_last, request_at}
@@ -26,7 +27,7 @@ use Rattle.is_rules.specs.Issuing.{WaitsPast, WaitsWith, Waits}
 use Rattle.is_rules.specs.Owed.{Transaction, one_if, count, requested_as, request_of, reply_of, transaction_of, owed}
 use Rattle.is_rules.specs.Effects.{IsNotAccepted, is_clearing, clears}
 use Rattle.std.proofs.lemmas.List.{length-append, length-drop}
-use Rattle.is_rules.specs.Restarting.{Recreates}
+use Rattle.is_rules.specs.Restarting.{early_kept, Recreates}
 use Rattle.is_theorems.proofs.RuleEffects.SelectedPaths.{some_is}
 use Rattle.is_theorems.proofs.CallEffects.SettingsRoleAndQueues.{left_after}
 use Rattle.is_theorems.proofs.RuleEffects.EarlierAndNewPairs.{Has-push}
@@ -92,8 +93,19 @@ module _ {H P : Type 0} (mac : H → List ℕ → List ℕ → List ℕ) (answer
         | inr now ↦ inr (at, by, m, brings, request, sym now)
       ]
 
+  -- those that a restart keeps
+  early_had : (modern : Bool) (qs : List RequestRecord) (q : RequestRecord) → Has (early_kept modern qs) q → Has qs q
+  early_had true qs q has = absurd has
+  early_had false qs q has = has
+
+  early_short : (modern : Bool) (qs : List RequestRecord) → length (early_kept modern qs) ≤ length qs
+  early_short true qs = omega arith
+  early_short false qs = omega arith
+
   pub waits_has : (call : Call P) (q : RequestRecord) → Waits old call e new → Has new.queue q → Has old.queue q ⊎ IsBrought call e q
   waits_has (HandleTimeout now) q h has = inl (past_has (request_at now old) e.answer old.queue new.queue q h has)
+  waits_has (RestartIce creds keep) q h has =
+      inl (early_had (is_done e.answer && is_modern old.timing) old.queue q (subst (λ (qs : List RequestRecord). Has qs q) h has))
   waits_has call q h has = with_has call q h has
 
   -- no more are stored than the limit allows
@@ -114,6 +126,9 @@ module _ {H P : Type 0} (mac : H → List ℕ → List ℕ → List ℕ) (answer
 
   pub waits_short : (call : Call P) → Waits old call e new → length old.queue ≤ QUEUE_LIMIT → length new.queue ≤ QUEUE_LIMIT
   waits_short (HandleTimeout now) h short = past_short (request_at now old) e.answer old.queue new.queue h short
+  waits_short (RestartIce creds keep) h short =
+      let few = early_short (is_done e.answer && is_modern old.timing) old.queue in
+      subst (λ (qs : List RequestRecord). length qs ≤ QUEUE_LIMIT) (sym h) (omega (arith, few, short))
   waits_short call h short = with_short call h short
 
   -- a request that is served arrived now, or was stored
@@ -223,6 +238,17 @@ module _ {H P : Type 0} (mac : H → List ℕ → List ℕ → List ℕ) (answer
     owes (ReceivePacket now path bytes) h posted waits =
         with_owes (ReceivePacket now path bytes) (accepts (ReceivePacket now path bytes) h)
         (λ q (at, by, m, brings, request, known, is). ((at, by, m, brings, request, is), known)) (counted (ReceivePacket now path bytes) posted) waits
+    owes (RestartIce creds keep) h posted waits = restart_owes (counted (RestartIce creds keep) posted) where
+      early_owed : (modern : Bool) → owed test (early_kept modern old.queue) ≤ owed test old.queue
+      early_owed true = omega arith
+      early_owed false = omega arith
+
+      restart_owes : Counted (RestartIce creds keep) → count test (reply_of e.emitted.issued) + owed test new.queue ≤ owed test old.queue + 0
+      restart_owes (inl none) =
+          let left = ap (λ (qs : List RequestRecord). owed test qs) waits in
+          let few = early_owed (is_done e.answer && is_modern old.timing) in
+          omega (arith, none, left, few)
+      restart_owes (inr (q, serving, one)) = absurd serving.3
     owes call h posted waits = with_owes call (accepts call h) (λ q serving. absurd serving.3) (counted call posted) waits
 
   -- ---- clears

@@ -50,6 +50,7 @@ use Rattle.is_theorems.proofs.CallEffects.AddedCandidates.{by_adding_local, by_a
 use Rattle.is_pair.specs.Due.{asked}
 use Rattle.std.specs.Prelude.{map}
 use Rattle.is_stun.specs.Timing.{is_modern}
+use Rattle.is_rules.specs.Leaving.{path_left}
 
 choose : (b : Bool) {X R : Type 0} (P : X → Type 0) (x y : X) → P (if b then x else y) → (P x → R) → (P y → R) → R
 choose true P x y h f g = f h
@@ -248,7 +249,7 @@ module _ {H P : Type 0} where
 
     pub maintains_pairs : (now : ℕ) (old new : AgentRecord H P) (s t : Stream) (emitted : Emitted) → MaintainsPairs mac now old s emitted new t → Stays old emitted new
     maintains_pairs now old new s t emitted (first, second, issued, named, kept, nominates, gives, check, is) =
-        let a = nominates_frame (at_timeout now old) named first nominates in
+        let a = nominates_frame (path_left now (at_timeout now old)) named first nominates in
         let b = removes_expired now named kept second gives in
         let c = checks now kept.remote_creds kept new s t issued check in (
           c.0 ∙ (b.0 ∙ a.0),
@@ -606,9 +607,9 @@ module _ {H P : Type 0} where
         (same-either (is_done answer) old.local_creds) (same-either (is_done answer) old.remote_creds)
         (λ k. k) (λ k. inl k) (λ q h. absurd h.3) (λ at by m h. absurd h)) h
     framed (RestartIce creds keep) h = done_or (Restarts old creds keep) (RestartIce creds keep)
-        (λ k. moved old new (restarted creds keep old) _ _ _ refl k.1 (plain old (restarted creds keep old) _ _ refl refl refl refl refl refl (refl, refl) (inl refl) (inl refl) (λ q h. absurd h.3) (λ at by m h. absurd h)))
+        (λ k. moved old new (restarted creds keep old) _ _ _ refl k.1 (plain old (restarted creds keep old) _ _ refl refl refl refl refl refl (refl, refl) refl (inl refl) (λ q h. absurd h.3) (λ at by m h. absurd h)))
         (λ error k. restart_kept old new creds keep error k)
-        (λ error. plain old old _ _ refl refl refl refl refl refl (refl, refl) (inl refl) (inl refl) (λ q h. absurd h.3) (λ at by m h. absurd h)) h
+        (λ error. plain old old _ _ refl refl refl refl refl refl (refl, refl) refl (inl refl) (λ q h. absurd h.3) (λ at by m h. absurd h)) h
     framed RecreateCandidatePairs h = done_or (Recreates old) RecreateCandidatePairs
         (λ k. recreated k)
         (λ error k. recreation_kept old new error k)

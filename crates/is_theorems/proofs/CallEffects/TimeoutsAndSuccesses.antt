@@ -29,11 +29,12 @@ use Rattle.is_theorems.proofs.RuleEffects.UnchangedSettings.{Frame, frame_of, pa
 use Rattle.is_theorems.proofs.CallEffects.UnchangedTimingAndBases.{Rest, nominates_rest, removes_expired_rest}
 use Rattle.is_theorems.proofs.RuleEffects.SelectedPaths.{Returns, returns_one, returns_two, returns_after, returns_before}
 use Rattle.is_theorems.proofs.RuleEffects.EarlierAndNewPairs.{Parts, Fit, Onward, onward}
-use Rattle.is_theorems.proofs.RuleEffects.ChangedPairs.{Has-map, parts_of, nominates, removes_expired_moves}
+use Rattle.is_theorems.proofs.RuleEffects.ChangedPairs.{Has-map, parts_of, nominates, removes_expired_moves, names_moves}
 use Rattle.is_theorems.proofs.CallEffects.ChecksAndResponses.{records, check_moves}
 use Rattle.is_theorems.proofs.BasicLemmas.EqualAddresses.{both}
 use Rattle.is_theorems.proofs.BasicLemmas.CandidatesByIndex.{is-listed}
 use Rattle.is_theorems.proofs.BasicLemmas.PairsInTurn.{next-has}
+use Rattle.is_rules.specs.Leaving.{path_left}
 
 pub none_some : (p : Path) → None ≡ Some p → ⊥
 none_some p h = cc
@@ -125,8 +126,8 @@ module _ (asks : Path → ℕ → Type 0) (met : Path → Type 0) (sent : Path �
       → Fit (parts_of asks met sent old) → MaintainsPairs mac now old s emitted new t
       → Goes old new × Telling old emitted new × CheckOut mac (frame_of old) old.local old.packets emitted.issued new.packets
   maintains_pairs mac now old new s t emitted free sends fit (first, second, issued, named, kept, nominating, giving, checking, is) =
-      let a = nominates asks met sent (at_timeout now old) named first free fit nominating in
-      let f = nominates_frame (at_timeout now old) named first nominating in
+      let a = names_moves asks met sent now (at_timeout now old) named first free fit nominating in
+      let f = nominates_frame (path_left now (at_timeout now old)) named first nominating in
       let same_role : named.controlling ≡ old.controlling = ap (λ (x : Frame H). x.controlling) f.0 in
       let same_lite : named.lite ≡ old.lite = ap (λ (x : Frame H). x.lite) f.0 in
       let b = removes_expired_moves asks met sent now named kept second
@@ -150,7 +151,7 @@ module _ (asks : Path → ℕ → Type 0) (met : Path → Type 0) (sent : Path �
         subst (λ i. CheckOut mac (frame_of old) old.local old.packets i new.packets) (sym (ap (λ (x : Emitted). x.issued) is))
             (subst (λ (f : Frame H). CheckOut mac f old.local old.packets issued new.packets) (g.0 ∙ f.0)
             (subst (λ cs. CheckOut mac (frame_of kept) cs old.packets issued new.packets)
-            (ap (λ (x : Rest). x.local) (removes_expired_rest now named kept second giving ∙ nominates_rest (at_timeout now old) named first nominating))
+            (ap (λ (x : Rest). x.local) (removes_expired_rest now named kept second giving ∙ nominates_rest (path_left now (at_timeout now old)) named first nominating))
             (subst (λ (ps : List Packet). CheckOut mac (frame_of kept) kept.local ps issued new.packets) (g.1 ∙ f.1)
             (check_out mac now kept.remote_creds kept new s t issued refl b.0.fit checking)))),
       )

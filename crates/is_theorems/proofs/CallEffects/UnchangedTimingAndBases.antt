@@ -27,6 +27,7 @@ use Rattle.is_rules.specs.Settling.{Reselects}
 use Rattle.is_rules.specs.Checking.{all_asked, ChecksTop, MayCheck}
 use Rattle.is_rules.specs.Timeouts.{is_expired, expired_gone, RemovesExpired, at_timeout, MaintainsPairs}
 use Rattle.is_theorems.proofs.RuleEffects.UnchangedSettings.{either}
+use Rattle.is_rules.specs.Leaving.{path_left}
 
 pub record Rest : Type 0 where
   pub local : List CandidateRecord
@@ -74,7 +75,7 @@ module _ {H P : Type 0} where
   pub maintains_pairs_rest : (mac : H → List ℕ → List ℕ → List ℕ) (now : ℕ) (old new : AgentRecord H P) (s t : Stream) (emitted : Emitted) → MaintainsPairs mac now old s emitted new t → Rests old new
   maintains_pairs_rest mac now old new s t emitted (first, second, issued, named, kept, nominating, giving, checking, is) =
       check_rest mac now kept.remote_creds kept new s t issued checking
-      ∙ (removes_expired_rest now named kept second giving ∙ nominates_rest (at_timeout now old) named first nominating)
+      ∙ (removes_expired_rest now named kept second giving ∙ nominates_rest (path_left now (at_timeout now old)) named first nominating)
 
   module _ (mac : H → List ℕ → List ℕ → List ℕ) (q : RequestRecord) where
     pair : (l r number : ℕ) (s new : AgentRecord H P) (emitted : Emitted) → RecordsAndResponds mac q l r number s emitted new → Rests s new

@@ -162,8 +162,8 @@ module _ (t : StunTiming) (most : ℕ) where
           unanswered = clean.unanswered;
           started = clean.started;
         };
-        unrequested = λ none. asked-run t most 0 by now now p passes clean (k.unrequested none);
-        followed = λ w is same. (let f = k.followed w is same in record { more = f.more; keeps = λ still. asked-run t most w.count by now now p passes clean (f.keeps still) });
+        unrequested = λ none. asked-run t most 0 by now now p passes invalid clean (k.unrequested none);
+        followed = λ w is same. (let f = k.followed w is same in record { more = f.more; keeps = λ still. asked-run t most w.count by now now p passes invalid clean (f.keeps still) });
       }
 
   -- a check of a pair that is due and possible leaves it on schedule
@@ -172,10 +172,10 @@ module _ (t : StunTiming) (most : ℕ) where
   checked-on ends limit o fits now c id p goes_on on is_due possible invalid =
       let k = on (sent-valid p.state invalid) in record {
         past = sent-past t most ends limit now c id p k.past;
-        unrequested = λ none. sent-keeps t most ends limit now c id p 0 now (omega arith) goes_on k.past (inl none) is_due possible (k.unrequested none);
+        unrequested = λ none. sent-keeps t most ends limit now c id p 0 now (omega arith) goes_on (sent-valid p.state invalid) k.past (inl none) is_due possible (k.unrequested none);
         followed = λ w is same. (let f = k.followed w is same in record {
           more = f.more;
-          keeps = λ still. sent-keeps t most ends limit now c id p w.count now (omega arith) goes_on k.past
+          keeps = λ still. sent-keeps t most ends limit now c id p w.count now (omega arith) goes_on (sent-valid p.state invalid) k.past
               (elim (fits w is) [ inl none ↦ inl (still ∙ none) | inr long ↦ inr long ]) is_due possible (f.keeps still);
         });
       }
@@ -193,8 +193,8 @@ module _ (t : StunTiming) (most : ℕ) where
           unanswered = k.past.unanswered;
           started = k.past.started;
         };
-        unrequested = λ none. asked-run t most 0 by by clock p (omega arith) k.past (k.unrequested none);
-        followed = λ w is same. (let f = k.followed w is same in record { more = f.more; keeps = λ still. asked-run t most w.count by by clock p (omega arith) k.past (f.keeps still) });
+        unrequested = λ none. asked-run t most 0 by by clock p (omega arith) invalid k.past (k.unrequested none);
+        followed = λ w is same. (let f = k.followed w is same in record { more = f.more; keeps = λ still. asked-run t most w.count by by clock p (omega arith) invalid k.past (f.keeps still) });
       }
 
   -- ---- a pair that is followed from here on

@@ -7,8 +7,8 @@ use Rattle.is_proto.specs.Times.{MAX, SECOND, later}
 use Rattle.is_stun.specs.declared.timing.StunTiming.{StunTiming}
 use Rattle.is_stun.specs.Timing.{early_delay, is_modern, last_resend_delay, resend_delay, timeout_of}
 use Rattle.is_pair.specs.Checks.{Check, last_check, unanswered_count}
-use Rattle.is_pair.specs.Due.{asked, computed_due_time, delay_of, due_time_of, early_time, is_due, is_early_on, is_early_silence, is_heard, is_in_time, is_possible, is_repeated_early, is_silent, is_within, is_within_series, is_young, silent_count, usual_delay}
-use Rattle.is_pair.specs.Pairs.{PairRecord, check_of, checked, is_recent, new_pair}
+use Rattle.is_pair.specs.Due.{asked, computed_due_time, delay_of, due_time_of, early_time, is_due, is_early_on, is_early_silence, is_heard, is_in_time, is_possible, is_repeated_early, is_silent, is_within, is_within_series, is_young, silent_count, usual_delay, hushed_delay, is_hushed, repeated_delay}
+use Rattle.is_pair.specs.Pairs.{PairRecord, check_of, checked, is_recent, new_pair, is_nominated, is_valid}
 use Rattle.is_pair.specs.States.{is_nominating, nomination_once_sent}
 use Rattle.is_rules.specs.Sound.{is_started_state}
 use Rattle.is_theorems.specs.SilentPairs.{EndsWith, IsPastRequests, check_time, least_delay, rto_after}
@@ -115,7 +115,7 @@ module _ (t : StunTiming) (most : ℕ) where
 
   -- ---- when it is due
 
-  module _ (base by now clock : ℕ) (p : PairRecord) (clean : IsPast clock p) (h : HasRun base by p) (passes : by ≤ now) where
+  module _ (base by now clock : ℕ) (p : PairRecord) (clean : IsPast clock p) (h : HasRun base by p) (passes : by ≤ now) (invalid : is_valid p ≡ false) where
     abbrev gap : ℕ
     gap = h.last.sent - h.start
 
@@ -160,8 +160,18 @@ module _ (t : StunTiming) (most : ℕ) where
       sooner : (start sent e s : ℕ) → sent ≤ by → later start s ≤ sent → now < later start e → sent - start < e
       sooner start sent e s past late lt = omega (arith, past, late, lt, passes)
 
+    -- without a response it is not checked in its silence
+    unhushed : is_hushed p ≡ false
+    unhushed = unless (is_valid p) invalid where
+      unless : (v : Bool) → v ≡ false → (v && is_nominated p && nat_lt 0 (unanswered_count p.checks)) ≡ false
+      unless true off = no-case (sym off)
+      unless false off = refl
+
+    delay-is : delay_of now t p ≡ (if is_modern t then repeated_delay now t p else usual_delay now t p.checks)
+    delay-is = ap (λ b. if is_modern t then (if b then min (hushed_delay t p) (repeated_delay now t p) else repeated_delay now t p) else usual_delay now t p.checks) unhushed
+
     delay-least : least_delay t gap h.count ≤ delay_of now t p
-    delay-least = repeated (is_modern t) (is_repeated_early now t p) refl refl where
+    delay-least = subst (λ n. least_delay t gap h.count ≤ n) (sym delay-is) (repeated (is_modern t) (is_repeated_early now t p) refl refl) where
       rto : ℕ
       rto = rto_after t h.count
 
@@ -176,7 +186,7 @@ module _ (t : StunTiming) (most : ℕ) where
       shorter true false one two = no-case two
       shorter false c one two = no-case one
 
-      repeated : (m r : Bool) → is_modern t ≡ m → is_repeated_early now t p ≡ r → least_delay t gap h.count ≤ (if m && r then early_delay (silent_count p) else usual_delay now t p.checks)
+      repeated : (m r : Bool) → is_modern t ≡ m → is_repeated_early now t p ≡ r → least_delay t gap h.count ≤ (if m then (if r then early_delay (silent_count p) else usual_delay now t p.checks) else usual_delay now t p.checks)
       repeated false r modern is = usual
       repeated true false modern is = usual
       repeated true true modern is =
@@ -204,10 +214,10 @@ module _ (t : StunTiming) (most : ℕ) where
           (least-within t gap h.count) (rto-within t h.count) h.past
 
   -- fixing the due time leaves it on schedule
-  pub asked-run : (base by now clock : ℕ) (p : PairRecord) → by ≤ now → IsPast clock p → Keeps base by p → Keeps base now (asked now t p)
-  asked-run base by now clock p passes clean (inl same) = inl same
-  asked-run base by now clock p passes clean (inr h) = inr (run-as base by now p (Some (due_time_of now t p)) p.last_error p.priority passes h
-      (λ k is. (let least = due-least base by now clock p clean h passes in let same : due_time_of now t p ≡ k = some-is (due_time_of now t p) k is in omega (arith, least, same))))
+  pub asked-run : (base by now clock : ℕ) (p : PairRecord) → by ≤ now → is_valid p ≡ false → IsPast clock p → Keeps base by p → Keeps base now (asked now t p)
+  asked-run base by now clock p passes invalid clean (inl same) = inl same
+  asked-run base by now clock p passes invalid clean (inr h) = inr (run-as base by now p (Some (due_time_of now t p)) p.last_error p.priority passes h
+      (λ k is. (let least = due-least base by now clock p clean h passes invalid in let same : due_time_of now t p ≡ k = some-is (due_time_of now t p) k is in omega (arith, least, same))))
 
   -- ---- when it ends
 
@@ -222,7 +232,7 @@ module _ (t : StunTiming) (most : ℕ) where
   ends-by false w false false true c one two three early late is = no-case (sym three)
   ends-by false w false false false c one two three early late is = late is
 
-  module _ (ends : EndsWith t most) (base by now : ℕ) (p : PairRecord) (clean : IsPast now p) (h : HasRun base by p) (passes : by ≤ now) (goes_on : now < MAX)
+  module _ (ends : EndsWith t most) (base by now : ℕ) (p : PairRecord) (clean : IsPast now p) (h : HasRun base by p) (passes : by ≤ now) (invalid : is_valid p ≡ false) (goes_on : now < MAX)
       (kept : (p.requests ≡ 0) ⊎ IsPastRequests t most) (all : most ≤ h.count) (due : later h.last.sent (least_delay t (h.last.sent - h.start) h.count) ≤ now) where
     same : h.count ≡ most
     same = let few = h.few in omega (arith, few, all)
@@ -262,7 +272,7 @@ module _ (t : StunTiming) (most : ℕ) where
     many = let enough = h.enough in let is = full in not-lt (length p.checks) t.max_retransmits (omega (arith, enough, is))
 
     many-free : nat_lt (unanswered_count p.checks) t.max_retransmits ≡ false
-    many-free = let enough = counted-enough base by now now p clean h passes in let is = full in not-lt (unanswered_count p.checks) t.max_retransmits (omega (arith, enough, is))
+    many-free = let enough = counted-enough base by now now p clean h passes invalid in let is = full in not-lt (unanswered_count p.checks) t.max_retransmits (omega (arith, enough, is))
 
     -- and so is that of a response to the last one
     response-over : is_in_time now t p.checks ≡ true → ⊥
@@ -365,18 +375,18 @@ module _ (t : StunTiming) (most : ℕ) where
       planned = λ due is. none-some due is;
     }
 
-    pub sent-keeps : (base by : ℕ) → by ≤ now → now < MAX → IsPast now p → ((p.requests ≡ 0) ⊎ IsPastRequests t most) → due_time_of now t p ≤ now → is_possible now t p ≡ true
+    pub sent-keeps : (base by : ℕ) → by ≤ now → now < MAX → is_valid p ≡ false → IsPast now p → ((p.requests ≡ 0) ⊎ IsPastRequests t most) → due_time_of now t p ≤ now → is_possible now t p ≡ true
         → Keeps base by p → Keeps base now sent
-    sent-keeps base by passes goes_on clean kept is_due possible (inl same) =
+    sent-keeps base by passes goes_on invalid clean kept is_due possible (inl same) =
         let start = time-first t in let few = ends.counted in
         inr (run-sent base now 0 (unwrap_or p.first_sent now) refl (first-upto clean) (again-first clean) clean.heard (omega (arith, few, limit)) (omega (arith, same)) (omega arith)
         (omega (arith, start)) (omega arith))
-    sent-keeps base by passes goes_on clean kept is_due possible (inr h) =
-        let least = due-least base by now now p clean h passes in
+    sent-keeps base by passes goes_on invalid clean kept is_due possible (inr h) =
+        let least = due-least base by now now p clean h passes invalid in
         let due : later h.last.sent (least_delay t (h.last.sent - h.start) h.count) ≤ now = omega (arith, least, is_due) in
         let next = later-next t h.count h.start h.last.sent now h.some h.late due in
         inr (run-sent base h.start h.count h.first (ap (λ o. unwrap_or o now) h.began) h.before (again-sent h.start h.again) h.heard
         (elim (cases_lt h.count most) [
           | inl fewer ↦ omega (arith, fewer)
-          | inr all ↦ absurd (over ends base by now p clean h passes goes_on kept all due possible)
+          | inr all ↦ absurd (over ends base by now p clean h passes invalid goes_on kept all due possible)
         ]) h.sent h.least next h.enough)

@@ -12,7 +12,7 @@ use Rattle.is_rules.specs.Polls.{LEAST_TA, early_advance, is_early, is_idle, pac
 use Rattle.is_rules.specs.Steps.{Answer, Call, HandleTimeout, NextTimeout, PollTimeout, Entry, Step}
 use Rattle.is_rules.specs.TimeoutTimes.{soonest}
 use Rattle.is_rules.proofs.PollsAndResponses.NextTimeout.{paced, paced-from}
-use Rattle.is_theorems.specs.CheckRate.{begun_in, check_count, checks_in_span, is_before, is_in_span, lets_call, sends_check, ChecksArePaced, IsLateAt, IsPacedAt, IsPatient, IsSlowAt, MayCallAt, SecondsHaveFewChecks, TimeoutsCheck}
+use Rattle.is_theorems.specs.CheckRate.{begun_in, check_count, checks_in_span, is_before, is_in_span, lets_call, sends_check, ChecksArePaced, IsLateAt, IsPacedAt, IsPatient, HasCalled, IsSlowAt, MayCallAt, SecondsHaveFewChecks, TimeoutsCheck}
 use Rattle.is_theorems.specs.Logs.{Logged}
 use Rattle.is_theorems.specs.NotStarved.{is_timeout, timeout_count}
 use Rattle.is_theorems.specs.Shared.{BeforeEach, IsNewlyCreated, SharedRun}
@@ -103,121 +103,153 @@ module _ {H P : Type 0} where
 
     -- ---- a patient caller
 
-    module _ (from pace : ℕ) where
-      -- the next call comes an interval after the last one
-      abbrev Waits : AgentRecord H P → List (Logged P) → Type 0
-      Waits a log = (now : ℕ) → MayCallAt pace now log → (at : ℕ) → a.last_time ≡ Some at → from ≤ at → later at pace ≤ now
+    -- the time of the last call is that of a call of the log
+    has_called : (from : ℕ) (first last : AgentRecord H P) (log : List (Logged P)) → IsNewlyCreated first → SharedRun mac answers first log last
+        → (at : ℕ) → last.last_time ≡ Some at → from ≤ at → HasCalled from log
+    has_called from first last [] (creds, tie, role, is) run at last_is le =
+        none-some at (sym (ap (λ (a : AgentRecord H P). a.last_time) (run ∙ is)) ∙ last_is)
+    has_called from first last (x ∷ before) new (mid, s, t, run, based, step) at last_is le =
+        by x.call refl (λ same. has_called from first mid before new run at (sym same ∙ last_is) le) where
+          by : (call : Call P) → x.call ≡ call → (last.last_time ≡ mid.last_time → HasCalled from before) → HasCalled from (x ∷ before)
+          by (HandleTimeout now) is so_far =
+              elim (timeout-timed mac answers now mid last s t x.entry (subst (λ (c : Call P). Step mac answers mid s c x.entry last t) is step)) [
+                | inl now_is ↦ let same : now ≡ at = some-is now at (sym now_is ∙ last_is) in inl (now, is, omega (arith, same, le))
+                | inr stays ↦ inr (so_far stays.1)
+              ]
+          by call is so_far = inr (so_far (last-stays mac answers x.call mid last s t x.entry (ap (λ (c : Call P). is_timeout c) is) step))
+
+    module _ (from long pace : ℕ) (ends : from + long ≤ MAX) where
+      -- up to the end of the span the next call comes an interval after the last one
+      abbrev Waits : AgentRecord H P → ℕ → Type 0
+      Waits a now = (at : ℕ) → a.last_time ≡ Some at → from ≤ at → later at pace ≤ now
 
       polled : (old new : AgentRecord H P) (s t : Stream) (e : Entry) (now : ℕ) → Step mac answers old s PollTimeout e new t → lets_call {P = P} now PollTimeout e.answer ≡ true
-          → (at : ℕ) → old.last_time ≡ Some at → pace ≤ min (3 * SECOND) (pacing_of at old) → later at pace ≤ now
-      polled old new s t e now (None, is, h, drawn) lets at last slow = absurd (subst (λ o. NextTimeoutFrom o old None new) last h)
-      polled old new s t e now (Some deadline, is, h, drawn) lets at last slow =
+          → (at gap : ℕ) → old.last_time ≡ Some at → gap ≤ min (3 * SECOND) (pacing_of at old) → later at gap ≤ now
+      polled old new s t e now (None, is, h, drawn) lets at gap last slow = absurd (subst (λ o. NextTimeoutFrom o old None new) last h)
+      polled old new s t e now (Some deadline, is, h, drawn) lets at gap last slow =
           let comes_by = comes now (Some deadline) (search (ap (λ (x : Entry). lets_call {P = P} now PollTimeout x.answer) (sym is) ∙ lets)) deadline refl in
           let least = paced old new at deadline (paced-from old new at (Some deadline) last h) in
-          let soon = soonest-least pace at old slow in
+          let soon = soonest-least gap at old slow in
           omega (arith, comes_by, least, soon)
 
+      -- `poll_timeout` returns no time before that of the last call, so after the span no time in it
+      polled_in : (old new : AgentRecord H P) (s t : Stream) (x : Logged P) (now : ℕ) → now < from + long → x.call ≡ PollTimeout → Step mac answers old s PollTimeout x.entry new t
+          → lets_call {P = P} now PollTimeout x.entry.answer ≡ true → (at : ℕ) → old.last_time ≡ Some at → from ≤ at → IsPacedAt from long pace old x → later at pace ≤ now
+      polled_in old new s t x now inside call_is step lets at last le slow = by (nat_lt at (from + long)) refl where
+        by : (b : Bool) → nat_lt at (from + long) ≡ b → later at pace ≤ now
+        by true lt = polled old new s t x.entry now step lets at pace last (slow call_is at last le (grind (arith, nat_tests, lt)))
+        by false ge =
+            let past : from + long ≤ at = grind (arith, nat_tests, ge) in
+            let no_sooner : later at 0 ≤ now = polled old new s t x.entry now step lets at 0 last (omega arith) in
+            omega (arith, past, no_sooner, inside, ends)
+
       -- so does the call before, since it was patient, too
-      past : (old new : AgentRecord H P) (e : Entry) (now at : ℕ) → IsTimedAt mac answers now e old new → ((at : ℕ) → old.last_time ≡ Some at → from ≤ at → later at pace ≤ now)
-          → new.last_time ≡ Some at → from ≤ at → min at MAX ≤ now
+      past : (old new : AgentRecord H P) (e : Entry) (now at : ℕ) → IsTimedAt mac answers now e old new → Waits old now → new.last_time ≡ Some at → from ≤ at → min at MAX ≤ now
       past old new e now at (inl last) wait last_is le = let same : now ≡ at = some-is now at (sym last ∙ last_is) in omega (arith, same)
       past old new e now at (inr (none, stays)) wait last_is le = let later_is = wait at (sym stays ∙ last_is) le in omega (arith, later_is)
 
       waits : (first last : AgentRecord H P) (log : List (Logged P)) → IsNewlyCreated first → (run : SharedRun mac answers first log last)
-          → IsPatient pace log → BeforeEach mac answers (IsPacedAt from pace) first log last run → Waits last log
-      waits first last [] (creds, tie, role, is) run patient slow now may at last_is le =
+          → IsPatient from long pace log → BeforeEach mac answers (IsPacedAt from long pace) first log last run → (now : ℕ) → now < from + long → MayCallAt pace now log → Waits last now
+      waits first last [] (creds, tie, role, is) run patient slow now inside may at last_is le =
           none-some at (sym (ap (λ (a : AgentRecord H P). a.last_time) (run ∙ is)) ∙ last_is)
-      waits first last (x ∷ before) new (mid, s, t, run, based, step) (patient, rest) (here, earlier) now (inl lets) at last_is le =
+      waits first last (x ∷ before) new (mid, s, t, run, based, step) (patient, rest) (here, earlier) now inside (inl lets) at last_is le =
           let call_is : x.call ≡ PollTimeout = polls now x.call x.entry.answer lets in
           let asking = subst (λ (c : Call P). Step mac answers mid s c x.entry last t) call_is step in
           let was : mid.last_time ≡ Some at = sym (last-stays mac answers PollTimeout mid last s t x.entry refl asking) ∙ last_is in
-          polled mid last s t x.entry now asking (subst (λ (c : Call P). lets_call now c x.entry.answer ≡ true) call_is lets) at was (let slow = here call_is at was le in omega (arith, slow))
-      waits first last (x ∷ before) new (mid, s, t, run, based, step) (patient, rest) (here, earlier) now (inr (inl passed)) at last_is le =
+          polled_in mid last s t x now inside call_is asking (subst (λ (c : Call P). lets_call now c x.entry.answer ≡ true) call_is lets) at was le here
+      waits first last (x ∷ before) new (mid, s, t, run, based, step) (patient, rest) (here, earlier) now inside (inr (inl passed)) at last_is le =
           let b = befores pace now x.call passed in
-          let reached = past mid last x.entry b.0 at (timeout-timed mac answers b.0 mid last s t x.entry (subst (λ (c : Call P). Step mac answers mid s c x.entry last t) b.1 step))
-          (waits first mid before new run rest earlier b.0 (patient b.0 b.1)) last_is le in
           let gone = b.2 in
+          let sooner : b.0 < from + long = omega (arith, gone, inside) in
+          let reached = past mid last x.entry b.0 at (timeout-timed mac answers b.0 mid last s t x.entry (subst (λ (c : Call P). Step mac answers mid s c x.entry last t) b.1 step))
+          (λ was was_is since. waits first mid before new run rest earlier b.0 sooner (patient b.0 b.1 sooner (has_called from first mid before new run was was_is since)) was was_is since)
+          last_is le in
           omega (arith, reached, gone)
-      waits first last (x ∷ before) new (mid, s, t, run, based, step) (patient, rest) (here, earlier) now (inr (inr (other, may))) at last_is le =
-          waits first mid before new run rest earlier now may at (sym (last-stays mac answers x.call mid last s t x.entry (search other) step) ∙ last_is) le
+      waits first last (x ∷ before) new (mid, s, t, run, based, step) (patient, rest) (here, earlier) now inside (inr (inr (other, may))) at last_is le =
+          waits first mid before new run rest earlier now inside may at (sym (last-stays mac answers x.call mid last s t x.entry (search other) step) ∙ last_is) le
 
-      module _ (long : ℕ) (ends : from + long ≤ MAX) where
-        -- so many checks were sent in the span, and the last one an interval after each other one
-        record Counted (a : AgentRecord H P) (n : ℕ) : Type 0 where
-          sent : ℕ
-          at : ℕ
-          last : a.last_time ≡ Some at
-          begins : from ≤ sent
-          inside : sent < from + long
-          before : sent ≤ at
-          apart : n * pace + from ≤ sent + pace
+      -- so many checks were sent in the span, and the last one an interval after each other one
+      record Counted (a : AgentRecord H P) (n : ℕ) : Type 0 where
+        sent : ℕ
+        at : ℕ
+        last : a.last_time ≡ Some at
+        begins : from ≤ sent
+        inside : sent < from + long
+        before : sent ≤ at
+        apart : n * pace + from ≤ sent + pace
 
-        abbrev Holds : AgentRecord H P → ℕ → Type 0
-        Holds a n = (n ≡ 0) ⊎ Counted a n
+      abbrev Holds : AgentRecord H P → ℕ → Type 0
+      Holds a n = (n ≡ 0) ⊎ Counted a n
 
-        carried : (old new : AgentRecord H P) (n : ℕ) → new.last_time ≡ old.last_time → Holds old n → Holds new n
-        carried old new n same (inl none) = inl none
-        carried old new n same (inr c) = inr (record { sent = c.sent; at = c.at; last = same ∙ c.last; begins = c.begins; inside = c.inside; before = c.before; apart = c.apart })
+      carried : (old new : AgentRecord H P) (n : ℕ) → new.last_time ≡ old.last_time → Holds old n → Holds new n
+      carried old new n same (inl none) = inl none
+      carried old new n same (inr c) = inr (record { sent = c.sent; at = c.at; last = same ∙ c.last; begins = c.begins; inside = c.inside; before = c.before; apart = c.apart })
 
-        -- a call at this time, and whether it sends a check in the span
-        called : (old new : AgentRecord H P) (n now : ℕ) (b : Bool) → new.last_time ≡ Some now → (b ≡ true → (from ≤ now) × (now < from + long))
-            → ((at : ℕ) → old.last_time ≡ Some at → from ≤ at → later at pace ≤ now) → Holds old n → Holds new (cond b 1 0 + n)
-        called old new n now true last inside wait (inl none) =
-            let k = inside refl in let le = k.0 in
-            let one = more n pace in
-            let zero_is : n * pace ≡ 0 = ap (λ i. i * pace) none ∙ zero-mul pace in
-            inr (record { sent = now; at = now; last = last; begins = k.0; inside = k.1; before = omega arith; apart = omega (arith, one, zero_is, le) })
-        called old new n now false last inside wait (inl none) = inl (omega (arith, none))
-        called old new n now true last inside wait (inr c) =
-            let k = inside refl in let low = k.0 in let high = k.1 in
-            let begins = c.begins in let before = c.before in let apart = c.apart in
-            let later_is = wait c.at c.last (omega (arith, begins, before)) in
-            let one = more n pace in
-            inr (record { sent = now; at = now; last = last; begins = k.0; inside = k.1; before = omega arith; apart = omega (arith, one, later_is, high, ends, before, apart) })
-        called old new n now false last inside wait (inr c) =
-            let begins = c.begins in let before = c.before in let inside_it = c.inside in
-            let later_is = wait c.at c.last (omega (arith, begins, before)) in
-            let apart = c.apart in let same = zero-add n in
-            inr (record { sent = c.sent; at = now; last = last; begins = c.begins; inside = c.inside; before = omega (arith, later_is, ends, before, inside_it); apart = subst (λ k. k * pace + from ≤ c.sent + pace) (sym same) apart })
+      -- a call at this time, and whether it sends a check in the span
+      called : (old new : AgentRecord H P) (n now : ℕ) (b : Bool) → new.last_time ≡ Some now → (b ≡ true → (from ≤ now) × (now < from + long))
+          → (now < from + long → Waits old now) → Holds old n → Holds new (cond b 1 0 + n)
+      called old new n now true last inside wait (inl none) =
+          let k = inside refl in let le = k.0 in
+          let one = more n pace in
+          let zero_is : n * pace ≡ 0 = ap (λ i. i * pace) none ∙ zero-mul pace in
+          inr (record { sent = now; at = now; last = last; begins = k.0; inside = k.1; before = omega arith; apart = omega (arith, one, zero_is, le) })
+      called old new n now false last inside wait (inl none) = inl (omega (arith, none))
+      called old new n now true last inside wait (inr c) =
+          let k = inside refl in let low = k.0 in let high = k.1 in
+          let begins = c.begins in let before = c.before in let apart = c.apart in
+          let later_is = wait high c.at c.last (omega (arith, begins, before)) in
+          let one = more n pace in
+          inr (record { sent = now; at = now; last = last; begins = k.0; inside = k.1; before = omega arith; apart = omega (arith, one, later_is, high, ends, before, apart) })
+      called old new n now false last inside wait (inr c) =
+          let apart = c.apart in let same = zero-add n in
+          inr (record { sent = c.sent; at = now; last = last; begins = c.begins; inside = c.inside; before = follows (nat_lt now (from + long)) refl; apart = subst (λ k. k * pace + from ≤ c.sent + pace) (sym same) apart }) where
+            follows : (b : Bool) → nat_lt now (from + long) ≡ b → c.sent ≤ now
+            follows true lt =
+                let begins = c.begins in let before = c.before in let sent_in = c.inside in
+                let high : now < from + long = grind (arith, nat_tests, lt) in
+                let later_is = wait high c.at c.last (omega (arith, begins, before)) in
+                omega (arith, later_is, ends, before, sent_in)
+            follows false ge = let sent_in = c.inside in let past : from + long ≤ now = grind (arith, nat_tests, ge) in omega (arith, sent_in, past)
 
-        timed : (old new : AgentRecord H P) (x : Logged P) (n now : ℕ) → x.call ≡ HandleTimeout now → IsTimedAt mac answers now x.entry old new
-            → ((at : ℕ) → old.last_time ≡ Some at → from ≤ at → later at pace ≤ now) → Holds old n → Holds new (cond (is_in_span from long x.call && sends_check x.entry) 1 0 + n)
-        timed old new x n now is (inl last) wait h =
-            called old new n now (is_in_span from long x.call && sends_check x.entry) last
-            (λ sends. (let k = both (is_in_span from long x.call) (sends_check x.entry) sends in within from now (from + long) (search (ap (λ (c : Call P). is_in_span from long c) (sym is) ∙ k.0)))) wait h
-        timed old new x n now is (inr (none, same)) wait h =
-            subst (λ b. Holds new (cond {A = ℕ} b 1 0 + n)) (sym (quiet (is_in_span from long x.call) (sends_check x.entry) none)) (subst (λ k. Holds new k) (sym (zero-add n)) (carried old new n same h)) where
-              quiet : (a b : Bool) → b ≡ false → (a && b) ≡ false
-              quiet true b none = none
-              quiet false b none = refl
+      timed : (old new : AgentRecord H P) (x : Logged P) (n now : ℕ) → x.call ≡ HandleTimeout now → IsTimedAt mac answers now x.entry old new
+          → (now < from + long → Waits old now) → Holds old n → Holds new (cond (is_in_span from long x.call && sends_check x.entry) 1 0 + n)
+      timed old new x n now is (inl last) wait h =
+          called old new n now (is_in_span from long x.call && sends_check x.entry) last
+          (λ sends. (let k = both (is_in_span from long x.call) (sends_check x.entry) sends in within from now (from + long) (search (ap (λ (c : Call P). is_in_span from long c) (sym is) ∙ k.0)))) wait h
+      timed old new x n now is (inr (none, same)) wait h =
+          subst (λ b. Holds new (cond {A = ℕ} b 1 0 + n)) (sym (quiet (is_in_span from long x.call) (sends_check x.entry) none)) (subst (λ k. Holds new k) (sym (zero-add n)) (carried old new n same h)) where
+            quiet : (a b : Bool) → b ≡ false → (a && b) ≡ false
+            quiet true b none = none
+            quiet false b none = refl
 
-        other : (old new : AgentRecord H P) (x : Logged P) (n : ℕ) (s t : Stream) → is_timeout x.call ≡ false → Step mac answers old s x.call x.entry new t → Holds old n
-            → Holds new (cond (is_in_span from long x.call && sends_check x.entry) 1 0 + n)
-        other old new x n s t is step h =
-            subst (λ b. Holds new (cond {A = ℕ} b 1 0 + n)) (sym (ap (λ b. b && sends_check x.entry) (spans-none from long x.call is)))
-            (subst (λ k. Holds new k) (sym (zero-add n)) (carried old new n (last-stays mac answers x.call old new s t x.entry is step) h))
+      other : (old new : AgentRecord H P) (x : Logged P) (n : ℕ) (s t : Stream) → is_timeout x.call ≡ false → Step mac answers old s x.call x.entry new t → Holds old n
+          → Holds new (cond (is_in_span from long x.call && sends_check x.entry) 1 0 + n)
+      other old new x n s t is step h =
+          subst (λ b. Holds new (cond {A = ℕ} b 1 0 + n)) (sym (ap (λ b. b && sends_check x.entry) (spans-none from long x.call is)))
+          (subst (λ k. Holds new k) (sym (zero-add n)) (carried old new n (last-stays mac answers x.call old new s t x.entry is step) h))
 
-        counts : (first last : AgentRecord H P) (log : List (Logged P)) → IsNewlyCreated first → (run : SharedRun mac answers first log last)
-            → IsPatient pace log → BeforeEach mac answers (IsPacedAt from pace) first log last run → Holds last (checks_in_span from long log)
-        counts first last [] new run patient slow = inl refl
-        counts first last (x ∷ before) new (mid, s, t, run, based, step) (patient, earlier) (here, slow) =
-            subst (λ n. Holds last n) (sym (sum_by-cons (λ (y : Logged P). cond (is_in_span from long y.call && sends_check y.entry) 1 0) x before))
-            (by x.call refl (counts first mid before new run earlier slow)) where
-              by : (call : Call P) → x.call ≡ call → Holds mid (checks_in_span from long before)
-                  → Holds last (cond (is_in_span from long x.call && sends_check x.entry) 1 0 + checks_in_span from long before)
-              by (HandleTimeout now) is so_far = timed mid last x (checks_in_span from long before) now is
-                  (timeout-timed mac answers now mid last s t x.entry (subst (λ (c : Call P). Step mac answers mid s c x.entry last t) is step))
-                  (waits first mid before new run earlier slow now (patient now is)) so_far
-              by call is so_far = other mid last x (checks_in_span from long before) s t (ap (λ (c : Call P). is_timeout c) is) step so_far
+      counts : (first last : AgentRecord H P) (log : List (Logged P)) → IsNewlyCreated first → (run : SharedRun mac answers first log last)
+          → IsPatient from long pace log → BeforeEach mac answers (IsPacedAt from long pace) first log last run → Holds last (checks_in_span from long log)
+      counts first last [] new run patient slow = inl refl
+      counts first last (x ∷ before) new (mid, s, t, run, based, step) (patient, earlier) (here, slow) =
+          subst (λ n. Holds last n) (sym (sum_by-cons (λ (y : Logged P). cond (is_in_span from long y.call && sends_check y.entry) 1 0) x before))
+          (by x.call refl (counts first mid before new run earlier slow)) where
+            by : (call : Call P) → x.call ≡ call → Holds mid (checks_in_span from long before)
+                → Holds last (cond (is_in_span from long x.call && sends_check x.entry) 1 0 + checks_in_span from long before)
+            by (HandleTimeout now) is so_far = timed mid last x (checks_in_span from long before) now is
+                (timeout-timed mac answers now mid last s t x.entry (subst (λ (c : Call P). Step mac answers mid s c x.entry last t) is step))
+                (λ inside at last_is le. waits first mid before new run earlier slow now inside (patient now is inside (has_called from first mid before new run at last_is le)) at last_is le)
+                so_far
+            by call is so_far = other mid last x (checks_in_span from long before) s t (ap (λ (c : Call P). is_timeout c) is) step so_far
 
-        few : (n : ℕ) (a : AgentRecord H P) → 0 < pace → Holds a n → n ≤ begun_in long pace
-        few n a some (inl none) = omega (arith, none)
-        few n a some (inr c) = let apart = c.apart in let inside = c.inside in at-most from long pace n some (omega (arith, apart, inside))
+      few : (n : ℕ) (a : AgentRecord H P) → 0 < pace → Holds a n → n ≤ begun_in long pace
+      few n a some (inl none) = omega (arith, none)
+      few n a some (inr c) = let apart = c.apart in let inside = c.inside in at-most from long pace n some (omega (arith, apart, inside))
 
     pub checks-are-paced : ChecksArePaced {H = H} mac answers
     checks-are-paced first last log from long pace new run patient slow some ends =
         let stays : from + long ≤ MAX = omega (arith, ends) in
-        few from pace long stays (checks_in_span from long log) last some (counts from pace long stays first last log new run patient slow)
+        few from long pace stays (checks_in_span from long log) last some (counts from long pace stays first last log new run patient slow)
 
     -- ---- numbers
 
@@ -236,11 +268,11 @@ module _ {H P : Type 0} where
     pub seconds-have-few : SecondsHaveFewChecks {H = H} mac answers
     seconds-have-few first last log from new run slow ends = (
       λ patient. (let few : checks_in_span from SECOND log ≤ 200 = checks-are-paced first last log from SECOND LEAST_TA new run patient
-          (each (IsSlowAt from) (IsPacedAt from LEAST_TA)
-          (λ a x is call at last_is le. (let least = pacing-least at a (is call at last_is le) in omega (arith, least))) first last log run slow)
+          (each (IsSlowAt from) (IsPacedAt from SECOND LEAST_TA)
+          (λ a x is call at last_is le lt. (let least = pacing-least at a (is call at last_is le lt) in omega (arith, least))) first last log run slow)
           (omega arith) ends in omega (arith, few)),
       λ patient late. (let few : checks_in_span from SECOND log ≤ 20 = checks-are-paced first last log from SECOND (50 * MILLISECOND) new run patient
-          (two (IsSlowAt from) (IsLateAt from) (IsPacedAt from (50 * MILLISECOND))
-          (λ a x is early call at last_is le. (let least = pacing-late at a (early call at last_is le) (is call at last_is le) in omega (arith, least))) first last log run slow late)
+          (two (IsSlowAt from) (IsLateAt from) (IsPacedAt from SECOND (50 * MILLISECOND))
+          (λ a x is early call at last_is le lt. (let least = pacing-late at a (early call at last_is le lt) (is call at last_is le lt) in omega (arith, least))) first last log run slow late)
           (omega arith) ends in omega (arith, few)),
     )

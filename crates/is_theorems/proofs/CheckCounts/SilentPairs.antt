@@ -46,6 +46,7 @@ use Rattle.is_theorems.proofs.PunctualTimeouts.UnchangedPacing.{Pace, gives-up-s
 use Rattle.is_theorems.proofs.RuleEffects.SelectedPaths.{one_pair}
 use Rattle.is_theorems.proofs.RuleEffects.UnchangedSettings.{either}
 use Rattle.is_theorems.proofs.CheckCounts.SilentTimeouts.{no-case, is_poll, latest, left-possible, checks-on}
+use Rattle.is_rules.specs.Leaving.{path_left, gives_way}
 
 module _ {H P : Type 0} where
   -- ---- calls
@@ -178,13 +179,14 @@ module _ {H P : Type 0} where
         (checks-on mac most o floor now apart kept new (subst (λ (x : StunTiming). EndsWith x most) (sym kept_timing) ends) (subst (λ (x : StunTiming). 0 < x.max_retransmits) (sym kept_timing) limit)
         (subst (λ (x : StunTiming). (w : Watch) → o ≡ Some w → (w.requests ≡ 0) ⊎ IsPastRequests x most) (sym kept_timing) fits) goes_on possible valid at_kept kept.remote_creds s u issued checking) where
           at_named : At now now named
-          at_named = nominates-kept floor now (On now now) (rule now now) (at_timeout now old) named first nominating k
+          at_named = nominates-kept floor now (On now now) (rule now now) (path_left now (at_timeout now old)) named first nominating
+              (kept-filter floor now (On now now) old.next_number (λ p. not (gives_way now (at_timeout now old) p)) old.pairs k)
 
           left : kept.timing ≡ named.timing
           left = ap (λ (p : Pace). p.clock.timing) (gives-up-same now named kept second giving)
 
           kept_timing : kept.timing ≡ t
-          kept_timing = left ∙ (ap (λ (p : Pace). p.clock.timing) (nominates-same (at_timeout now old) named first nominating) ∙ timing)
+          kept_timing = left ∙ (ap (λ (p : Pace). p.clock.timing) (nominates-same (path_left now (at_timeout now old)) named first nominating) ∙ timing)
 
           at_kept : IsKept floor now (IsOnSchedule kept.timing most o now now) kept.next_number kept.pairs
           at_kept = subst (λ (x : StunTiming). IsKept floor now (IsOnSchedule x most o now now) kept.next_number kept.pairs) (sym kept_timing)

@@ -51,6 +51,7 @@ use Rattle.is_theorems.proofs.RuleEffects.UnchangedSettings.{either}
 use Rattle.is_theorems.proofs.BasicLemmas.PairsInTurn.{by-begins, sent-pairs, sent_at}
 use Rattle.is_theorems.proofs.BasicLemmas.ServedPairs.{numbered-by}
 use Rattle.is_theorems.proofs.RuleEffects.NotedErrors.{coded, recoded, by_failure}
+use Rattle.is_rules.specs.Leaving.{path_left, gives_way}
 
 -- ---- one pair
 
@@ -215,7 +216,8 @@ module _ {H P : Type 0} where
   maintains-firm : (mac : H → List ℕ → List ℕ → List ℕ) (now : ℕ) (old new : AgentRecord H P) (s t : Stream) (emitted : Emitted) → MaintainsPairs mac now old s emitted new t → Keeps old new
   maintains-firm mac now old new s t emitted (first, second, issued, named, kept, nominating, giving, checking, is) f =
       check-firm mac now kept.remote_creds kept new s t issued checking
-      (gives-up-firm now named kept second giving (nominates-firm (at_timeout now old) named first nominating f))
+      (gives-up-firm now named kept second giving (nominates-firm (path_left now (at_timeout now old)) named first nominating
+      (f.0, answered-filter (λ p. not (gives_way now (at_timeout now old) p)) old.pairs f.1)))
 
   -- ---- responses
 

@@ -28,6 +28,8 @@ use Rattle.is_theorems.proofs.RuleEffects.UnchangedSettings.{either}
 use Rattle.is_theorems.proofs.BasicLemmas.PairsInTurn.{by-begins, sent-pairs, sent_at}
 use Rattle.is_stun.specs.declared.timing.StunTiming.{StunTiming}
 use Rattle.is_stun.specs.Timing.{is_modern}
+use Rattle.is_rules.specs.Leaving.{path_left}
+use Rattle.is_theorems.proofs.RuleEffects.PathsThatAreLeft.{original-left}
 
 -- ---- the next state
 
@@ -172,6 +174,19 @@ module _ {H P : Type 0} where
           by : (b : Bool) → settles old ≡ b → IsBacked kept
           by true is =
               let on = ap (λ (state : IceConnectionState). is_modern old.timing && not (same_state state New)) (state-is true is) ∙ is in
-              gives-up-settled now named kept second (settles-named base named first nominating ∙ on) giving
-          by false is = gives-up-backs now named kept second giving (nominates-backs base named first nominating (λ connected.
-              evaluated-backed now old (subst (λ (state : IceConnectionState). is_connected state ≡ true) (state-is false is) connected)))
+              gives-up-settled now named kept second (settles-named (path_left now base) named first nominating ∙ on) giving
+          by false is = gives-up-backs now named kept second giving (nominates-backs (path_left now base) named first nominating (backed (is_modern old.timing) refl)) where
+            -- with `Modern` the session has not begun
+            unbegun : (state : IceConnectionState) (selected possible lite : Bool) → not (same_state state New) ≡ false → is_connected (next_state state selected possible lite) ≡ true → IsBacked (path_left now base)
+            unbegun New selected possible lite h connected = absurd (no-case connected)
+            unbegun Checking selected possible lite h connected = absurd (no-case (sym h))
+            unbegun Connected selected possible lite h connected = absurd (no-case (sym h))
+            unbegun Completed selected possible lite h connected = absurd (no-case (sym h))
+            unbegun Disconnected selected possible lite h connected = absurd (no-case (sym h))
+
+            backed : (m : Bool) → is_modern old.timing ≡ m → IsBacked (path_left now base)
+            backed false off = subst (λ (a : AgentRecord H P). IsBacked a) (sym (original-left now base off)) (λ connected.
+                evaluated-backed now old (subst (λ (state : IceConnectionState). is_connected state ≡ true) (state-is false is) connected))
+            backed true on = λ connected.
+                unbegun old.state (has_nominated old) (has_possible now old) old.lite (sym (ap (λ b. b && not (same_state old.state New)) on) ∙ is)
+                (subst (λ (state : IceConnectionState). is_connected state ≡ true) (state-is false is) connected) connected

@@ -123,6 +123,7 @@ module _ {P : Type 0} where
 module _ {H P : Type 0} where
   waits-in-round : (old : AgentRecord H P) (call : Call P) (e : Entry) (new : AgentRecord H P) → is_in_round call ≡ true → Waits old call e new → WaitsWith old call e new
   waits-in-round old (HandleTimeout now) e new is h = no-case is
+  waits-in-round old (RestartIce creds keep) e new is h = no-case is
   waits-in-round old _ e new is h = h
 
   keeps-empty : (old : AgentRecord H P) (call : Call P) (e : Entry) (new : AgentRecord H P) → is_some old.remote_creds ≡ true → old.queue ≡ [] → WaitsWith old call e new → new.queue ≡ []

@@ -8,7 +8,8 @@ use Rattle.is_candidate.specs.Candidates.{CandidateRecord}
 use Rattle.is_pair.specs.Pairs.{PairRecord, is_nominated, is_recent, is_valid, nominated}
 use Rattle.is_pair.specs.Checks.{Check, unanswered_count}
 use Rattle.is_pair.specs.Due as due
-use Rattle.is_pair.specs.Multiset.{is_numbered, change_at}
+use Rattle.is_pair.specs.Multiset.{is_numbered, change_at, is_named_by}
+use Rattle.is_pair.specs.Silence.{silence_of}
 use Rattle.is_stun.specs.declared.timing.StunTiming.{StunTiming}
 use Rattle.is_stun.specs.declared.timing.Consent.{Consent}
 use Rattle.is_stun.specs.Timing.{is_modern, consent_of}
@@ -16,7 +17,7 @@ use Rattle.is_rules.specs.declared.credentials.IceCreds.{IceCreds}
 use Rattle.is_rules.specs.declared.emitted.Path.{Path}
 use Rattle.is_rules.specs.Request.{RequestRecord}
 use Rattle.is_rules.specs.Agent.{AgentRecord}
-use Rattle.is_rules.specs.Nominating.{nominated_by_self, Nominates, followed, remains, selection_of}
+use Rattle.is_rules.specs.Nominating.{nominated_by_self, Nominates, followed, remains, selection_of, is_eligible}
 use Rattle.is_rules.specs.Timeouts.{is_expired, expired_gone, RemovesExpired}
 use Rattle.is_theorems.proofs.RuleEffects.UnchangedSettings.{either}
 use Rattle.is_theorems.proofs.RuleEffects.ChangedPairs.{Has-map}
@@ -27,6 +28,8 @@ use Rattle.is_pair.proofs.DueTimes.CountOfDuePairs.{no-more, thinner}
 use Rattle.is_theorems.specs.Progress.{IsGone, ChecksInTurn}
 use Rattle.is_theorems.specs.Reached.{IsLasting}
 use Rattle.is_rules.specs.Sound.{IsSound}
+use Rattle.std.proofs.lemmas.Bool.Decides.{nat_tests}
+use Rattle.is_rules.specs.Leaving.{gives_way, may_replace, path_left}
 
 -- ---- lists
 
@@ -176,6 +179,16 @@ at-alike n c l p = apart (is_numbered n p) where
   apart true = self-alike c l p
   apart false = alike-same p
 
+fifth-off : (a b c d e f : Bool) → e ≡ false → (a && b && c && d && e && f) ≡ false
+fifth-off true true true true e f is = ap (λ x. x && f) is
+fifth-off true true true false e f is = refl
+fifth-off true true false d e f is = refl
+fifth-off true false c d e f is = refl
+fifth-off false b c d e f is = refl
+
+not-under : (n m : ℕ) → nat_lt n m ≡ true → nat_le m n ≡ false
+not-under n m h = grind (arith, nat_tests, h)
+
 possible : (e h b u i : Bool) → u ≡ true → (e || (h || b || u || i)) ≡ true
 possible true h b u i is = refl
 possible false true b u i is = refl
@@ -273,7 +286,31 @@ module _ {H P : Type 0} where
       thins-on by old k.0 new (thins-on by old (expired_gone now old) k.0 a b) c))
       (λ _ k. subst (λ (a : AgentRecord H P). Thins by old a) (sym k.1) (refl, thinned-same by old.pairs))
 
+  -- ---- a path that is left before nomination
+
+  pub leaves-thins : (by now : ℕ) (a : AgentRecord H P) → Thins by a (path_left now a)
+  leaves-thins by now a = (refl, thinned-filter by (λ p. not (gives_way now a p)) a.pairs)
+
+  pub names-thins : (by now : ℕ) (old named : AgentRecord H P) (path : Option Path) → Nominates (path_left now old) path named → Thins by old named
+  names-thins by now old named path h = thins-on by old (path_left now old) named (leaves-thins by now old) (nominates-thins by (path_left now old) named path h)
+
   -- ---- a pair that was checked less often than the limit stays
+
+  pub keeps-young : (now : ℕ) (a : AgentRecord H P) (p : PairRecord) → nat_lt (unanswered_count p.checks) a.timing.max_retransmits ≡ true → gives_way now a p ≡ false
+  keeps-young now a p young =
+      fifth-off (is_modern a.timing) (not a.lite) (is_named_by a.selected_pair p) (is_eligible a.controlling p) (nat_le a.timing.max_retransmits (unanswered_count p.checks))
+      (option_map_or (λ silence. list_any (may_replace now a p.number silence) a.pairs) (silence_of p.checks) false) (not-under (unanswered_count p.checks) a.timing.max_retransmits young)
+
+  pub lasts-young : (now : ℕ) (a : AgentRecord H P) (p : PairRecord) → a.lite ≡ false → due.stays_answered (consent_of a.timing) now p ≡ true
+      → nat_lt (unanswered_count p.checks) a.timing.max_retransmits ≡ true → not (is_expired now a p || gives_way now a p) ≡ true
+  lasts-young now a p full answered young =
+      ap (λ b. not (is_expired now a p || b)) (keeps-young now a p young) ∙ neither (is_expired now a p) (stays-young a.lite now a.timing p full answered young) where
+        neither : (b : Bool) → not b ≡ true → not (b || false) ≡ true
+        neither true h = h
+        neither false h = refl
+
+  pub leaves-has : (now : ℕ) (a : AgentRecord H P) (p : PairRecord) → Has a.pairs p → nat_lt (unanswered_count p.checks) a.timing.max_retransmits ≡ true → Has (path_left now a).pairs p
+  leaves-has now a p has young = Has-kept (λ q. not (gives_way now a q)) a.pairs p has (ap not (keeps-young now a p young))
 
   pub nominates-has : (old new : AgentRecord H P) (path : Option Path) → Nominates old path new → (p : PairRecord) → Has old.pairs p → (q : PairRecord) × Has new.pairs q × Alike p q
   nominates-has old new path h p has = from (selects_path old new path h) where

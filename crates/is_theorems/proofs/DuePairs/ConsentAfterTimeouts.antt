@@ -22,7 +22,7 @@ use Rattle.is_rules.specs.Timeouts.{at_timeout, is_expired, expired_gone, Mainta
 use Rattle.is_theorems.specs.NotStarved.{HaveConsent}
 use Rattle.is_theorems.proofs.RuleEffects.UnchangedSettings.{either}
 use Rattle.is_theorems.proofs.RuleEffects.ChangedPairs.{Has-map}
-use Rattle.is_theorems.proofs.DuePairs.AfterNominationAndRemoval.{Base, consent-same, gives-up-thins, nominates-thins, passed}
+use Rattle.is_theorems.proofs.DuePairs.AfterNominationAndRemoval.{Base, consent-same, gives-up-thins, nominates-thins, names-thins, passed}
 use Rattle.is_theorems.proofs.DuePairs.FirstDuePair.{next-check}
 use Rattle.is_rules.specs.Nominating.{nominates_at_once}
 use Rattle.is_theorems.proofs.BasicLemmas.PairsInTurn.{by-begins, sent-pairs, sent_at}
@@ -63,7 +63,7 @@ consent-ended c p by now ended early late = at p.consented refl ended where
 
 -- ---- lists of pairs
 
-any-none : {X : Type 0} (f : X → Bool) (xs : List X) (x : X) → list_any f xs ≡ false → Has xs x → f x ≡ false
+pub any-none : {X : Type 0} (f : X → Bool) (xs : List X) (x : X) → list_any f xs ≡ false → Has xs x → f x ≡ false
 any-none f [] x none has = absurd has
 any-none f (y ∷ ys) x none has = by (f y) refl none has (any-none f ys x) where
   by : (b : Bool) → f y ≡ b → (b || list_any f ys) ≡ false → Has (y ∷ ys) x → (list_any f ys ≡ false → Has ys x → f x ≡ false) → f x ≡ false
@@ -139,7 +139,7 @@ module _ {H P : Type 0} where
     pub maintains-consents : (now : ℕ) (old new : AgentRecord H P) (s t : Stream) (emitted : Emitted) → old.lite ≡ false → MaintainsPairs mac now old s emitted new t
         → (new.timing ≡ old.timing) × Leaves old.pairs new.pairs × HaveConsent now new
     maintains-consents now old new s t emitted full (first, second, issued, named, kept, nominating, giving, checking, is) =
-        let a = nominates-thins 0 (at_timeout now old) named first nominating in
+        let a = names-thins 0 now (at_timeout now old) named first nominating in
         let b = gives-up-thins 0 now named kept second giving in
         let named_full : named.lite ≡ false = ap (λ (x : Base). x.lite) a.0 ∙ full in
         let kept_full : kept.lite ≡ false = ap (λ (x : Base). x.lite) b.0 ∙ named_full in

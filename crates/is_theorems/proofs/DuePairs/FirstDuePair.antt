@@ -34,8 +34,9 @@ use Rattle.is_pair.specs.Turns.{IsPaced, is_due_by, due_by}
 use Rattle.is_pair.proofs.DueTimes.CountOfDuePairs.{no-more, fewer-due}
 use Rattle.is_theorems.specs.Progress.{IsGone, ChecksOn, ChecksInTurn}
 use Rattle.is_theorems.proofs.DuePairs.ChecksAhead.{Falls, falls-from, is-turn, no-more-due}
-use Rattle.is_theorems.proofs.DuePairs.AfterNominationAndRemoval.{Distinct, Alike, Thinned, is_fixed_by, Base, Thins, base_of as agent_base, turns-by, thins-on, nominates-thins, gives-up-thins}
+use Rattle.is_theorems.proofs.DuePairs.AfterNominationAndRemoval.{Distinct, Alike, Thinned, is_fixed_by, Base, Thins, base_of as agent_base, turns-by, thins-on, names-thins, gives-up-thins}
 use Rattle.is_rules.specs.Nominating.{nominates_at_once, Nominates}
+use Rattle.is_rules.specs.Leaving.{path_left}
 
 -- ---- pairs
 
@@ -133,7 +134,7 @@ module _ {H P : Type 0} where
   -- at the check of a `handle_timeout` call, once nomination was evaluated
   abbrev pub NoneAtOnce : ℕ → AgentRecord H P → Type 0
   NoneAtOnce now old =
-      (first second : Option Path) (named kept : AgentRecord H P) → Nominates (at_timeout now old) first named → RemovesExpired now named second kept → NoneAtCheck now kept
+      (first second : Option Path) (named kept : AgentRecord H P) → Nominates (path_left now (at_timeout now old)) first named → RemovesExpired now named second kept → NoneAtCheck now kept
 
   pub same-path : (a b : AgentRecord H P) (p q : PairRecord) → b.local ≡ a.local → b.remote ≡ a.remote → Matches p q → path_of b q ≡ path_of a p
   same-path a b p q locals remotes m =
@@ -270,7 +271,7 @@ module _ {H P : Type 0} where
     pub timeout-follows : (now : ℕ) (old new : AgentRecord H P) (s t : Stream) (emitted : Emitted) → is_some old.remote_creds ≡ true → old.lite ≡ false
         → MaintainsPairs mac now old s emitted new t → (agent_base new ≡ record (agent_base old) { last_time = Some now; ahead_turn = new.ahead_turn }) × Follows old.pairs new.pairs
     timeout-follows now old new s t emitted known full (first, second, issued, named, kept, nominating, giving, checking, is) =
-        let a = nominates-thins 0 (at_timeout now old) named first nominating in
+        let a = names-thins 0 now (at_timeout now old) named first nominating in
         let b = gives-up-thins 0 now named kept second giving in
         let c = thins-on 0 (at_timeout now old) named kept a b in
         let known_kept : is_some kept.remote_creds ≡ true = ap (λ (x : Base). is_some x.remote_creds) c.0 ∙ known in
@@ -289,7 +290,7 @@ module _ {H P : Type 0} where
         → Distinct old.pairs → AllAsked old.pairs → by ≤ now → (p : PairRecord) → Has old.pairs p → unwrap_or p.due 0 ≤ by
         → MaintainsPairs mac now old s emitted new t → Moved now by old emitted new p
     timeout-moves now by old new s t emitted known full distinct all from p has due (first, second, issued, named, kept, nominating, giving, checking, is) =
-        let a = nominates-thins by (at_timeout now old) named first nominating in
+        let a = names-thins by now (at_timeout now old) named first nominating in
         let b = gives-up-thins by now named kept second giving in
         let c = thins-on by (at_timeout now old) named kept a b in
         let known_kept : is_some kept.remote_creds ≡ true = ap (λ (x : Base). is_some x.remote_creds) c.0 ∙ known in

@@ -56,6 +56,8 @@ use Rattle.is_theorems.proofs.RuleEffects.EarlierAndNewPairs.{Has-filter, Has-pu
 use Rattle.is_theorems.proofs.RuleEffects.NominatedPairs.{SelectsPath, selects_path}
 use Rattle.is_theorems.proofs.RuleEffects.UnchangedSettings.{either}
 use Rattle.is_theorems.proofs.RuleEffects.NotedErrors.{recoded, by_failure}
+use Rattle.is_rules.specs.Leaving.{path_left}
+use Rattle.is_theorems.proofs.RuleEffects.PathsThatAreLeft.{none-valid-left}
 
 no-case : {A : Type 0} → false ≡ true → A
 no-case h = absurd (cc)
@@ -297,7 +299,8 @@ module _ {H P : Type 0} where
 
     maintains : (now : ℕ) (old new : AgentRecord H P) (s t : Stream) (emitted : Emitted) → NoneValid old.pairs → MaintainsPairs mac now old s emitted new t → Calmer old new
     maintains now old new s t emitted none (first, second, issued, named, kept, nominating, giving, checking, is) =
-        let one : named ≡ at_timeout now old = nominates-nothing (at_timeout now old) named first none nominating in
+        let one : named ≡ at_timeout now old = nominates-nothing (at_timeout now old) named first none
+        (subst (λ (a : AgentRecord H P). Nominates a first named) (none-valid-left now (at_timeout now old) none) nominating) in
         let two = gives-up-calmer now (at_timeout now old) kept second none (subst (λ (a : AgentRecord H P). RemovesExpired now a second kept) one giving) in
         let three = checks now kept.remote_creds kept new s t issued checking in
         calmer-on old kept new (two.0.0, two.0.1, two.0.2) three
@@ -305,7 +308,8 @@ module _ {H P : Type 0} where
     -- at the check of the call no nomination is to be sent at once
     pub none-at-check : (now : ℕ) (old : AgentRecord H P) → NoneValid old.pairs → NoneIsDue old → NoneAtOnce now old
     none-at-check now old none quiet first second named kept nominating giving =
-        let one : named ≡ at_timeout now old = nominates-nothing (at_timeout now old) named first none nominating in
+        let one : named ≡ at_timeout now old = nominates-nothing (at_timeout now old) named first none
+        (subst (λ (a : AgentRecord H P). Nominates a first named) (none-valid-left now (at_timeout now old) none) nominating) in
         let two = gives-up-calmer now (at_timeout now old) kept second none (subst (λ (a : AgentRecord H P). RemovesExpired now a second kept) one giving) in
         none-is-due (all_asked now kept) (quiet-by old (all_asked now kept) (two.0.0, two.0.1, two.0.2)
         (λ n named gone p has. (let o = Has-map (asked now kept.timing) kept.pairs p has in λ same. gone o.0 (two.1 o.0 o.1) (ap (λ (x : PairRecord). x.number) o.2 ∙ same))) quiet)

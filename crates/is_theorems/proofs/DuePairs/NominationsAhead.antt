@@ -43,13 +43,14 @@ use Rattle.is_theorems.specs.Reached.{is_in_round, selects}
 use Rattle.is_theorems.proofs.BasicLemmas.PairsInTurn.{none-to-send}
 use Rattle.is_theorems.proofs.CallEffects.AddedCandidates.{by_adding_local, by_adding_remote, by_waking}
 use Rattle.is_theorems.proofs.CallEffects.FailedCallsAndNewAgents.{mtu_kept, controlling_kept, local_kept, enrolment_kept, storing_kept}
-use Rattle.is_theorems.proofs.DuePairs.AfterNominationAndRemoval.{Base, gives-up-thins, nominates-thins, thins-on}
+use Rattle.is_theorems.proofs.DuePairs.AfterNominationAndRemoval.{Base, gives-up-thins, names-thins, thins-on}
 use Rattle.is_theorems.proofs.DuePairs.ChecksAhead.{one-at-most}
 use Rattle.is_theorems.proofs.DuePairs.FirstDuePair.{next-check}
 use Rattle.is_theorems.proofs.ExecutionLogs.LogSegments.{no-case}
 use Rattle.is_theorems.proofs.RuleEffects.NominatedPairs.{SelectsPath, selects_path}
 use Rattle.is_theorems.proofs.RuleEffects.UnchangedSettings.{either}
 use Rattle.is_theorems.proofs.RuleEffects.NotedErrors.{recoded, by_failure}
+use Rattle.is_rules.specs.Leaving.{path_left}
 
 -- ---- which paths a call selects
 
@@ -250,10 +251,10 @@ module _ {H P : Type 0} where
         (λ _ k. (let d = tops b now peer k.0 (all_asked now old) new s t issued k.2 in (d.0, d.1)))
 
     -- up to the check
-    nominated-dues : (now : ℕ) (old named kept : AgentRecord H P) (first second : Option Path) (issued : Option Issued) (emitted : Emitted) → Nominates (at_timeout now old) first named
+    nominated-dues : (now : ℕ) (old named kept : AgentRecord H P) (first second : Option Path) (issued : Option Issued) (emitted : Emitted) → Nominates (path_left now (at_timeout now old)) first named
         → RemovesExpired now named second kept → is_some (last_of emitted.selected_paths) ≡ is_some (last_of (selected_in first second)) → Dues (selected emitted) old kept
     nominated-dues now old named kept first second issued emitted nominating giving is =
-        let one = nominates-dues (at_timeout now old) named first nominating in
+        let one = nominates-dues (path_left now (at_timeout now old)) named first nominating in
         dues-on (is_some first) (is_some second) (selected emitted) old named kept (one.0, one.1) (removes-dues now named kept second giving)
         (λ some. is ∙ selects-first first second some) (λ some. is ∙ selects-second first second some)
 
@@ -273,7 +274,7 @@ module _ {H P : Type 0} where
         → (h : MaintainsPairs mac now old s emitted new t) → nominates_at_once (all_asked now h.4) ≡ true
         → (new.nomination_due ≡ false) × (numbers old ≡ true) × ((old.nomination_due ≡ true) ⊎ (selected emitted ≡ true))
     at-once-ends now old new s t emitted known full (first, second, issued, named, kept, nominating, giving, checking, is) due =
-        let c = thins-on 0 (at_timeout now old) named kept (nominates-thins 0 (at_timeout now old) named first nominating) (gives-up-thins 0 now named kept second giving) in
+        let c = thins-on 0 (at_timeout now old) named kept (names-thins 0 now (at_timeout now old) named first nominating) (gives-up-thins 0 now named kept second giving) in
         let k = next-check mac now kept.remote_creds kept new s t issued (ap (λ (x : Base). is_some x.remote_creds) c.0 ∙ known) (ap (λ (x : Base). x.lite) c.0 ∙ full) checking in
         (ends k.0 k.1 k.2 k.3, numbered (numbers old) refl, was (old.nomination_due) refl) where
           d : Dues (selected emitted) old kept

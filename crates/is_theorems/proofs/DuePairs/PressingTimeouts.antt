@@ -18,18 +18,21 @@ use Rattle.is_rules.specs.declared.emitted.Path.{Path}
 use Rattle.is_rules.specs.Agent.{AgentRecord}
 use Rattle.is_rules.specs.Checking.{all_asked, IsNextToCheck, ChecksTop, MayCheck}
 use Rattle.is_rules.specs.Emitted.{issued_as, selected_in}
-use Rattle.is_rules.specs.Nominating.{followed, is_eligible, is_pressing, nominates_at_once, numbers, pair_selected, remains, selection_of}
+use Rattle.is_rules.specs.Nominating.{followed, is_eligible, is_pressing, nominates_at_once, numbers, pair_selected, remains, selection_of, Nominates}
 use Rattle.is_rules.specs.Sending.{path_of}
 use Rattle.is_rules.specs.Settling.{settled}
 use Rattle.is_rules.specs.Timeouts.{at_timeout, is_expired, expired_gone, MaintainsPairs, RemovesExpired}
 use Rattle.is_theorems.specs.Progress.{ChecksOn, IsGone}
-use Rattle.is_theorems.proofs.DuePairs.AfterNominationAndRemoval.{Base, Distinct, Thins, base_of, nominates-thins, passed}
+use Rattle.is_theorems.proofs.DuePairs.AfterNominationAndRemoval.{Base, Distinct, Thins, base_of, nominates-thins, passed, gives-up-thins}
 use Rattle.is_theorems.proofs.BasicLemmas.PairsInTurn.{next-has, none-to-send}
 use Rattle.is_theorems.proofs.DuePairs.FirstDuePair.{check-follows, gone-follows, next-check}
 use Rattle.is_theorems.proofs.RuleEffects.ChangedPairs.{Has-map}
 use Rattle.is_theorems.proofs.RuleEffects.EarlierAndNewPairs.{Has-filter}
 use Rattle.is_theorems.proofs.RuleEffects.NominatedPairs.{SelectsPath, selects_path}
 use Rattle.is_theorems.proofs.RuleEffects.UnchangedSettings.{either}
+use Rattle.is_rules.specs.Leaving.{path_left, gives_way}
+use Rattle.is_theorems.proofs.DuePairs.ConsentAfterTimeouts.{any-none}
+use Rattle.is_theorems.proofs.RuleEffects.PathsThatAreLeft.{none-left}
 
 -- ---- the selected pair
 
@@ -176,6 +179,22 @@ module _ {H P : Type 0} where
       paths : emitted.selected_paths ≡ selected_in first second
       paths = ap (λ (x : Emitted). x.selected_paths) is
 
+      -- a pair that gives way is removed
+      left-gone : (p : PairRecord) → Has old.pairs p → gives_way now old p ≡ true → OfUse
+      left-gone p has gives_p =
+          let a = nominates-thins 0 (path_left now (at_timeout now old)) named first names in
+          let b = gives-up-thins 0 now named kept second gives in
+          let base : base_of kept ≡ base_of (at_timeout now old) = b.0 ∙ a.0 in
+          let gone : IsGone p.number kept.pairs = (λ q q_has number.
+          (let n = b.1.back q q_has in let o = a.1.back n.0 n.1 in
+          let there = Has-filter (λ x. not (gives_way now (at_timeout now old) x)) old.pairs o.0 o.1 in
+          let one : o.0 ≡ p = distinct o.0 p there has (sym o.2.number ∙ (sym n.2.number ∙ number)) in
+          let no : false ≡ true = ap not (sym gives_p)
+          ∙ (ap (λ (x : PairRecord). not (gives_way now (at_timeout now old) x)) (sym one) ∙ passed (λ x. not (gives_way now (at_timeout now old) x)) old.pairs o.0 o.1) in
+          cc)) in
+          let d = check-follows mac now kept.remote_creds kept new s t issued (ap (λ (x : Base). is_some x.remote_creds) base ∙ known) (ap (λ (x : Base). x.lite) base ∙ full) checking in
+          inl (p, has, inr (gone-follows kept.pairs new.pairs p.number d.1 gone))
+
       by : (a b : Option Path) → first ≡ a → second ≡ b → OfUse
       by (Some path) b is_a is_b =
           inr (path, subst (λ ps. Has ps (Some path)) (sym paths) (subst (λ o. Has (selected_in o second) (Some path)) (sym is_a) (inl refl)))
@@ -185,5 +204,10 @@ module _ {H P : Type 0} where
             subst (λ ps. Has ps (Some path)) (sym paths) (subst (λ o. Has (selected_in o second) (Some path)) (sym is_a)
                 (subst (λ o. Has (selected_in None o) (Some path)) (sym is_b) (inl refl))),
           )
-      by None None is_a is_b =
-          on-removed first second issued named kept is_a is_b (selects_path (at_timeout now old) named first names) gives checking (ap (λ (x : Emitted). x.issued) is)
+      by None None is_a is_b = elim (list_any (gives_way now old) old.pairs) as (λ b. list_any (gives_way now old) old.pairs ≡ b → OfUse) [
+        | true ↦ λ some. (let k = passes-any (gives_way now old) old.pairs some in left-gone k.0 k.1 k.2)
+        | false ↦ λ none.
+            (let even : path_left now (at_timeout now old) ≡ at_timeout now old = none-left now (at_timeout now old) (λ p has. any-none (gives_way now old) old.pairs p none has) in
+            on-removed first second issued named kept is_a is_b
+            (selects_path (at_timeout now old) named first (subst (λ (a : AgentRecord H P). Nominates a first named) even names)) gives checking (ap (λ (x : Emitted). x.issued) is))
+      ] refl

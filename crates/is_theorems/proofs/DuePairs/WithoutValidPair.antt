@@ -26,7 +26,7 @@ use Rattle.is_rules.specs.declared.emitted.Emitted.{Emitted}
 use Rattle.is_rules.specs.Emitted.{issued_as}
 use Rattle.is_rules.specs.Agent.{AgentRecord}
 use Rattle.is_rules.specs.Sending.{path_of}
-use Rattle.is_rules.specs.Nominating.{nominates_at_once}
+use Rattle.is_rules.specs.Nominating.{Nominates, nominates_at_once}
 use Rattle.is_rules.specs.Checking.{all_asked, ChecksTop, MayCheck}
 use Rattle.is_rules.specs.Timeouts.{timeout_begun, at_timeout, is_expired, expired_gone, RemovesExpired, MaintainsPairs}
 use Rattle.is_rules.specs.States.{evaluated}
@@ -46,6 +46,8 @@ use Rattle.is_theorems.proofs.DuePairs.PollingCycles.{none-left, maintains_pairs
 use Rattle.is_theorems.proofs.DuePairs.AfterPackets.{NoneValid, Held}
 use Rattle.is_theorems.proofs.DuePairs.NoNominationDue.{NoneIsDue, Quiet, due-none, nominates-nothing, none-at-check, quiet-call, quiet-timeout}
 use Rattle.is_theorems.proofs.BasicLemmas.PairsInTurn.{by-begins, sent_at, pairs-sent}
+use Rattle.is_rules.specs.Leaving.{path_left}
+use Rattle.is_theorems.proofs.RuleEffects.PathsThatAreLeft.{none-valid-left}
 
 lt-is : (n m : ℕ) → n < m → nat_lt n m ≡ true
 lt-is n m h = grind (arith, nat_tests, h)
@@ -139,7 +141,8 @@ module _ {H P : Type 0} where
         → by ≤ now → (p : PairRecord) → Has old.pairs p → answered_at old p now ≡ true → nat_lt (unanswered_count p.checks) old.timing.max_retransmits ≡ true → due_time_of now old.timing p ≤ by
         → IsPaced old.timing → now < MAX → MaintainsPairs mac now old s emitted new t → ChecksFirst now by old emitted new p × Held by now old.timing new.pairs
     checks-first now by old new s t emitted known full distinct none from p has answered young due paced early (first, second, issued, named, kept, nominating, giving, checking, is) =
-        let same : named ≡ at_timeout now old = nominates-nothing (at_timeout now old) named first none nominating in
+        let same : named ≡ at_timeout now old = nominates-nothing (at_timeout now old) named first none
+        (subst (λ (a : AgentRecord H P). Nominates a first named) (none-valid-left now (at_timeout now old) none) nominating) in
         let gives : RemovesExpired now (at_timeout now old) second kept = subst (λ (a : AgentRecord H P). RemovesExpired now a second kept) same giving in
         let g = gives-up-sifts now (at_timeout now old) kept second none gives in
         let k = gives-up-has now (at_timeout now old) kept second full gives p has answered young in

@@ -31,7 +31,8 @@ use Rattle.is_theorems.proofs.RuleEffects.ChangedPairs.{Has-map}
 use Rattle.is_theorems.proofs.DuePairs.FirstDuePair.{fixed-is, same-path, next-check}
 use Rattle.is_theorems.proofs.RuleEffects.NominatedPairs.{SelectsPath, selects_path}
 use Rattle.is_theorems.proofs.CallEffects.ServedRequests.{Has-mapped}
-use Rattle.is_theorems.proofs.DuePairs.AfterNominationAndRemoval.{kept_of, alike-kept, answered-on, Distinct, Alike, Base, base_of as agent_base, Has-kept, stays-young, thinned-filter, nominates-thins, gives-up-thins, nominates-has}
+use Rattle.is_theorems.proofs.DuePairs.AfterNominationAndRemoval.{kept_of, alike-kept, answered-on, Distinct, Alike, Base, base_of as agent_base, Has-kept, stays-young, thinned-filter, names-thins, gives-up-thins, nominates-has, leaves-has, leaves-thins}
+use Rattle.is_rules.specs.Leaving.{path_left}
 
 le-is : (n m : ℕ) → n ≤ m → nat_le n m ≡ true
 le-is n m h = grind (arith, nat_tests, h)
@@ -164,9 +165,10 @@ module _ (now by : ℕ) (begun : by ≤ now) where
           → stays_answered (consent_of old.timing) now p ≡ true → nat_lt (unanswered_count p.checks) old.timing.max_retransmits ≡ true → Ready old.timing p
           → MaintainsPairs mac now old s emitted new u → ChecksOn old emitted p ⊎ WaitsOn old new p
       timeout-goes old new s u emitted known full distinct p has answered young ready (first, second, issued, named, kept, nominating, giving, checking, is) =
-          let a = nominates-thins 0 (at_timeout now old) named first nominating in
+          let a = names-thins 0 now (at_timeout now old) named first nominating in
           let b = gives-up-thins 0 now named kept second giving in
-          let x = named-ready old.timing (at_timeout now old) named first nominating distinct p has ready in
+          let x = named-ready old.timing (path_left now (at_timeout now old)) named first nominating ((leaves-thins 0 now (at_timeout now old)).1.distinct distinct) p
+          (leaves-has now (at_timeout now old) p has young) ready in
           let timing : named.timing ≡ old.timing = ap (λ (y : Base). y.timing) a.0 in
           let y = given-ready named kept second giving (ap (λ (y : Base). y.lite) a.0 ∙ full) (a.1.distinct distinct) x.0 x.1 (answered-on old.timing named.timing now p x.0 timing x.2.consented answered)
           (ap (λ cs. nat_lt (unanswered_count cs) named.timing.max_retransmits) x.2.checks ∙ (ap (λ (z : StunTiming). nat_lt (unanswered_count p.checks) z.max_retransmits) timing ∙ young))

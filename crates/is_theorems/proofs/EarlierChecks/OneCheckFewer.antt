@@ -38,7 +38,8 @@ use Rattle.is_theorems.proofs.DuePairs.ChecksAhead.{Falls, falls-from, is-turn}
 use Rattle.is_rules.proofs.PairLists.ChosenPair.{chosen-able, none_pass}
 use Rattle.is_theorems.proofs.RuleEffects.NominatedPairs.{SelectsPath, selects_path}
 use Rattle.is_theorems.proofs.CallEffects.ServedRequests.{Has-mapped}
-use Rattle.is_theorems.proofs.DuePairs.AfterNominationAndRemoval.{kept_of, alike-kept, answered-on, Distinct, Alike, Base, base_of as agent_base, Has-kept, stays-young, thinned-filter, nominates-thins, gives-up-thins, nominates-has}
+use Rattle.is_theorems.proofs.DuePairs.AfterNominationAndRemoval.{kept_of, alike-kept, answered-on, Distinct, Alike, Base, base_of as agent_base, Has-kept, stays-young, thinned-filter, nominates-thins, names-thins, gives-up-thins, nominates-has, leaves-has, leaves-thins}
+use Rattle.is_rules.specs.Leaving.{path_left, gives_way}
 
 le-is : (n m : ℕ) → n ≤ m → nat_le n m ≡ true
 le-is n m h = grind (arith, nat_tests, h)
@@ -300,9 +301,10 @@ module _ (now by : ℕ) (late : by < now) (early : now < MAX) where
           → stays_answered (consent_of old.timing) now p ≡ true → nat_lt (unanswered_count p.checks) old.timing.max_retransmits ≡ true → Ready old.timing p
           → (h : MaintainsPairs mac now old s emitted new u) → ChecksOn old emitted p ⊎ WaitsOn (NoneAtCheck now h.4) old new p
       timeout-goes old new s u emitted known full distinct some p has answered young ready (first, second, issued, named, kept, nominating, giving, checking, is) =
-          let a = nominates-thins 0 (at_timeout now old) named first nominating in
+          let a = names-thins 0 now (at_timeout now old) named first nominating in
           let b = gives-up-thins 0 now named kept second giving in
-          let x = named-ready old.timing (at_timeout now old) named first nominating distinct p has ready in
+          let x = named-ready old.timing (path_left now (at_timeout now old)) named first nominating ((leaves-thins 0 now (at_timeout now old)).1.distinct distinct) p
+          (leaves-has now (at_timeout now old) p has young) ready in
           let timing : named.timing ≡ old.timing = ap (λ (y : Base). y.timing) a.0 in
           let y = given-ready named kept second giving (ap (λ (y : Base). y.lite) a.0 ∙ full) (a.1.distinct distinct) x.0 x.1 (answered-on old.timing named.timing now p x.0 timing x.2.consented answered)
           (ap (λ cs. nat_lt (unanswered_count cs) named.timing.max_retransmits) x.2.checks ∙ (ap (λ (z : StunTiming). nat_lt (unanswered_count p.checks) z.max_retransmits) timing ∙ young))
@@ -311,9 +313,10 @@ module _ (now by : ℕ) (late : by < now) (early : now < MAX) where
           let alike = joins p x.0 y.0 x.2 y.2 in
           let same : kept.timing ≡ named.timing = ap (λ (z : Base). z.timing) b.0 in
           let lessened : (w : Measure) → leads w by kept.pairs ≤ leads w by old.pairs =
-          (λ w. (let l : leads w by named.pairs ≤ leads w by old.pairs = named-less w (at_timeout now old) named first nominating in
+          (λ w. (let k : leads w by (path_left now (at_timeout now old)).pairs ≤ leads w by old.pairs = leads-filter w by (λ q. not (gives_way now (at_timeout now old) q)) old.pairs in
+          let l : leads w by named.pairs ≤ leads w by (path_left now (at_timeout now old)).pairs = named-less w (path_left now (at_timeout now old)) named first nominating in
           let m : leads w by kept.pairs ≤ leads w by named.pairs = given-less w named kept second giving in
-          omega (arith, l, m))) in
+          omega (arith, k, l, m))) in
           elim (check-goes kept new s u issued kept.remote_creds (ap (λ (z : Base). is_some z.remote_creds) base ∙ known) (ap (λ (z : Base). z.lite) base ∙ full)
           (b.1.distinct (a.1.distinct distinct)) (subst (λ (z : StunTiming). 0 < z.max_retransmits) (sym (same ∙ timing)) some) y.0 y.1
           (subst (λ (z : StunTiming). due_time_of now z y.0 ≤ by) (sym same) y.3.0) checking) [

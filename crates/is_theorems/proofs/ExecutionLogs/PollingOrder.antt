@@ -1,5 +1,5 @@
 -- Events are appended, in the order in which they happen.
-use Rattle.std.proofs.Common.{is_some, ◌≡◌, ℕ, ◌==◌, Bool, true, false, List, [], ◌∷◌, ◌++◌, length, Option, Some, None, Result, Ok, Err, inl, inr, refl, ap, sym, ◌∙◌, subst, append_assoc, if◌then◌else◌, not}
+use Rattle.std.proofs.Common.{is_some, ◌≡◌, ℕ, ◌==◌, Bool, true, false, List, [], ◌∷◌, ◌++◌, length, Option, Some, None, Result, Ok, Err, inl, inr, ◌⊎◌, refl, ap, sym, ◌∙◌, subst, append_assoc, if◌then◌else◌, not}
 use Rattle.std.specs.Prelude.{MatchBool, MatchOption, ◌&&◌}
 use Rattle.std.specs.List.{list_any}
 use Rattle.std.proofs.lemmas.List.{append-nil}
@@ -9,6 +9,7 @@ use Rattle.is_proto.specs.declared.error.IceError.{IceError}
 use Rattle.is_candidate.specs.Candidates.{CandidateRecord, candidate_at}
 use Rattle.is_pair.specs.Pairs.{PairRecord}
 use Rattle.is_stun.specs.Message.{Message}
+use Rattle.is_stun.specs.Timing.{is_modern}
 use Rattle.is_stun.specs.declared.header.Class.{Class}
 use Rattle.is_stun.specs.declared.header.Class.TheVariants as class
 use Rattle.is_rules.specs.declared.credentials.IceCreds.{IceCreds}
@@ -33,7 +34,7 @@ use Rattle.is_rules.specs.Settings.{with_retransmits, with_rtos, numbers_skipped
 use Rattle.is_rules.specs.Discarding.{InvalidatesAt, local_to_discard, remote_to_discard, local_discarded}
 use Rattle.is_rules.specs.Local.{AddsLocal, appended, enabled_again}
 use Rattle.is_rules.specs.Remote.{AddsRemote, as_remote, with_remote}
-use Rattle.is_rules.specs.Restarting.{restarted, emptied}
+use Rattle.is_rules.specs.Restarting.{events_kept, restarted, emptied, unpaired}
 use Rattle.is_rules.specs.States.{same_state, with_state, evaluated}
 use Rattle.is_rules.specs.Nominating.{with_selection, nominated_emitted, Nominates, NominatesWhere}
 use Rattle.is_rules.specs.Serving.{trigger_time, selects_at_requests, pair_served, request_counted, with_sender, with_sender_at, is_misled, names_another, RecordsAndResponds, FindsOrAddsPair, AddsUnknownSender, CountsAndServes, ResolvesRoleConflictBy, ResolvesRoleConflict, Drops, Serves}
@@ -51,6 +52,7 @@ use Rattle.is_theorems.proofs.CallEffects.FailedCallsAndNewAgents.{mtu_kept, con
 use Rattle.is_theorems.proofs.CallEffects.SettingsRoleAndQueues.{FrameEffect, framed}
 use Rattle.is_theorems.proofs.CallEffects.AddedCandidates.{by_adding_local, by_adding_remote, by_waking}
 use Rattle.is_theorems.proofs.RuleEffects.NotedErrors.{recoded, by_failure}
+use Rattle.is_rules.specs.Leaving.{path_left}
 
 -- ---- lists
 
@@ -204,7 +206,7 @@ module _ {H P : Type 0} where
   maintains_pairs_grow : (mac : H → List ℕ → List ℕ → List ℕ) (now : ℕ) (old new : AgentRecord H P) (s t : Stream) (emitted : Emitted)
       → MaintainsPairs mac now old s emitted new t → Grows old new
   maintains_pairs_grow mac now old new s t emitted (first, second, issued, named, kept, nominates, gives, check, is) =
-      let a : Grows old named = nominates_grows (at_timeout now old) named first nominates in
+      let a : Grows old named = nominates_grows (path_left now (at_timeout now old)) named first nominates in
       let b : Grows named kept = removes_expired_grows now named kept second gives in
       let c : Grows kept new = check_grows mac now kept.remote_creds kept new s t issued check in
       both old kept new (both old named kept a b) c
@@ -312,8 +314,12 @@ module _ {H P : Type 0} where
         (subst (λ (a : AgentRecord H P). Begins Done creds old.events a.events) (sym h.1) (begins creds keep old))
     reports (RestartIce creds keep) (Err error, is, h, drawn) =
         subst (λ (x : Entry). Begins x.answer creds old.events new.events) (sym is) (ap (λ (a : AgentRecord H P). a.events) (restart_kept old new creds keep error h))
-    reports RecreateCandidatePairs (Ok _, is, h, drawn) = both old (emptied old) new (state_grows Checking (record old { pairs = [] })) (forms_grows (emptied old) new _ h.1)
-    reports RecreateCandidatePairs (Err error, is, h, drawn) = stays old new (recreation_kept old new error h)
+    reports RecreateCandidatePairs (Ok _, is, h, drawn) =
+        recreates (is_modern old.timing) (both (unpaired old) (emptied old) new (state_grows Checking (unpaired old)) (forms_grows (emptied old) new _ h.1)) where
+          recreates : (modern : Bool) → Extends (events_kept modern old.events) new.events → Extends old.events new.events ⊎ Extends (events_kept true old.events) new.events
+          recreates true more = inr more
+          recreates false more = inl more
+    reports RecreateCandidatePairs (Err error, is, h, drawn) = inl (stays old new (recreation_kept old new error h))
     reports (ReceivePacket now via bytes) (h, drawn) = receives now via bytes h
     reports (HandleTimeout now) (r, emitted, is, h) = times_out_grows mac now old new s t r emitted h
     reports PollTransmit (given, is, (polled, made), drawn) = same_events old new (ap (λ (a : AgentRecord H P). a.events) made)

@@ -31,15 +31,17 @@ use Rattle.is_rules.proofs.PairLists.ChosenPair.{none_pass}
 use Rattle.is_theorems.specs.KindsInTurn.{kind_in}
 use Rattle.is_theorems.proofs.BasicLemmas.PairsInTurn.{in-turn, next-has, none-is-due, pairs-sent, sent_at}
 use Rattle.is_theorems.proofs.CallEffects.ServedRequests.{Has-mapped}
-use Rattle.is_theorems.proofs.DuePairs.AfterNominationAndRemoval.{Base, Distinct, Has-kept, base_of as agent_base, gives-up-thins, nominates-thins}
+use Rattle.is_theorems.proofs.DuePairs.AfterNominationAndRemoval.{Base, Distinct, Has-kept, base_of as agent_base, gives-up-thins, names-thins}
 use Rattle.is_theorems.proofs.DuePairs.FirstDuePair.{next-check}
-use Rattle.is_theorems.proofs.EarlierChecks.ChecksOfOtherPairs.{leads, Counts, Measure}
+use Rattle.is_theorems.proofs.EarlierChecks.ChecksOfOtherPairs.{leads, Counts, Measure, leads-filter}
 use Rattle.is_theorems.proofs.EarlierChecks.OneCheckFewer.{after-check, given-less, named-less, one-fewer-left}
 use Rattle.is_theorems.proofs.KindTurns.OrderOfKinds.{kind-within, same-kind}
 use Rattle.is_theorems.proofs.RuleEffects.ChangedPairs.{Has-map}
 use Rattle.is_theorems.proofs.RuleEffects.EarlierAndNewPairs.{Has-filter}
 use Rattle.is_theorems.proofs.RuleEffects.NominatedPairs.{selects_path, SelectsPath}
 use Rattle.is_theorems.proofs.RuleEffects.UnchangedSettings.{either}
+use Rattle.is_rules.specs.Leaving.{path_left, gives_way}
+use Rattle.is_theorems.proofs.RuleEffects.PathsThatAreLeft.{unselected-left}
 
 le-is : (n m : ℕ) → n ≤ m → nat_le n m ≡ true
 le-is n m h = grind (arith, nat_tests, h)
@@ -311,7 +313,7 @@ module _ {H P : Type 0} where
         → (h : MaintainsPairs mac now old s emitted new u)
         → (nominates_at_once (all_asked now h.4) ≡ false) × (Checks old emitted.issued p ⊎ Turns by now old emitted.issued new p)
     timeout-takes old new s u emitted known full distinct some turns none p has due stays (first, second, issued, named, kept, nominating, giving, checking, is) =
-        let a = nominates-thins 0 (at_timeout now old) named first nominating in
+        let a = names-thins 0 now (at_timeout now old) named first nominating in
         let b = gives-up-thins 0 now named kept second giving in
         let base : agent_base kept ≡ agent_base (at_timeout now old) = b.0 ∙ a.0 in
         let known_kept : is_some kept.remote_creds ≡ true = ap (λ (x : Base). is_some x.remote_creds) base ∙ known in
@@ -319,14 +321,16 @@ module _ {H P : Type 0} where
         let keeps = check-keeps kept new s u issued known_kept full_kept checking in
         let none_kept : kept.selected_pair ≡ None = sym keeps.1 ∙ none in
         let none_named : named.selected_pair ≡ None = sym (ap (λ (v : TurnView). v.selected_pair) (removes-none named kept second giving none_kept).0) ∙ none_kept in
-        let same : named ≡ at_timeout now old = nominates-none (at_timeout now old) named first nominating none_named in
+        let through : named ≡ path_left now (at_timeout now old) = nominates-none (path_left now (at_timeout now old)) named first nominating none_named in
+        let same : named ≡ at_timeout now old = through ∙ unselected-left now (at_timeout now old) (sym (ap (λ (a : AgentRecord H P). a.selected_pair) through) ∙ none_named) in
         let left : Leaves (at_timeout now old) kept = removes-none (at_timeout now old) kept second (subst (λ (x : AgentRecord H P). RemovesExpired now x second kept) same giving) none_kept in
         let view : view_of kept ≡ view_of old = left.0 in
         let issues : emitted.issued ≡ issued = ap (λ (x : Emitted). x.issued) is in
         let fewer : (w : Measure) → leads w by kept.pairs ≤ leads w by old.pairs =
-        (λ w. (let l : leads w by named.pairs ≤ leads w by old.pairs = named-less now by late early w (at_timeout now old) named first nominating in
+        (λ w. (let k : leads w by (path_left now (at_timeout now old)).pairs ≤ leads w by old.pairs = leads-filter w by (λ q. not (gives_way now (at_timeout now old) q)) old.pairs in
+        let l : leads w by named.pairs ≤ leads w by (path_left now (at_timeout now old)).pairs = named-less now by late early w (path_left now (at_timeout now old)) named first nominating in
         let m : leads w by kept.pairs ≤ leads w by named.pairs = given-less now by late early w named kept second giving in
-        omega (arith, l, m))) in (
+        omega (arith, k, l, m))) in (
           unselected-calm now kept none_kept,
           taken kept left.1 view issues fewer
               (check-takes kept new s u issued known_kept full_kept (λ x y x_has y_has one. distinct x y (left.1 x x_has) (left.1 y y_has) one)

@@ -38,7 +38,7 @@ module _ {H P : Type 0} where
       points_are_top mac answers (path_theorem mac answers) first s log fresh before mid after x point (point-of mid x.call x.entry at by m brings is) taken.0 taken.1
       (eligible after.controlling taken.0 controlling taken.3)
 
-  timeout-point : (now : ℕ) (old : AgentRecord H P) (call : Call P) (e : Entry) → call ≡ HandleTimeout now → e.answer ≡ Done → request_at now old ≡ None → IsNominationPoint old call e
+  pub timeout-point : (now : ℕ) (old : AgentRecord H P) (call : Call P) (e : Entry) → call ≡ HandleTimeout now → e.answer ≡ Done → request_at now old ≡ None → IsNominationPoint old call e
   timeout-point now old call e is done none = subst (λ (c : Call P). IsNominationPoint old c e) (sym is) (done, none)
 
   pub timeouts-announce : (mac : H → List ℕ → List ℕ → List ℕ) (answers : P → CandidateRecord → ℕ → ℕ → Type 0) → TimeoutsSelect mac answers

@@ -52,7 +52,7 @@ use Rattle.is_theorems.proofs.DuePairs.PollingCycles.{none-left, maintains_pairs
 use Rattle.is_theorems.proofs.CallEffects.FailedCallsAndNewAgents.{mtu_kept, controlling_kept, local_kept, enrolment_kept, storing_kept}
 use Rattle.is_theorems.proofs.StoredPairs.PairsThatStay.{none-entered, pairs-stay}
 use Rattle.is_theorems.proofs.RuleEffects.SelectedPaths.{one_pair}
-use Rattle.is_theorems.proofs.DuePairs.AfterNominationAndRemoval.{Base, Kept, answered-if, answered-on, answered_at, kept_of, last_time_of, stays-young}
+use Rattle.is_theorems.proofs.DuePairs.AfterNominationAndRemoval.{Base, Kept, answered-if, answered-on, answered_at, kept_of, last_time_of, lasts-young}
 use Rattle.is_theorems.proofs.EarlierChecks.AddedCandidates.{local-goes, remote-goes}
 use Rattle.is_rules.specs.Sound.{GivesBased}
 use Rattle.is_theorems.specs.FirstTimeouts.{IsReachedIn}
@@ -310,7 +310,7 @@ module _ {H P : Type 0} where
           | inr (d, before, (q, has, is, due, checks), fewer, falls) ↦
               (let stays : Stays old st.pair new = elim (pairs-stay mac answers old new s t (HandleTimeout now) e st.pair sound tt step st.there) [
                 | inl x ↦ x
-                | inr (was_done, none, gone) ↦ (let no : false ≡ true = ap not (sym gone) ∙ stays-young old.lite now old.timing st.pair st.checking.full (st.lasts now lasting) st.young in absurd (cc))
+                | inr (was_done, none, gone) ↦ (let no : false ≡ true = ap not (sym gone) ∙ lasts-young now old st.pair st.checking.full (st.lasts now lasting) st.young in absurd (cc))
               ] in
               let one : stays.pair ≡ q = one_pair new.pairs stays.pair q (rising-each new.pairs sound_new.rising) stays.there has (stays.number ∙ sym is) in
               let next : new.next_number ≡ old.next_number = ap (λ (b : Base). b.next_number) m.0 in

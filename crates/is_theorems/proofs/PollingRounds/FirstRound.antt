@@ -45,7 +45,7 @@ use Rattle.is_theorems.proofs.CallEffects.ServedRequests.{Has-mapped}
 use Rattle.is_theorems.proofs.DuePairs.PollingCycles.{none-left, maintains_pairs-from, distinct-sound}
 use Rattle.is_theorems.proofs.StoredPairs.PairsThatStay.{none-entered, pairs-stay}
 use Rattle.is_theorems.proofs.RuleEffects.SelectedPaths.{one_pair}
-use Rattle.is_theorems.proofs.DuePairs.AfterNominationAndRemoval.{Base, Kept, answered-if, answered-on, answered_at, kept_of, last_time_of, stays-young}
+use Rattle.is_theorems.proofs.DuePairs.AfterNominationAndRemoval.{Base, Kept, answered-if, answered-on, answered_at, kept_of, last_time_of, lasts-young}
 use Rattle.is_theorems.proofs.EarlierChecks.AddedCandidates.{local-goes, remote-goes}
 use Rattle.is_theorems.specs.FirstTimeouts.{IsReachedIn, PairsAreReachedFromDue, SufficesFromDue}
 use Rattle.is_theorems.proofs.EarlierChecks.FirstTimeout.{Other, timeout-goes}
@@ -137,7 +137,7 @@ module _ {H P : Type 0} where
           | inr (other, (d, before, (q, has, is, due, checks))) ↦
               (let stays : Stays old p new = elim (pairs-stay mac answers old new s t (HandleTimeout at) e p sound tt step line.there) [
                 | inl x ↦ x
-                | inr (was_done, none, gone) ↦ (let no : false ≡ true = ap not (sym gone) ∙ stays-young old.lite at old.timing p line.checking.full answered young in absurd (cc))
+                | inr (was_done, none, gone) ↦ (let no : false ≡ true = ap not (sym gone) ∙ lasts-young at old p line.checking.full answered young in absurd (cc))
               ] in
               let one : stays.pair ≡ q = one_pair new.pairs stays.pair q (rising-each new.pairs sound_new.rising) stays.there has (stays.number ∙ sym is) in
               let timing : new.timing ≡ old.timing = ap (λ (b : Base). b.timing) m.0 in

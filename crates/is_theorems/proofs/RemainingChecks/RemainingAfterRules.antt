@@ -44,7 +44,7 @@ use Rattle.is_rules.specs.Steps.{Entry, Receives}
 use Rattle.is_theorems.specs.NotStarved.{HaveConsent}
 use Rattle.is_rules.specs.Settling.{settled}
 use Rattle.is_rules.specs.Timeouts.{at_request, at_timeout, expired_gone, is_expired, timeout_begun, RemovesExpired, MaintainsPairs, TimesOut}
-use Rattle.is_theorems.proofs.DuePairs.AfterNominationAndRemoval.{Base, Thins, consent-same, nominates-thins}
+use Rattle.is_theorems.proofs.DuePairs.AfterNominationAndRemoval.{Base, Thins, consent-same, names-thins}
 use Rattle.is_theorems.proofs.RuleEffects.UnchangedSettings.{either}
 use Rattle.is_theorems.proofs.RuleEffects.ChangedPairs.{self_kept}
 use Rattle.is_theorems.proofs.RuleEffects.TriggeredPairs.{triggered_by, by_trigger}
@@ -54,6 +54,8 @@ use Rattle.is_theorems.proofs.RemainingChecks.RemainingOfPairs.{unspent, unspent
 use Rattle.is_theorems.proofs.BasicLemmas.PairsInTurn.{by-begins, sent-pairs, sent_at}
 use Rattle.is_theorems.proofs.BasicLemmas.ServedPairs.{numbered-by}
 use Rattle.is_theorems.proofs.RuleEffects.NotedErrors.{coded, recoded, by_failure}
+use Rattle.is_rules.specs.Leaving.{path_left, gives_way}
+use Rattle.is_theorems.proofs.RuleEffects.PathsThatAreLeft.{gives-stores}
 
 -- what stays of the agent
 pub record Held : Type 0 where
@@ -251,6 +253,20 @@ module _ {H P : Type 0} where
 
       -- ---- timeouts
 
+      -- a pair that gives way sent all its checks
+      leaves-spends : (now : ℕ) (a : AgentRecord H P) → a.timing.max_retransmits ≡ m → Spends 0 a (path_left now a)
+      leaves-spends now a same_most = (
+        refl,
+        omega arith,
+        (let le = unspents-filter m (λ p. not (gives_way now a p)) a.pairs (λ p has is. spent p (not-kept (gives_way now a p) is)) in omega (arith, le)),
+      ) where
+        not-kept : (b : Bool) → not b ≡ false → b ≡ true
+        not-kept true h = refl
+        not-kept false h = absurd (let no : true ≡ false = h in cc)
+
+        spent : (p : PairRecord) → gives_way now a p ≡ true → unspent m p ≡ 0
+        spent p gives = let many = gives-stores now a p gives in omega (arith, many, same_most)
+
       gives-up : (now : ℕ) (old new : AgentRecord H P) (path : Option Path) → old.lite ≡ false → old.timing.max_retransmits ≡ m → HaveConsent now old → RemovesExpired now old path new → Spends 0 old new × (rises old.pairs ≡ true → rises new.pairs ≡ true)
       gives-up now old new path full same_most consents h = either (list_any (is_expired now old) old.pairs) h
           (λ _ k. (
@@ -291,11 +307,12 @@ module _ {H P : Type 0} where
       maintains : (now : ℕ) (old new : AgentRecord H P) (s t : Stream) (emitted : Emitted) → old.lite ≡ false → old.timing.max_retransmits ≡ m → rises old.pairs ≡ true → HaveConsent now old
           → MaintainsPairs mac now old s emitted new t → Spends 1 old new
       maintains now old new s t emitted full same_most rising consents (first, second, issued, named, kept, nominating, giving, checking, is) =
-          let a = nominates-spends (at_timeout now old) named first nominating in
+          let a = spends-on 0 0 (at_timeout now old) (path_left now (at_timeout now old)) named (leaves-spends now (at_timeout now old) same_most)
+          (nominates-spends (path_left now (at_timeout now old)) named first nominating) in
           let named_full : named.lite ≡ false = ap (λ (x : Held). x.lite) a.0 ∙ full in
           let named_most : named.timing.max_retransmits ≡ m = ap (λ (x : Held). x.timing.max_retransmits) a.0 ∙ same_most in
-          let b = gives-up now named kept second named_full named_most (consents-named (nominates-thins 0 (at_timeout now old) named first nominating)) giving in
-          let kept_rising = b.1 (nominates-rises (at_timeout now old) named first nominating ∙ rising) in
+          let b = gives-up now named kept second named_full named_most (consents-named (names-thins 0 now (at_timeout now old) named first nominating)) giving in
+          let kept_rising = b.1 (nominates-rises (path_left now (at_timeout now old)) named first nominating ∙ rises-filter (λ p. not (gives_way now (at_timeout now old) p)) old.pairs rising) in
           let c = check now kept.remote_creds kept new s t issued (ap (λ (x : Held). x.lite) b.0.0 ∙ named_full) kept_rising checking in
           let all = spends-on 0 1 (at_timeout now old) kept new (spends-on 0 0 (at_timeout now old) named kept a b.0) c in
           (all.0, all.1, all.2) where

@@ -54,6 +54,7 @@ use Rattle.is_theorems.proofs.BasicLemmas.CandidatesByIndex.{at-end}
 use Rattle.is_theorems.proofs.RuleEffects.TriggeredPairs.{triggered_by, by_trigger}
 use Rattle.is_theorems.proofs.BasicLemmas.ServedPairs.{numbered-by}
 use Rattle.is_theorems.proofs.RuleEffects.NotedErrors.{recoded, by_failure}
+use Rattle.is_rules.specs.Leaving.{path_left}
 
 -- a request leaves the number and the indices of its pair
 pub record SamePlace (p q : PairRecord) : Type 0 where
@@ -126,7 +127,7 @@ module _ {H P : Type 0} where
       → new.last_nominated ≡ old.last_nominated
   maintains-last mac now old new s t emitted (first, second, issued, named, kept, nominating, giving, checking, is) =
       check-last mac now kept.remote_creds kept new s t issued checking
-      ∙ (gives-up-last now named kept second giving ∙ nominates-last (at_timeout now old) named first nominating)
+      ∙ (gives-up-last now named kept second giving ∙ nominates-last (path_left now (at_timeout now old)) named first nominating)
 
   success-last : (now : ℕ) (old new : AgentRecord H P) (via : Path) (m : Message) (emitted : Emitted) → TakesSuccess now old via m emitted new → new.last_nominated ≡ old.last_nominated
   success-last now old new via m emitted (recorded, (place, p, after, found, on, takes, made), (path, named, nominating, is, concluded)) =

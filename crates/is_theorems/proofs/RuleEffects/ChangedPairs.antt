@@ -17,6 +17,7 @@ use Rattle.is_theorems.proofs.RuleEffects.SelectedPaths.{Evaluates, evaluates_no
 use Rattle.is_theorems.proofs.RuleEffects.EarlierAndNewPairs.{Parts, path_in, Fit, IsConsented, IsStarted, IsNominatedIn, Persisted, Onward, here, onward, thinned, Has-filter}
 use Rattle.is_rules.proofs.PairLists.ChosenPair.{chosen-able}
 use Rattle.is_theorems.proofs.RuleEffects.NominatedPairs.{selected_paths, SelectsPath, selects_path}
+use Rattle.is_rules.specs.Leaving.{gives_way, path_left}
 
 pub Has-map : {X Y : Type 0} (f : X → Y) (xs : List X) (y : Y) → Has (map f xs) y → (x : X) × Has xs x × (f x ≡ y)
 Has-map f [] y h = absurd h
@@ -261,6 +262,21 @@ module _ (asks : Path → ℕ → Type 0) (met : Path → Type 0) (sent : Path �
     pub nominates : (old new : AgentRecord H P) (path : Option Path) → ((old.controlling || old.lite) ≡ true → (p : Path) (m : ℕ) → asks p m) → Fit (parts_of old) → Nominates old path new
         → Onward asks met sent (parts_of old) (parts_of new) × Evaluates asks met sent (parts_of old) (parts_of new) old.selected_pair new.selected_pair path
     nominates old new path free fit h = selects_one old new path free fit (selects_path old new path h)
+
+    -- nomination, after the selected pair may have given way
+    pub names_moves : (now : ℕ) (old new : AgentRecord H P) (path : Option Path) → ((old.controlling || old.lite) ≡ true → (p : Path) (m : ℕ) → asks p m) → Fit (parts_of old) → Nominates (path_left now old) path new
+        → Onward asks met sent (parts_of old) (parts_of new) × Evaluates asks met sent (parts_of old) (parts_of new) old.selected_pair new.selected_pair path
+    names_moves now old new path free fit h =
+        let first = thinned asks met sent (parts_of old) (λ p. not (gives_way now old p)) fit in
+        let second = nominates (path_left now old) new path free first.fit h in (
+          onward asks met sent (parts_of old) (parts_of (path_left now old)) (parts_of new) first second.0,
+          record {
+            valid = λ p is. (let v = second.1.valid p is in (v.0, Has-filter (λ q. not (gives_way now old q)) old.pairs v.0 v.1, v.2, v.3));
+            asked = λ p is. elim (second.1.asked p is) [ inl v ↦ inl (v.0, Has-filter (λ q. not (gives_way now old q)) old.pairs v.0 v.1, v.2, v.3) | inr m ↦ inr m ];
+            stays = second.1.stays;
+            names = second.1.names;
+          },
+        )
 
     -- pairs that are removed after timeout
     pub removes_expired_moves : (now : ℕ) (old new : AgentRecord H P) (path : Option Path) → ((old.controlling || old.lite) ≡ true → (p : Path) (m : ℕ) → asks p m) → Fit (parts_of old) → RemovesExpired now old path new

@@ -43,6 +43,7 @@ use Rattle.is_theorems.proofs.SettledStates.Outcomes.{after-preparing, at-rest, 
 use Rattle.is_theorems.proofs.SettledStates.SelectedPairs.{begun-evaluated, begun-next, evaluated-connects, map-selected, nominates-selects, nominates-state, Selects}
 use Rattle.is_theorems.proofs.RuleEffects.NotedErrors.{coded, recoded, by_failure}
 use Rattle.is_rules.specs.Emitted.{nothing_emitted}
+use Rattle.is_rules.specs.Leaving.{path_left}
 
 module _ {H P : Type 0} where
   -- ---- responses
@@ -159,10 +160,10 @@ module _ {H P : Type 0} where
         by true is = ap (λ z. same_state z New) (state-is true is) ∙ settles-begun old is
         by false is = ap (λ z. same_state z New) (state-is false is) ∙ begun-next old.state (has_nominated old) (has_possible now old) old.lite
 
-      module _ (named kept : AgentRecord H P) (first second : Option Path) (nominating : Nominates base first named)
+      module _ (named kept : AgentRecord H P) (first second : Option Path) (nominating : Nominates (path_left now base) first named)
           (giving : RemovesExpired now named second kept) where
         named-begun : same_state named.state New ≡ false
-        named-begun = ap (λ z. same_state z New) (nominates-state base named first nominating) ∙ base-begun
+        named-begun = ap (λ z. same_state z New) (nominates-state (path_left now base) named first nominating) ∙ base-begun
 
         settled-begun : (b : Bool) → same_state (if b then state_at now named else named.state) New ≡ false
         settled-begun true = begun-next named.state (has_nominated named) (has_possible now named) named.lite
@@ -176,7 +177,7 @@ module _ {H P : Type 0} where
         kept-selects : HasNominated kept.pairs → Selects kept
         kept-selects = either (list_any (is_expired now named) named.pairs) giving
             (λ _ k. subst (λ (a : AgentRecord H P). HasNominated a.pairs → Selects a) (sym k.2) (nominates-selects (expired_gone now named) k.0 second k.1))
-            (λ _ k. subst (λ (a : AgentRecord H P). HasNominated a.pairs → Selects a) (sym k.1) (nominates-selects base named first nominating))
+            (λ _ k. subst (λ (a : AgentRecord H P). HasNominated a.pairs → Selects a) (sym k.1) (nominates-selects (path_left now base) named first nominating))
 
         kept-connects : HasRules old → HasNominated kept.pairs → is_connected kept.state ≡ true
         kept-connects rules = either (list_any (is_expired now named) named.pairs) giving
@@ -185,7 +186,7 @@ module _ {H P : Type 0} where
             (λ _ k. subst (λ (a : AgentRecord H P). HasNominated a.pairs → is_connected a.state ≡ true) (sym k.1) (λ live.
             ap (λ (b : Bool). is_connected (if b then state_at now named else named.state)) on ∙ evaluated-connects now named named-begun live)) where
               on : settles named ≡ true
-              on = settles-named base named first nominating
+              on = settles-named (path_left now base) named first nominating
                   ∙ (ap (λ (state : IceConnectionState). is_modern old.timing && not (same_state state New)) (state-is true rules.0) ∙ rules.0)
 
       maintains : (new : AgentRecord H P) (s t : Stream) (emitted : Emitted) → MaintainsPairs mac now (timeout_begun now old) s emitted new t → Settles old new

@@ -57,6 +57,7 @@ use Rattle.is_theorems.proofs.BasicLemmas.PairsInTurn.{sent-pairs, sent_at}
 use Rattle.is_stun.specs.declared.timing.StunTiming.{StunTiming}
 use Rattle.is_theorems.proofs.BasicLemmas.ServedPairs.{numbered-by}
 use Rattle.is_theorems.proofs.RuleEffects.NotedErrors.{coded, recoded, by_failure}
+use Rattle.is_rules.specs.Leaving.{path_left, gives_way}
 
 -- the local candidate at the index was not brought by a response
 abbrev pub own_at : List CandidateRecord → ℕ → Bool
@@ -232,7 +233,9 @@ module _ {H P : Type 0} where
 
   maintains_pairs_fewer : (mac : H → List ℕ → List ℕ → List ℕ) (now : ℕ) (old new : AgentRecord H P) (s t : Stream) (emitted : Emitted) → MaintainsPairs mac now old s emitted new t → Fewer old new
   maintains_pairs_fewer mac now old new s t emitted (first, second, issued, named, kept, nominating, giving, checking, is) =
-      on old named new (nominates_fewer (at_timeout now old) named first nominating)
+      on old named new
+      (on old (path_left now (at_timeout now old)) named (extras-filter (own_at old.local) (λ p. not (gives_way now (at_timeout now old) p)) old.pairs)
+      (nominates_fewer (path_left now (at_timeout now old)) named first nominating))
       (on named kept new (removes_expired_fewer now named kept second giving) (check_fewer mac now kept.remote_creds kept new s t issued checking))
 
   -- ---- responses

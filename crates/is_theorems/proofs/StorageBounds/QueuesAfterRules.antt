@@ -1,5 +1,5 @@
 -- How the rules change the queues of packets and events.
-use Rattle.std.proofs.Common.{is_some, ◌≡◌, ℕ, ◌+◌, ◌≤◌, ◌&&◌, Bool, true, false, not, List, [], ◌∷◌, ◌++◌, length, count_by, Option, Some, None, refl, sym, subst, ap, ◌∙◌, arith, cond, if◌then◌else◌}
+use Rattle.std.proofs.Common.{is_some, ◌≡◌, ℕ, ◌+◌, ◌≤◌, ◌&&◌, Bool, true, false, not, List, [], ◌∷◌, ◌++◌, filter, length, count_by, Option, Some, None, refl, sym, subst, ap, ◌∙◌, arith, cond, if◌then◌else◌}
 use Rattle.std.specs.Prelude.{MatchOption}
 use Rattle.std.specs.List.{list_any}
 use Rattle.std.proofs.lemmas.List.{length-append}
@@ -10,6 +10,7 @@ use Rattle.is_candidate.specs.Candidates.{candidate_at}
 use Rattle.is_pair.specs.Multiset.{is_valid_at}
 use Rattle.is_pair.specs.Pairs.{PairRecord}
 use Rattle.is_stun.specs.Message.{Message}
+use Rattle.is_stun.specs.Timing.{is_modern}
 use Rattle.is_rules.specs.declared.credentials.IceCreds.{IceCreds}
 use Rattle.is_rules.specs.declared.emitted.Emitted.{Emitted}
 use Rattle.is_rules.specs.declared.emitted.Issued.{Issued}
@@ -29,6 +30,7 @@ use Rattle.is_rules.specs.Forming.{Combination, FormsAll, formed, with_pair}
 use Rattle.is_rules.specs.Nominating.{Nominates, NominatesWhere, nominated_emitted, with_selection}
 use Rattle.is_rules.specs.Places.{local_place}
 use Rattle.is_rules.specs.Request.{RequestRecord}
+use Rattle.is_rules.specs.Restarting.{events_kept, is_selection, unpaired}
 use Rattle.is_rules.specs.Roles.{conflict_of, switched}
 use Rattle.is_rules.specs.Serving.{trigger_time, selects_at_requests, is_misled, names_another, pair_served, request_counted, with_sender, with_sender_at, Drops, Queues, RecordsAndResponds, FindsOrAddsPair, AddsUnknownSender, CountsAndServes, ResolvesRoleConflictBy, ResolvesRoleConflict, Serves}
 use Rattle.is_rules.specs.States.{evaluated, has_nominated, has_possible, next_state, same_state, with_state}
@@ -38,6 +40,7 @@ use Rattle.is_theorems.proofs.RuleEffects.Reselection.{by-reselecting}
 use Rattle.is_theorems.proofs.RuleEffects.UnchangedSettings.{either}
 use Rattle.is_theorems.specs.Waiting.{is_discovery, discovery_count, other_count}
 use Rattle.is_theorems.proofs.RuleEffects.NotedErrors.{recoded, by_failure}
+use Rattle.is_rules.specs.Leaving.{path_left}
 
 -- ---- queues
 
@@ -107,6 +110,17 @@ unless-event : (b : Bool) (old : Lines) (e : IceAgentEvent) → is_discovery e �
 unless-event true old e is = one-event old e is
 unless-event false old e is = up 0 0 0 1 old old (omega arith) (omega arith) (alike old old refl)
 
+-- no more of a kind are left of those that pass
+few-left : (t u : IceAgentEvent → Bool) (es : List IceAgentEvent) → count_by t (filter u es) ≤ count_by t es
+few-left t u [] = omega arith
+few-left t u (e ∷ rest) =
+    let all = sum_by-cons (λ (x : IceAgentEvent). cond (t x) 1 0) e rest in
+    let few = few-left t u rest in
+    elim (u e) as (λ b. count_by t (if b then e ∷ filter u rest else filter u rest) ≤ count_by t (e ∷ rest)) [
+      | true ↦ let left = sum_by-cons (λ (x : IceAgentEvent). cond (t x) 1 0) e (filter u rest) in omega (arith, all, few, left)
+      | false ↦ omega (arith, all, few)
+    ]
+
 module _ {H P : Type 0} where
   abbrev pub lines_of : AgentRecord H P → Lines
   lines_of a = record { limit = a.max_discovered; packets = a.packets; events = a.events }
@@ -129,6 +143,17 @@ module _ {H P : Type 0} where
 
   pub most : (p k q m : ℕ) (a b : AgentRecord H P) → p ≤ q → k ≤ m → Adds p k a b → Adds q m a b
   most p k q m a b one two f = up p k q m (lines_of a) (lines_of b) one two f
+
+  -- the events that are kept when the pairs are cleared
+  pub unpaired_adds : (a : AgentRecord H P) → Adds 0 0 a (unpaired a)
+  unpaired_adds a = by (is_modern a.timing) where
+    by : (b : Bool) → Grows 0 0 (lines_of a) (record (lines_of a) { events = events_kept b a.events })
+    by true =
+        let keeps = λ (x : IceAgentEvent). not (is_selection x) in
+        let others = few-left (λ x. not (is_discovery x)) keeps a.events in
+        let discoveries = few-left is_discovery keeps a.events in
+        record { limit = refl; packets = omega arith; others = omega (arith, others); discoveries = omega (arith, discoveries) }
+    by false = alike (lines_of a) (lines_of a) refl
 
   -- ---- states and nomination
 
@@ -184,7 +209,7 @@ module _ {H P : Type 0} where
   pub maintains_adds : (mac : H → List ℕ → List ℕ → List ℕ) (now : ℕ) (old new : AgentRecord H P) (s t : Stream) (emitted : Emitted) → MaintainsPairs mac now old s emitted new t → Adds 1 3 old new
   maintains_adds mac now old new s t emitted (first, second, issued, named, kept, nominating, giving, checking, is) =
       more 0 3 1 0 old kept new
-      (more 0 1 0 2 old named kept (nominates_adds (at_timeout now old) named first nominating) (removes_expired_adds now named kept second giving))
+      (more 0 1 0 2 old named kept (nominates_adds (path_left now (at_timeout now old)) named first nominating) (removes_expired_adds now named kept second giving))
       (check_adds mac now kept.remote_creds kept new s t issued checking)
 
   -- ---- responses

@@ -28,7 +28,7 @@ use Rattle.is_rules.specs.Polls.{IsPolled}
 use Rattle.is_rules.specs.Queue.{first_taken, request_at}
 use Rattle.is_rules.specs.Remote.{AddsRemote}
 use Rattle.is_rules.specs.Request.{RequestRecord, request_in}
-use Rattle.is_rules.specs.Restarting.{Restarts, Recreates, cleared, emptied}
+use Rattle.is_rules.specs.Restarting.{Restarts, Recreates, cleared, emptied, unpaired}
 use Rattle.is_rules.specs.Serving.{Serves}
 use Rattle.is_rules.specs.Settings.{SetsControlling, SetsMtu}
 use Rattle.is_rules.specs.Settling.{loses_selected, Reselects}
@@ -43,7 +43,7 @@ use Rattle.is_theorems.specs.Shared.{IsNewlyCreated, SharedRun}
 use Rattle.is_theorems.specs.Waiting.{is_taken, packets_of, leaves_no_packet, finds_no_packet, most_packets, is_discovery, discovery_count, other_count, events_of, leaves_no_event, finds_no_event, most_events, QueuesAreShort}
 use Rattle.is_theorems.proofs.ExecutionLogs.SharedRandomSource.{sound_run}
 use Rattle.is_theorems.proofs.StoredPairs.PairsThatStay.{none-entered}
-use Rattle.is_theorems.proofs.StorageBounds.QueuesAfterRules.{Lines, Grows, count-more, counts-all, lines_of, Adds, same, kept, more, most, state_adds, begun_adds, maintains_adds, success_adds, failure_adds, forms_adds, reselects_adds, serves_adds, requested_adds}
+use Rattle.is_theorems.proofs.StorageBounds.QueuesAfterRules.{Lines, Grows, count-more, counts-all, lines_of, Adds, same, kept, more, most, state_adds, unpaired_adds, begun_adds, maintains_adds, success_adds, failure_adds, forms_adds, reselects_adds, serves_adds, requested_adds}
 
 -- ---- what waits
 
@@ -258,7 +258,8 @@ module _ {H P : Type 0} where
           let g : Adds 0 0 old new = kept old new (recreation_kept old new error h) in
           (λ m n w. rests g (if is_taken e.answer then 0 else 0) (if is_taken e.answer then events_of {P = P} RecreateCandidatePairs else 0) m n w, λ limit limited. holds limit 0 0 old new g)
       recreates (Ok _, is, (enough, f), drawn) =
-          let g : Adds 0 1 old new = more 0 1 0 0 old (emptied old) new (state_adds Checking (record old { pairs = [] })) (forms_adds (emptied old) new _ f) in (
+          let g : Adds 0 1 old new = more 0 0 0 1 old (unpaired old) new (unpaired_adds old)
+          (more 0 1 0 0 (unpaired old) (emptied old) new (state_adds Checking (unpaired old)) (forms_adds (emptied old) new _ f)) in (
             λ m n w. subst (λ (x : Entry). Waits (after (is_taken x.answer) 0 false m) (after (is_taken x.answer) (events_of {P = P} RecreateCandidatePairs) false n) (lines_of new)) (sym is)
                 (grown 0 1 0 (events_of {P = P} RecreateCandidatePairs) m n (lines_of old) (lines_of new) (omega arith) (omega arith) g w),
             λ limit limited. holds limit 0 1 old new g,

@@ -19,6 +19,7 @@ use Rattle.is_theorems.proofs.RuleEffects.Reselection.{by-reselecting}
 use Rattle.is_theorems.proofs.RuleEffects.UnchangedSettings.{either}
 use Rattle.is_theorems.proofs.StorageBounds.BoundedLists.{Lists}
 use Rattle.is_theorems.proofs.RuleEffects.NotedErrors.{recoded, by_failure}
+use Rattle.is_rules.specs.Leaving.{path_left}
 
 module _ {H P : Type 0} where
   abbrev pub lists_of : AgentRecord H P → Lists
@@ -64,7 +65,7 @@ module _ {H P : Type 0} where
   pub maintains_pairs_same : (mac : H → List ℕ → List ℕ → List ℕ) (now : ℕ) (old new : AgentRecord H P) (s t : Stream) (emitted : Emitted) → MaintainsPairs mac now old s emitted new t → Same old new
   maintains_pairs_same mac now old new s t emitted (first, second, issued, named, kept, nominating, giving, checking, is) =
       check_same mac now kept.remote_creds kept new s t issued checking
-      ∙ (removes_expired_same now named kept second giving ∙ nominates_same (at_timeout now old) named first nominating)
+      ∙ (removes_expired_same now named kept second giving ∙ nominates_same (path_left now (at_timeout now old)) named first nominating)
 
   -- a response changes them as its mapped address does
   pub success_same : (now : ℕ) (old new : AgentRecord H P) (via : Path) (m : Message) (emitted : Emitted) → TakesSuccess now old via m emitted new

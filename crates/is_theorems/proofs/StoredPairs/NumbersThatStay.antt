@@ -39,12 +39,13 @@ use Rattle.is_theorems.proofs.RuleEffects.UnchangedSettings.{either}
 use Rattle.is_theorems.proofs.RuleEffects.NominatedPairs.{SelectsPath, selects_path, expired_nominated}
 use Rattle.is_theorems.proofs.CallEffects.ServedRequests.{Has-mapped}
 use Rattle.is_theorems.proofs.RuleEffects.SelectedPaths.{some_is}
-use Rattle.is_theorems.proofs.DuePairs.AfterNominationAndRemoval.{Base, Has-kept, nominates-thins}
+use Rattle.is_theorems.proofs.DuePairs.AfterNominationAndRemoval.{Base, base_of as agent_base, Has-kept, names-thins}
 use Rattle.is_theorems.proofs.RuleEffects.Reselection.{by-reselecting}
 use Rattle.is_theorems.proofs.RuleEffects.TriggeredPairs.{triggered_by, by_trigger}
 use Rattle.is_theorems.proofs.BasicLemmas.PairsInTurn.{by-begins, sent-pairs, sent_at}
 use Rattle.is_theorems.proofs.BasicLemmas.ServedPairs.{numbered-by}
 use Rattle.is_theorems.proofs.RuleEffects.NotedErrors.{coded, recoded, by_failure}
+use Rattle.is_rules.specs.Leaving.{path_left, gives_way}
 
 -- ---- lists
 
@@ -147,6 +148,10 @@ self-kept c l n p lite now t = apart (is_numbered n p) (not (is_nominated p) && 
   apart true false l = (follows-same p, refl)
   apart false b l = (follows-same p, refl)
 
+or-true : (b : Bool) → (b || true) ≡ true
+or-true true = refl
+or-true false = refl
+
 module _ {H P : Type 0} where
   abbrev pub Keep : AgentRecord H P → AgentRecord H P → Type 0
   Keep old new = Keeps old.pairs new.pairs
@@ -222,18 +227,24 @@ module _ {H P : Type 0} where
               (λ q. if-follows (is_numbered p.number q) q (change q) q (sent-follows begins now old.timing old.controlling id q) (follows-same q))))) made
 
     pub maintains_pairs-leaves : (now : ℕ) (old new : AgentRecord H P) (s t : Stream) (emitted : Emitted) → MaintainsPairs mac now old s emitted new t → (p : PairRecord) → Has old.pairs p
-        → Persists p.number (is_asked p) new.pairs ⊎ (is_expired now old p ≡ true)
-    maintains_pairs-leaves now old new s t emitted (first, second, issued, named, kept, nominating, giving, checking, is) p has =
-        let n = nominates-leaves now (at_timeout now old) named first nominating p has in
-        let base = (nominates-thins 0 (at_timeout now old) named first nominating).0 in
-        elim (gives-up-leaves now named kept second giving n.0 n.1) [
-          | inl k ↦ inl (keep-check now kept.remote_creds kept new s t issued checking p.number (is_asked p) (moved kept.pairs n.0 n.2 k))
-          | inr gone ↦
-              inr (sym n.3
-              ∙ (sym (ap (λ (b : Base). due.is_pair_expired b.lite now b.timing n.0) base) ∙ gone))
-        ] where
-          moved : (ps : List PairRecord) (o : PairRecord) → Follows p o → Persists o.number (is_asked o) ps → Persists p.number (is_asked p) ps
-          moved ps o f (r, there, number, asked) = (r, there, number ∙ f.0, λ on. asked (f.1 on))
+        → Persists p.number (is_asked p) new.pairs ⊎ ((is_expired now old p || gives_way now old p) ≡ true)
+    maintains_pairs-leaves now old new s t emitted (first, second, issued, named, kept, nominating, giving, checking, is) p has = by (gives_way now old p) refl where
+      moved : (ps : List PairRecord) (o : PairRecord) → Follows p o → Persists o.number (is_asked o) ps → Persists p.number (is_asked p) ps
+      moved ps o f (r, there, number, asked) = (r, there, number ∙ f.0, λ on. asked (f.1 on))
+
+      base : agent_base named ≡ agent_base (at_timeout now old)
+      base = (names-thins 0 now (at_timeout now old) named first nominating).0
+
+      by : (b : Bool) → gives_way now old p ≡ b → Persists p.number (is_asked p) new.pairs ⊎ ((is_expired now old p || b) ≡ true)
+      by true is_so = inr (or-true (is_expired now old p))
+      by false is_so =
+          let n = nominates-leaves now (path_left now (at_timeout now old)) named first nominating p
+          (Has-kept (λ q. not (gives_way now (at_timeout now old) q)) old.pairs p has (ap not is_so)) in
+          elim (gives-up-leaves now named kept second giving n.0 n.1) [
+            | inl k ↦ inl (keep-check now kept.remote_creds kept new s t issued checking p.number (is_asked p) (moved kept.pairs n.0 n.2 k))
+            | inr gone ↦
+                inr (ap (λ e. e || false) (sym n.3 ∙ (sym (ap (λ (b : Base). due.is_pair_expired b.lite now b.timing n.0) base) ∙ gone)))
+          ]
 
     -- ---- requests
 

@@ -1,5 +1,5 @@
 -- A pair stays over each step, and over each execution segment, that does not remove it.
-use Rattle.std.proofs.Common.{◌≡◌, ℕ, ◌<◌, ◌≤◌, ◌==◌, ◌&&◌, Bool, true, false, not, List, [], ◌∷◌, ◌++◌, map, Option, Some, None, Result, Ok, Err, inl, inr, ◌⊎◌, refl, ap, sym, ◌∙◌, subst, arith, append_assoc, if◌then◌else◌}
+use Rattle.std.proofs.Common.{◌≡◌, ℕ, ◌<◌, ◌≤◌, ◌==◌, ◌&&◌, ◌||◌, Bool, true, false, not, List, [], ◌∷◌, ◌++◌, map, Option, Some, None, Result, Ok, Err, inl, inr, ◌⊎◌, refl, ap, sym, ◌∙◌, subst, arith, append_assoc, if◌then◌else◌}
 use Rattle.std.specs.Prelude.{MatchOption, nat_lt}
 use Rattle.std.proofs.lemmas.Bool.{eqb-true}
 use Rattle.rand_core.specs.Stream.{Stream}
@@ -39,6 +39,7 @@ use Rattle.is_rules.proofs.PairLists.RisingNumbers.{below-each, rising-each}
 use Rattle.is_theorems.proofs.StoredPairs.NumbersThatStay.{is_asked, Persists, Keeps, Keep, keeps-map, keep-same, keep-as, keep-reselects, by-class, keep-serves, maintains_pairs-leaves}
 use Rattle.is_theorems.proofs.RuleEffects.SelectedPaths.{one_pair}
 use Rattle.is_theorems.proofs.DuePairs.AfterNominationAndRemoval.{Has-kept}
+use Rattle.is_rules.specs.Leaving.{gives_way}
 
 keeps-if : (b : Bool) (xs ys : List PairRecord) → Keeps xs ys → Keeps xs (if b then xs else ys)
 keeps-if true xs ys k n asks h = h
@@ -119,7 +120,7 @@ module _ {H P : Type 0} where
 
       timeout-by : (now : ℕ) (emitted : Emitted) (o : Option RequestRecord) → request_at now old ≡ o → e.answer ≡ Done
           → MatchOption o (MaintainsPairs mac now (timeout_begun now old) s emitted new t) (λ q. ServesQueued mac q (at_request now (timeout_begun now old)) s emitted new t)
-          → Persists p.number (is_asked p) new.pairs ⊎ ((e.answer ≡ Done) × (request_at now old ≡ None) × (is_expired now old p ≡ true))
+          → Persists p.number (is_asked p) new.pairs ⊎ ((e.answer ≡ Done) × (request_at now old ≡ None) × ((is_expired now old p || gives_way now old p) ≡ true))
       timeout-by now emitted None none is_done h = elim (maintains_pairs-leaves mac now (timeout_begun now old) new s t emitted h p has) [
         | inl persists ↦ inl persists
         | inr gone ↦ inr (is_done, none, gone)

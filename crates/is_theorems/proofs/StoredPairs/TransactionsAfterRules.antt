@@ -43,7 +43,7 @@ use Rattle.is_theorems.proofs.RuleEffects.NominatedPairs.{SelectsPath, selects_p
 use Rattle.is_theorems.proofs.BasicLemmas.PairsInTurn.{next-has, sent-number, sent-pairs, sent_at}
 use Rattle.is_theorems.proofs.CallEffects.ServedRequests.{Has-mapped}
 use Rattle.is_theorems.proofs.RuleEffects.SelectedPaths.{some_is}
-use Rattle.is_theorems.proofs.DuePairs.AfterNominationAndRemoval.{Base, Has-kept, nominates-thins, gives-up-thins}
+use Rattle.is_theorems.proofs.DuePairs.AfterNominationAndRemoval.{Base, base_of as agent_base, Has-kept, names-thins, gives-up-thins}
 use Rattle.is_theorems.proofs.StoredPairs.StoredChecks.{number_same}
 use Rattle.is_theorems.specs.Pending.{as_sent, sent_of}
 use Rattle.is_rules.specs.Sending.{path_of}
@@ -51,6 +51,7 @@ use Rattle.is_theorems.proofs.RuleEffects.Reselection.{by-reselecting}
 use Rattle.is_theorems.proofs.RuleEffects.TriggeredPairs.{triggered_by, by_trigger}
 use Rattle.is_theorems.proofs.BasicLemmas.ServedPairs.{numbered-by}
 use Rattle.is_theorems.proofs.RuleEffects.NotedErrors.{coded, recoded, by_failure}
+use Rattle.is_rules.specs.Leaving.{path_left, gives_way}
 
 -- ---- lists
 
@@ -152,6 +153,10 @@ sent-last kept p c own =
     let all : map as_sent xs ≡ sent_of p ++ c ∷ [] = map-append as_sent p.checks (c ∷ []) ∙ ap (λ (y : Check). sent_of p ++ y ∷ []) own in
     sym (drop-map as_sent (length xs - kept) xs)
     ∙ (ap (λ n. drop (n - kept) (map as_sent xs)) (sym (length-map xs as_sent)) ∙ ap (λ ys. last_checks kept ys) all)
+
+or-true : (b : Bool) → (b || true) ≡ true
+or-true true = refl
+or-true false = refl
 
 module _ {H P : Type 0} where
   abbrev pub Keep : AgentRecord H P → AgentRecord H P → Type 0
@@ -295,22 +300,28 @@ module _ {H P : Type 0} where
                 )
 
     pub maintains_pairs : (now : ℕ) (old new : AgentRecord H P) (s t : Stream) (emitted : Emitted) → MaintainsPairs mac now old s emitted new t → (p : PairRecord) → Has old.pairs p
-        → Persists p new.pairs ⊎ (Sends old.timing.max_retransmits p emitted.issued new ⊎ (is_expired now old p ≡ true))
-    maintains_pairs now old new s t emitted (first, second, issued, named, kept, nominating, giving, checking, is) p has =
-        let n = nominates-leaves now (at_timeout now old) named first nominating p has in
-        let base = (nominates-thins 0 (at_timeout now old) named first nominating).0 in
-        let further = (gives-up-thins 0 now named kept second giving).0 in
-        let timing : kept.timing ≡ old.timing = ap (λ (b : Base). b.timing) further ∙ ap (λ (b : Base). b.timing) base in
-        elim (gives-up-leaves now named kept second giving n.0 n.1) [
-          | inl k ↦
-              elim (checks now kept.remote_creds kept new s t issued checking k.0 k.1) [
-                | inl l ↦ inl (l.0, l.1, same-on p k.0 l.0 (same-on p n.0 k.0 n.2 k.2) l.2)
-                | inr l ↦ inr (inl (sends-on kept.timing.max_retransmits old.timing.max_retransmits p k.0 issued emitted.issued new (same-on p n.0 k.0 n.2 k.2) (ap (λ (x : StunTiming). x.max_retransmits) timing) (ap (λ (x : Emitted). x.issued) is) l))
-              ]
-          | inr gone ↦
-              inr (inr (sym n.3
-              ∙ (sym (ap (λ (b : Base). due.is_pair_expired b.lite now b.timing n.0) base) ∙ gone)))
-        ]
+        → Persists p new.pairs ⊎ (Sends old.timing.max_retransmits p emitted.issued new ⊎ ((is_expired now old p || gives_way now old p) ≡ true))
+    maintains_pairs now old new s t emitted (first, second, issued, named, kept, nominating, giving, checking, is) p has = by (gives_way now old p) refl where
+      base : agent_base named ≡ agent_base (at_timeout now old)
+      base = (names-thins 0 now (at_timeout now old) named first nominating).0
+
+      timing : kept.timing ≡ old.timing
+      timing = ap (λ (b : Base). b.timing) (gives-up-thins 0 now named kept second giving).0 ∙ ap (λ (b : Base). b.timing) base
+
+      by : (b : Bool) → gives_way now old p ≡ b → Persists p new.pairs ⊎ (Sends old.timing.max_retransmits p emitted.issued new ⊎ ((is_expired now old p || b) ≡ true))
+      by true is_so = inr (inr (or-true (is_expired now old p)))
+      by false is_so =
+          let n = nominates-leaves now (path_left now (at_timeout now old)) named first nominating p
+          (Has-kept (λ q. not (gives_way now (at_timeout now old) q)) old.pairs p has (ap not is_so)) in
+          elim (gives-up-leaves now named kept second giving n.0 n.1) [
+            | inl k ↦
+                elim (checks now kept.remote_creds kept new s t issued checking k.0 k.1) [
+                  | inl l ↦ inl (l.0, l.1, same-on p k.0 l.0 (same-on p n.0 k.0 n.2 k.2) l.2)
+                  | inr l ↦ inr (inl (sends-on kept.timing.max_retransmits old.timing.max_retransmits p k.0 issued emitted.issued new (same-on p n.0 k.0 n.2 k.2) (ap (λ (x : StunTiming). x.max_retransmits) timing) (ap (λ (x : Emitted). x.issued) is) l))
+                ]
+            | inr gone ↦
+                inr (inr (ap (λ e. e || false) (sym n.3 ∙ (sym (ap (λ (b : Base). due.is_pair_expired b.lite now b.timing n.0) base) ∙ gone))))
+          ]
 
     -- ---- requests
 

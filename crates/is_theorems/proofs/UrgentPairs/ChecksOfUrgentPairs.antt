@@ -35,6 +35,7 @@ use Rattle.is_theorems.proofs.RuleEffects.ChangedPairs.{Has-map}
 use Rattle.is_theorems.proofs.RuleEffects.EarlierAndNewPairs.{Has-filter}
 use Rattle.is_theorems.proofs.RuleEffects.NominatedPairs.{selects_path, SelectsPath}
 use Rattle.is_theorems.proofs.RuleEffects.UnchangedSettings.{either}
+use Rattle.is_rules.specs.Leaving.{path_left, gives_way}
 
 le-is : (n m : ℕ) → n ≤ m → nat_le n m ≡ true
 le-is n m h = grind (arith, nat_tests, h)
@@ -223,16 +224,21 @@ module _ {H P : Type 0} where
 
     pub timeout-alternates : (old new : AgentRecord H P) (s u : Stream) (emitted : Emitted) → is_some old.remote_creds ≡ true → old.lite ≡ false → Distinct old.pairs
         → is_modern old.timing ≡ true → is_some (last_of emitted.selected_paths) ≡ false
-        → (p : PairRecord) → Has old.pairs p → is_urgent p ≡ true → due_time_of now old.timing p ≤ now → not (is_expired now old p) ≡ true
+        → (p : PairRecord) → Has old.pairs p → is_urgent p ≡ true → due_time_of now old.timing p ≤ now → not (is_expired now old p) ≡ true → gives_way now old p ≡ false
         → MaintainsPairs mac now old s emitted new u → Checks old emitted.issued p ⊎ Alternates now old emitted.issued new p
-    timeout-alternates old new s u emitted known full distinct rule quiet p has urgent due stays (first, second, issued, named, kept, nominating, giving, checking, is) =
+    timeout-alternates old new s u emitted known full distinct rule quiet p has urgent due stays keeps (first, second, issued, named, kept, nominating, giving, checking, is) =
         let none = none-selected first second (sym (ap (λ (x : Emitted). is_some (last_of x.selected_paths)) is) ∙ quiet) in
-        let same : named ≡ at_timeout now old = nominates-none (at_timeout now old) named first nominating none.0 in
-        let left : Leaves (at_timeout now old) kept = removes-none (at_timeout now old) kept second (subst (λ (x : AgentRecord H P). RemovesExpired now x second kept) same giving) none.1 in
+        let same : named ≡ path_left now (at_timeout now old) = nominates-none (path_left now (at_timeout now old)) named first nominating none.0 in
+        let further : Leaves (path_left now (at_timeout now old)) kept = removes-none (path_left now (at_timeout now old)) kept second (subst (λ (x : AgentRecord H P). RemovesExpired now x second kept) same giving) none.1 in
+        let left : (view_of kept ≡ view_of old) × ((q : PairRecord) → Has kept.pairs q → Has old.pairs q) × Has kept.pairs p = (
+          further.0,
+          (λ q there. Has-filter (λ x. not (gives_way now (at_timeout now old) x)) old.pairs q (further.1 q there)),
+          further.2 p (Has-kept (λ x. not (gives_way now (at_timeout now old) x)) old.pairs p has (ap not keeps)) stays,
+        ) in
         let view : view_of kept ≡ view_of old = left.0 in
         taken kept left.1 view (ap (λ (x : Emitted). x.issued) is)
         (check-alternates kept new s u issued (ap (λ (v : TurnView). is_some v.remote_creds) view ∙ known) (ap (λ (v : TurnView). v.lite) view ∙ full)
-        (λ x y x_has y_has one. distinct x y (left.1 x x_has) (left.1 y y_has) one) (ap (λ (v : TurnView). is_modern v.timing) view ∙ rule) p (left.2 p has stays) urgent
+        (λ x y x_has y_has one. distinct x y (left.1 x x_has) (left.1 y y_has) one) (ap (λ (v : TurnView). is_modern v.timing) view ∙ rule) p left.2 urgent
         (subst (λ (v : TurnView). due_time_of now v.timing p ≤ now) (sym view) due) checking) where
           on-path : (kept : AgentRecord H P) (issued : Option Issued) → view_of kept ≡ view_of old → emitted.issued ≡ issued → (q : PairRecord) → Checks kept issued q → Checks old emitted.issued q
           on-path kept issued view issues q (id, out) = (id, issues ∙ (out ∙ ap (λ (v : TurnView). Some (issued_as (path_by v q) class.Request id)) view))

@@ -25,7 +25,7 @@ use Rattle.is_theorems.specs.ServedSoon.{IsServed, ServedAreCheckedSoon}
 use Rattle.is_theorems.specs.Staying.{Stays}
 use Rattle.is_theorems.specs.UrgentFirst.{PutsUrgentFirst, PutUrgentFirstIn, IsOvertakenIn}
 use Rattle.is_theorems.proofs.CallEffects.PathAndTradeEffects.{path_theorem}
-use Rattle.is_theorems.proofs.DuePairs.AfterNominationAndRemoval.{answered_at, stays-young}
+use Rattle.is_theorems.proofs.DuePairs.AfterNominationAndRemoval.{answered_at, lasts-young}
 use Rattle.is_theorems.proofs.DuePairs.NoNominationDue.{lite_stays}
 use Rattle.is_theorems.proofs.ExecutionLogs.LogSegments.{run-on}
 use Rattle.is_theorems.proofs.ExecutionLogs.LogTheorems.{runs_sound}
@@ -36,6 +36,7 @@ use Rattle.is_theorems.proofs.RuleEffects.SelectedPaths.{one_pair}
 use Rattle.is_rules.proofs.PairLists.RisingNumbers.{rising-each}
 use Rattle.is_theorems.proofs.StoredPairs.PairsThatStay.{pairs-stay, stays-here, stays-on}
 use Rattle.is_theorems.proofs.UrgentPairs.RoundsOfUrgentPairs.{persists-at, reached-later, rounds-urgent, rules-before, urgent-pairs-are-reached, After, Reached}
+use Rattle.is_rules.specs.Leaving.{gives_way}
 
 -- ---- one pair
 
@@ -213,8 +214,8 @@ module _ {H P : Type 0} (mac : H → List ℕ → List ℕ → List ℕ) (answer
                     let called : Step mac answers old z (HandleTimeout r.now) r.timeout.entry mid v = subst (λ (c : Call P). Step mac answers old z c r.timeout.entry mid v) (are r (inl refl)).comes step in
                     let one : at_call.pair ≡ stays.pair = one_pair old.pairs at_call.pair stays.pair (rising-each old.pairs sound.rising) at_call.there stays.there (at_call.number ∙ sym stays.number) in
                     elim (pairs-stay mac answers old mid z v (HandleTimeout r.now) r.timeout.entry stays.pair sound tt called stays.there) [
-                      | inr (was_done, none, gone) ↦ (let no : false ≡ true = ap not (sym gone) ∙ subst (λ (x : PairRecord). not (is_expired r.now old x) ≡ true) one
-                          (stays-young old.lite r.now old.timing at_call.pair at_call.checking.full (at_call.lasts r.now (lasting r (inl refl))) at_call.young) in absurd (cc))
+                      | inr (was_done, none, gone) ↦ (let no : false ≡ true = ap not (sym gone) ∙ subst (λ (x : PairRecord). not (is_expired r.now old x || gives_way r.now old x) ≡ true) one
+                          (lasts-young r.now old at_call.pair at_call.checking.full (at_call.lasts r.now (lasting r (inl refl))) at_call.young) in absurd (cc))
                       | inl here ↦ elim (stays-between path p ((r.timeout ∷ entries_of older) ++ before) start mid last v t r.following
                           (run-on mac answers first start mid s u v before (r.timeout ∷ entries_of older) led (old, z, run_older, number, given, step)) back (are r (inl refl)).between refl
                           (stays-on mac answers start old mid p stays here)) [

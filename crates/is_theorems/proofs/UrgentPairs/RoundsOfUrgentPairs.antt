@@ -30,7 +30,7 @@ use Rattle.is_theorems.specs.Rounds.{LoggedRound, RunsOn, began_at, entries_of}
 use Rattle.is_theorems.specs.Runs.{IsFresh, Run}
 use Rattle.is_theorems.specs.UrgentFirst.{IsOvertaken, IsOvertakenIn, PutsUrgentFirst, PutUrgentFirstIn, UrgentPairsAreReached}
 use Rattle.is_theorems.proofs.CallEffects.PathAndTradeEffects.{path_theorem}
-use Rattle.is_theorems.proofs.DuePairs.AfterNominationAndRemoval.{Base, answered_at, stays-young}
+use Rattle.is_theorems.proofs.DuePairs.AfterNominationAndRemoval.{Base, answered_at, stays-young, keeps-young}
 use Rattle.is_theorems.proofs.DuePairs.ChecksAhead.{calls_left, times}
 use Rattle.is_theorems.proofs.DuePairs.FirstDuePair.{timeout-follows}
 use Rattle.is_theorems.proofs.DuePairs.PollingCycles.{distinct-sound, maintains_pairs-from}
@@ -134,7 +134,8 @@ module _ {H P : Type 0} (mac : H → List ℕ → List ℕ → List ℕ) (answer
           → (st : PersistsAt now k spent old) → PutsUrgentFirst n old e → MaintainsPairs mac now (timeout_begun now old) s e.emitted new t → Sent e ⊎ Goes-on now e old new
       timeout-goes-on now k spent e old new s t sound lasting st first p =
           elim (timeout-alternates mac now (timeout_begun now old) new s t e.emitted st.checking.peer st.checking.full (distinct-sound mac old sound) (search (first.modern)) (search (first.quiet)) st.pair st.there
-          (search (first.urgent st.pair st.there st.number)) (let due = st.ready.0 in let late = st.late in omega (arith, due, late)) (stays-young old.lite now old.timing st.pair st.checking.full (st.lasts now lasting) st.young) p) [
+          (search (first.urgent st.pair st.there st.number)) (let due = st.ready.0 in let late = st.late in omega (arith, due, late)) (stays-young old.lite now old.timing st.pair st.checking.full (st.lasts now lasting) st.young)
+          (keeps-young now old st.pair st.young) p) [
             | inl (id, out) ↦ inl (id, out ∙ ap (λ w. Some (issued_as w class.Request id)) st.on)
             | inr turns ↦ inr (by-turn (distinct-sound mac old sound) turns old.ahead_turn refl)
           ] where

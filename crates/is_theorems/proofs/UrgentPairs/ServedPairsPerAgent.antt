@@ -33,7 +33,7 @@ use Rattle.is_theorems.specs.Staying.{MayEnd, Stays}
 use Rattle.is_theorems.specs.UrgentFirst.{IsOvertaken, IsOvertakenIn}
 use Rattle.is_theorems.proofs.CallEffects.FailedCallsAndNewAgents.{fresh_sound}
 use Rattle.is_theorems.proofs.CallEffects.PathAndTradeEffects.{path_theorem}
-use Rattle.is_theorems.proofs.DuePairs.AfterNominationAndRemoval.{Base, answered-if, answered_at, base_of as agent_base, stays-young}
+use Rattle.is_theorems.proofs.DuePairs.AfterNominationAndRemoval.{Base, answered-if, answered_at, base_of as agent_base, lasts-young}
 use Rattle.is_theorems.proofs.DuePairs.FirstDuePair.{Follows, due-at, timeout-follows}
 use Rattle.is_theorems.proofs.DuePairs.NoNominationDue.{Quiet, due-none, quiet-call, quiet-timeout}
 use Rattle.is_theorems.proofs.DuePairs.PollingCycles.{maintains_pairs-from}
@@ -415,7 +415,7 @@ module _ {H P : Type 0} (mac : H → List ℕ → List ℕ → List ℕ) (answer
           | inr (was_done, none, gone) ↦ (
               let few = line.young in
               let young : nat_lt (unanswered_count p.checks) start.timing.max_retransmits ≡ true = lt-is (unanswered_count p.checks) start.timing.max_retransmits (omega (arith, few)) in
-              let no : false ≡ true = ap not (sym gone) ∙ stays-young start.lite r.now start.timing p line.checking.full (answered-if start p r.now sound_start line.there (search line.lasting)) young in absurd (cc))
+              let no : false ≡ true = ap not (sym gone) ∙ lasts-young r.now start p line.checking.full (answered-if start p r.now sound_start line.there (search line.lasting)) young in absurd (cc))
         ]
 
         from-second : (rounds : List (CourseRound P)) → Kept start p by r.now run.1 → (more : PassRounds mac answers rounds run.1 last) → ((x : CourseRound P) → Has rounds x → IsOpenRound by x)

@@ -45,6 +45,18 @@ fn pair_at(alloc: Global, local: usize, remote: usize, prio: u64) -> CandidatePa
     )
 }
 
+/// The timing from which the times in these tests follow, whatever a new agent has: an RTO of 250 ms doubles up to 3 s.
+fn timing_of(max_retransmits: usize) -> StunTiming
+    ensures { result.max_retransmits ≡ max_retransmits }
+{
+    StunTiming {
+        initial_rto: Duration::from_millis(250),
+        max_retransmits,
+        max_rto: Duration::from_millis(3000),
+        ..StunTiming::default()
+    }
+}
+
 /// A pair that is checked, with its timing and its random source.
 #[derive(Drop)]
 struct Path {
@@ -55,11 +67,11 @@ struct Path {
 }
 
 impl Path {
-    /// With an agent's default timing.
+    /// With up to nine checks without a response.
     fn new(alloc: Global) -> Path {
         Path {
             pair: host_pair(alloc, 1),
-            timing: StunTiming::default(),
+            timing: timing_of(9),
             rng: Pcg32::seed_from_u64(1),
         }
     }
@@ -68,10 +80,7 @@ impl Path {
     fn impatient(alloc: Global) -> Path {
         Path {
             pair: host_pair(alloc, 1),
-            timing: StunTiming {
-                max_retransmits: 1,
-                ..StunTiming::default()
-            },
+            timing: timing_of(1),
             rng: Pcg32::seed_from_u64(1),
         }
     }

@@ -34,9 +34,10 @@ static SCRIPTS: [(&str, &str); 8] = [
         A poll ok\n\
         A send 1 udp 10.0.0.1:1000 10.0.0.102:2000 000100442112a44203000000040000000500000000060009424242423a41414141000000802a0008000000000000000a002400046efffeff000800143572ac93f0d926090fd4b877e3db80ac9931cce68028000498dd966b\n",
     ),
-    // The second check is 10 ms after the first one, since there is no path yet.
+    // The second check is 10 ms after the first one, since there is no path yet; with `Original` Ta counts.
     (
         r#"{"call":"agent","ufrag":"AAAA","pass":"PPPP","tie":10,"polls":false}
+{"call":"advance","number":50000000,"polls":false}
 {"call":"profile","name":"modern","polls":false}
 {"call":"controlling","flag":true,"polls":false}
 {"call":"remote","ufrag":"BBBB","pass":"QQQQ","polls":false}
@@ -49,6 +50,7 @@ static SCRIPTS: [(&str, &str); 8] = [
 {"call":"profile","name":"original","polls":false}
 {"call":"poll","what":"timeout"}"#,
         "A agent ok\n\
+        A advance ok\n\
         A profile ok\n\
         A controlling ok\n\
         A remote ok\n\

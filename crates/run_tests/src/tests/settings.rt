@@ -16,8 +16,9 @@ struct Setting {
     timeout: &'static str,
 }
 
-/// Makes the agent.
-const AGENT: &str = r#"{"call":"agent","ufrag":"AAAA","pass":"PPPP","tie":1,"polls":false}"#;
+/// Makes the agent, and sets the RTO that says when its second check is due with `Original`.
+const AGENT: &str = r#"{"call":"agent","ufrag":"AAAA","pass":"PPPP","tie":1,"polls":false}
+{"call":"rto","number":250000000,"polls":false}"#;
 
 /// Makes a pair and begins its checks.
 const SESSION: &str = r#"{"call":"remote","ufrag":"BBBB","pass":"QQQQ","polls":false}
@@ -95,7 +96,7 @@ fn has_effect(alloc: Global, setting: &Setting) -> Result<bool, AllocError> {
     let path = "udp 10.0.0.1:1000 10.0.0.2:2000";
     let events = "A event state Checking";
     let printed = format!(in alloc;
-        "A agent ok\n{result}\n{SESSION_PRINTED}\nA send 0 {path} {check}\nA event restart {creds}\n{events}\nA wake {timeout}\n"
+        "A agent ok\nA rto ok\n{result}\n{SESSION_PRINTED}\nA send 0 {path} {check}\nA event restart {creds}\n{events}\nA wake {timeout}\n"
     )?;
     Ok(ends(alloc, script.as_bytes(), 0, printed.as_str(), ""))
 }

@@ -40,6 +40,9 @@ returns-clause-connected g c = c.selected_have_consent.ensures _ _ _
 pub returns-clause-connected_answered : goal.returns-clause-connected_answered
 returns-clause-connected_answered g c = c.selected_are_alive.ensures _ _ _
 
+pub returns-clause-replaced : goal.returns-clause-replaced
+returns-clause-replaced g c = c.paths_are_replaced.ensures _ _ _
+
 pub returns-clause-parts : goal.returns-clause-parts
 returns-clause-parts g c = c.parts_are_runs.ensures _ _ _ _ _ (run_of _ _ _ _ _ _ c.args.calls.items c.run_calls.result c.run_calls.ensures)
 

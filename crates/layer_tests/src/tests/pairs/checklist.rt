@@ -4,7 +4,7 @@ ghost use Rattle.std.specs.Prelude.{◌≡◌, ◌<◌, true};
 ghost use Rattle.is_pair.specs.Multiset.{are_below};
 ghost use Rattle.is_pair.specs.Checklists.{multiset_of};
 
-use super::at;
+use super::{at, timing_of};
 use is_candidate::CandidateKind;
 use is_pair::checklist::{Checklist, PairPriority, PairTest, Removal};
 use is_pair::pair::{CandidatePair, PairId};
@@ -68,10 +68,7 @@ impl Paths {
         Paths {
             list: Checklist::new(alloc),
             next: 0,
-            timing: StunTiming {
-                max_retransmits,
-                ..StunTiming::default()
-            },
+            timing: timing_of(max_retransmits),
         }
     }
 

@@ -110,13 +110,15 @@ fn the_end_of_time_is_not_passed(rt: HostRuntime) {
 fn an_ice_lite_pair_lives_on_the_checks_of_the_peer(rt: HostRuntime) {
     let mut pair = host_pair(rt.alloc(), 1);
     let timing = StunTiming::default();
-    assert!(rt; pair.is_ice_lite_alive(at(60000), &timing));
-    pair.increase_remote_binding_requests(at(60000));
-    assert!(rt; pair.is_ice_lite_alive(at(74999), &timing));
-    assert!(rt; !pair.is_ice_lite_alive(at(75000), &timing));
+    let heard = at(60000);
+    let end = heard + timing.lite_timeout();
+    assert!(rt; pair.is_ice_lite_alive(heard, &timing));
+    pair.increase_remote_binding_requests(heard);
+    assert!(rt; pair.is_ice_lite_alive(Instant(end.0.saturating_sub(1)), &timing));
+    assert!(rt; !pair.is_ice_lite_alive(end, &timing));
 }
 
-/// An agent's timing, with another timeout of ICE-lite in milliseconds.
+/// A timing with another timeout of ICE-lite in milliseconds.
 fn lite_timing(millis: u64) -> StunTiming {
     StunTiming {
         lite_timeout: Duration::from_millis(millis),

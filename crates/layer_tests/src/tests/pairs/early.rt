@@ -145,10 +145,10 @@ fn a_response_to_a_later_check_ends_them_too(rt: HostRuntime) {
 // ---- nominations
 
 static NOMINATING: [u64; 10] = [
-    70100, 70200, 70400, 70750, 71100, 71450, 71800, 72150, 75150, 78150,
+    70100, 70200, 70300, 70400, 70500, 70600, 70700, 70800, 71300, 71800,
 ];
 
-/// Until nine of them have no response: then the RTO counts, 3 s.
+/// Each 100 ms, after which a response would be late by 50 ms, until nine of them have none: then each half second.
 #[test]
 fn a_check_that_nominates_is_repeated_early(rt: HostRuntime) {
     let mut path = early_path(rt.alloc());
@@ -158,7 +158,8 @@ fn a_check_that_nominates_is_repeated_early(rt: HostRuntime) {
     assert!(rt; are_due(&mut path, at(70000), &NOMINATING));
 }
 
-/// From then on each delay depends on the number of pending transactions, here two and three.
+/// The next check is due by the number of pending transactions, here two. The one after it is sent once the response is late: 50 ms after
+/// the last round trip, and at least 100 ms after the check.
 #[test]
 fn the_response_to_a_nomination_ends_early_retransmissions(rt: HostRuntime) {
     let mut path = early_path(rt.alloc());
@@ -166,17 +167,17 @@ fn the_response_to_a_nomination_ends_early_retransmissions(rt: HostRuntime) {
     assert!(rt; path.is_nominated_now(false));
     assert!(rt; path.is_answered(1000, 1050));
     assert!(rt; path.due(at(1050)) == at(1500));
-    assert!(rt; next_after(&mut path, at(1500)) == Some(at(2500)));
+    assert!(rt; next_after(&mut path, at(1500)) == Some(at(1600)));
 }
 
-/// The nominating checks are sent at 1, 1.1, 1.2, 1.4 and 1.75 s, then every 0.35 s until the ninth at 3.15 s, and then every 3 s. After
-/// fifteen of them the first one that is stored was sent at 2.45 s, a whole series before 23.95 s.
+/// The nominating checks are sent each 100 ms from 1 s on, the ninth at 1.8 s, and then each half second. So the first one that is stored is
+/// never a whole series old, and only consent ends the pair.
 #[test]
-fn a_nominated_pair_ends_by_the_clock(rt: HostRuntime) {
+fn checks_end_no_nominated_pair(rt: HostRuntime) {
     let mut path = early_path(rt.alloc());
     assert!(rt; path.is_answered(0, 50));
     assert!(rt; path.is_nominated_now(false));
-    assert!(rt; check_until_removed(&mut path, at(1000)) == Some((15, at(24_150))));
+    assert!(rt; check_until_removed(&mut path, at(1000)) == None);
 }
 
 // ---- when a pair without a response ends

@@ -8,12 +8,22 @@ fn millis(n: u64) -> Duration {
     Duration::from_millis(n)
 }
 
+/// A timing with given RTOs and checks, whatever a new agent has.
+fn given() -> StunTiming {
+    StunTiming {
+        initial_rto: millis(250),
+        max_retransmits: 9,
+        max_rto: millis(3000),
+        ..StunTiming::default()
+    }
+}
+
 /// How many checks were sent, and the delay after them in milliseconds.
 static DELAYS: [(usize, u64); 6] = [(0, 0), (1, 250), (2, 500), (3, 1000), (4, 2000), (5, 3000)];
 
 #[test]
-fn by_default_the_delay_doubles_up_to_three_seconds(rt: HostRuntime) {
-    let timing = StunTiming::default();
+fn an_rto_of_250_ms_doubles_up_to_three_seconds(rt: HostRuntime) {
+    let timing = given();
     for (count, delay) in &DELAYS {
         assert!(rt; timing.stun_resend_delay(*count) == millis(*delay));
     }
@@ -21,7 +31,6 @@ fn by_default_the_delay_doubles_up_to_three_seconds(rt: HostRuntime) {
     assert!(rt; timing.timeout() == millis(21500));
     assert!(rt; timing.max_retransmits() == 9);
     assert!(rt; timing.max_rto() == millis(3000));
-    assert!(rt; timing.lite_timeout() == millis(15000));
 }
 
 /// The functions return at once; a sum with one term for each retransmission would not finish.
@@ -29,7 +38,7 @@ fn by_default_the_delay_doubles_up_to_three_seconds(rt: HostRuntime) {
 fn the_greatest_retransmit_limit_is_answered_at_once(rt: HostRuntime) {
     let timing = StunTiming {
         max_retransmits: usize::MAX,
-        ..StunTiming::default()
+        ..given()
     };
     assert!(rt; timing.stun_resend_delay(100) == millis(3000));
     assert!(rt; timing.stun_resend_delay(usize::MAX) == millis(3000));
@@ -40,7 +49,7 @@ fn the_greatest_retransmit_limit_is_answered_at_once(rt: HostRuntime) {
 fn without_an_initial_delay_nothing_is_waited_for(rt: HostRuntime) {
     let timing = StunTiming {
         initial_rto: Duration(0),
-        ..StunTiming::default()
+        ..given()
     };
     assert!(rt; timing.timeout() == Duration(0));
 }
@@ -50,7 +59,7 @@ fn only_whole_milliseconds_count(rt: HostRuntime) {
     let timing = StunTiming {
         initial_rto: Duration(250_000_001),
         max_rto: Duration(999_999_999),
-        ..StunTiming::default()
+        ..given()
     };
     assert!(rt; timing.stun_resend_delay(1) == millis(250));
     assert!(rt; timing.stun_resend_delay(3) == millis(999));
@@ -60,7 +69,7 @@ fn only_whole_milliseconds_count(rt: HostRuntime) {
 fn one_retransmit_is_removed_after_its_delay(rt: HostRuntime) {
     let timing = StunTiming {
         max_retransmits: 1,
-        ..StunTiming::default()
+        ..given()
     };
     assert!(rt; timing.stun_resend_delay(9) == millis(500));
     assert!(rt; timing.timeout() == millis(250));
@@ -100,7 +109,7 @@ fn by_default_the_profile_is_the_originals(rt: HostRuntime) {
 fn the_timing_gives_the_time_of_consent(rt: HostRuntime) {
     let mut timing = StunTiming {
         profile: Profile::Modern,
-        ..StunTiming::default()
+        ..given()
     };
     assert!(rt; lasts(&timing, millis(24500), false));
     timing.max_rto = millis(2900);

@@ -1,8 +1,12 @@
-use Rattle.std.proofs.Common.{◌+◌, ap, sym, ◌∙◌}
+use Rattle.std.proofs.Common.{◌==◌, ℕ, ◌+◌, ap, sym, ◌∙◌}
+use Rattle.std.specs.List.{list_any}
+use Rattle.is_pair.specs.declared.checklist.entries.Rank.{Rank}
 use Rattle.is_pair.specs.Multiset.{are_below, keeps, ranks, rises}
 use Rattle.is_pair.specs.Entries.{is_rank}
 use Rattle.is_pair.proofs.PairEntries.ChangedEntry.{below-added, rises-last}
 use Rattle.is_pair.proofs.PairEntries.AddedAndRemovedPairs.{keeps-more, ranks-more}
+use Rattle.is_pair.proofs.PriorityOrder.RecomputedPriorities.{has-none}
+use Rattle.is_pair.proofs.PriorityOrder.SingleEntries.{below-none}
 use Rattle.is_pair.proofs.checklist.Checklist.add.Goals as goal
 
 pub invariant_of-self-clause-rising : goal.invariant_of-self-clause-rising
@@ -20,3 +24,10 @@ invariant_of-self-clause-ranked c = λ priority n.
 
 pub returns-clause-below : goal.returns-clause-below
 returns-clause-below c = ap (are_below (c.args.pair.number + 1)) c.put.ensures.put ∙ below-added c.args.self.now.pairs.items c.args.pair c.requires.last
+
+pub put-requires-2-clause-other : goal.put-requires-2-clause-other
+put-requires-2-clause-other c =
+    let ps = c.args.self.now.pairs.items in
+    let rs = c.args.self.now.ranks.items in
+    ap (λ (n : ℕ). list_any (λ (r : Rank). r.number == n) rs) c.id.ensures
+    ∙ has-none ps rs c.args.self.now.rising c.args.self.now.ranked c.args.pair.number (below-none c.args.pair.number ps c.requires.last)

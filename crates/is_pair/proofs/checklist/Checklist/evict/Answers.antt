@@ -1,18 +1,23 @@
-use Rattle.std.proofs.Common.{true, refl}
+use Rattle.std.proofs.Common.{◌++◌}
 use Rattle.is_pair.specs.declared.checklist.removed.Removal.TheVariants.{Evicted}
-use Rattle.is_pair.specs.Removed.{removed_of}
-use Rattle.is_pair.specs.Checklists.{multiset_of}
-use Rattle.is_pair.proofs.RemovedPairs.{removed-then}
+use Rattle.is_pair.specs.Checklists.{multiset_of, removed_of}
+use Rattle.is_pair.proofs.RemovedPairs.{after-some}
 use Rattle.is_pair.proofs.checklist.Checklist.evict.Goals as goal
 
 pub returns-clause-evicted : goal.returns-clause-evicted
-returns-clause-evicted c = c.evict_block.ensures.evicted (multiset_of c.evict_each.new.self) c.evict_each.ensures.evicted
+returns-clause-evicted c =
+    let first = c.evict_block.ensures.evicted in
+    let second = c.evict_each.ensures.removed in
+    (first.0 ++ second.0, first.1 second.0 (multiset_of c.evict_each.new.self) second.1)
 
 pub returns-clause-removed : goal.returns-clause-removed
 returns-clause-removed c =
-    removed-then (λ p. true) (λ p. true) (λ p. Evicted) (multiset_of c.args.self.now) (multiset_of c.evict_block.new.self)
-    (removed_of c.args.self.now) (removed_of c.evict_block.new.self) (removed_of c.evict_each.new.self) (λ p. refl) c.evict_block.ensures.among
-    c.evict_block.ensures.removed c.evict_each.ensures.removed
+    let first = c.evict_block.ensures.evicted in
+    let second = c.evict_each.ensures.removed in (
+      first.0 ++ second.0,
+      first.1 second.0 (multiset_of c.evict_each.new.self) second.1,
+      after-some (λ p. Evicted) first.0 second.0 (removed_of c.args.self.now) (removed_of c.evict_block.new.self) (removed_of c.evict_each.new.self) first.2 second.2,
+    )
 
 pub returns-clause-room : goal.returns-clause-room
 returns-clause-room c = λ n h. c.evict_each.ensures.room n (c.evict_block.ensures.room n h)

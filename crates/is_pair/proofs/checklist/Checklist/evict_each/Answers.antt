@@ -1,12 +1,21 @@
-use Rattle.std.proofs.Common.{◌∷◌, [], true, not, length, refl, rules, ap, sym, arith}
+use Rattle.std.proofs.Common.{◌≡◌, ◌∷◌, ◌++◌, [], List, length, refl, rules, ap, sym, subst, ◌∙◌, arith, append_assoc}
+use Rattle.std.proofs.lemmas.List.{append-nil}
 use Rattle.is_pair.specs.declared.checklist.removed.Removal.TheVariants.{Evicted}
 use Rattle.is_pair.specs.Pairs.{PairRecord}
-use Rattle.is_pair.specs.Removed.{removed_of}
-use Rattle.is_pair.specs.Multiset.{is_numbered, IsLeast}
-use Rattle.is_pair.specs.Checklists.{multiset_of}
+use Rattle.is_pair.specs.Multiset.{EvictsInTurn, IsLeast}
+use Rattle.is_pair.specs.Checklists.{multiset_of, removed_of}
+use Rattle.is_pair.specs.Removed.{removed_after}
 use Rattle.is_pair.proofs.PriorityOrder.LeastPair.{shrinks}
-use Rattle.is_pair.proofs.RemovedPairs.{had-filtered, removed-then}
+use Rattle.is_pair.proofs.RemovedPairs.{after-none, after-some, filter-only}
 use Rattle.is_pair.proofs.checklist.Checklist.evict_each.Goals as goal
+
+pub loop-self-init : goal.loop-self-init
+loop-self-init c = record {
+  evicted = ([], λ rest new h. h, after-none (λ p. Evicted) (removed_of c.args.self.now) (search rules));
+  room = λ n h. h;
+  check_room = λ limit h. h;
+  below = λ n h. h;
+}
 
 pub loop-self-smaller : goal.loop-self-smaller
 loop-self-smaller c =
@@ -16,18 +25,34 @@ loop-self-smaller c =
 
 pub loop-self-preserved : goal.loop-self-preserved
 loop-self-preserved c =
-    let least : IsLeast (multiset_of c.loop-self.self) c.in-Some.least.now = c.in-Some.ensures in
+    let old = multiset_of c.args.self.now in
+    let mid = multiset_of c.loop-self.self in
+    let p = c.in-Some.least.now in
+    let least : IsLeast mid p = c.in-Some.ensures in
+    let so-far = c.loop-self.invariant.evicted in
+    let one = filter-only c.id-number.result.0 mid p c.loop-self.self.rising least.0 (sym c.id-number.ensures) in
+    let listed = c.remove.ensures.removed ∙ ap (λ (ps : List PairRecord). removed_after (λ p. Evicted) ps (removed_of c.loop-self.self)) one in
     record {
-      drops = λ gone end h. c.loop-self.invariant.drops (c.in-Some.least.now ∷ gone) end (omega (arith, c.loop-self-test.true, c.len.ensures), least, rw (c.remove.ensures.left, c.id-number.ensures) at h);
+      evicted = (
+        so-far.0 ++ p ∷ [],
+        λ rest new h. subst (λ (ps : List PairRecord). EvictsInTurn c.args.limit ps old new) (sym (append_assoc so-far.0 (p ∷ []) rest))
+            (so-far.1 (p ∷ rest) new (omega (arith, c.loop-self-test.true, c.len.ensures), least, rw (c.remove.ensures.left, c.id-number.ensures) at h)),
+        after-some (λ p. Evicted) so-far.0 (p ∷ []) (removed_of c.args.self.now) (removed_of c.loop-self.self) (removed_of c.remove.new.self) so-far.2 listed,
+      );
       room = λ n h. c.remove.ensures.room n (c.loop-self.invariant.room n h);
       check_room = λ limit h. c.remove.ensures.check_room limit (c.loop-self.invariant.check_room limit h);
-      removed = removed-then (λ p. true) (is_numbered c.id-number.result.0) (λ p. Evicted) (multiset_of c.args.self.now) (multiset_of c.loop-self.self)
-          (removed_of c.args.self.now) (removed_of c.loop-self.self) (removed_of c.remove.new.self) (λ p. refl) c.loop-self.invariant.among
-          c.loop-self.invariant.removed (search rules);
-      among = λ p h. c.loop-self.invariant.among p (had-filtered (λ (q : PairRecord). not (is_numbered c.id-number.result.0 q)) (multiset_of c.loop-self.self) p
-          (rw c.remove.ensures.left at h));
       below = λ n h. c.remove.ensures.below n (c.loop-self.invariant.below n h);
     }
 
 pub returns-clause-evicted : goal.returns-clause-evicted
-returns-clause-evicted c = c.loop-self.invariant.drops [] (multiset_of c.loop-self.self) (omega (arith, c.loop-self-test.false, c.len.ensures), refl)
+returns-clause-evicted c =
+    let so-far = c.loop-self.invariant.evicted in
+    (so-far.0 ++ [], so-far.1 [] (multiset_of c.loop-self.self) (omega (arith, c.loop-self-test.false, c.len.ensures), refl))
+
+pub returns-clause-removed : goal.returns-clause-removed
+returns-clause-removed c =
+    let so-far = c.loop-self.invariant.evicted in (
+      so-far.0 ++ [],
+      so-far.1 [] (multiset_of c.loop-self.self) (omega (arith, c.loop-self-test.false, c.len.ensures), refl),
+      so-far.2 ∙ ap (λ (ps : List PairRecord). removed_after (λ p. Evicted) ps (removed_of c.args.self.now)) (sym (append-nil so-far.0)),
+    )

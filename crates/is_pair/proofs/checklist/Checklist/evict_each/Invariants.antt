@@ -1,19 +1,16 @@
-use Rattle.std.proofs.Common.{List, ◌≡◌, ℕ, true, length}
-use Rattle.is_proto.specs.Lists.{Has}
+use Rattle.std.proofs.Common.{List, ◌≡◌, ◌∷◌, ◌++◌, ℕ, true, length}
 use Rattle.is_pair.specs.declared.checklist.removed.Removal.TheVariants.{Evicted}
 use Rattle.is_pair.specs.Pairs.{PairRecord}
-use Rattle.is_pair.specs.Multiset.{are_below, EvictsInTurn}
-use Rattle.is_pair.specs.Checklists.{multiset_of, HasRoom, HasCheckRoom}
-use Rattle.is_pair.specs.Removed.{removed_of, AreRemoved}
+use Rattle.is_pair.specs.Multiset.{are_below}
+use Rattle.is_pair.specs.Lowest.{EvictsSome}
+use Rattle.is_pair.specs.Checklists.{multiset_of, removed_of, HasRoom, HasCheckRoom}
 use Rattle.is_pair.proofs.checklist.Checklist.evict_each.Given as goal
 
 abbrev pub invariant-loop-self : goal.invariant-loop-self
 invariant-loop-self l = record {
-  drops : (gone : List PairRecord) (end : List PairRecord) → EvictsInTurn l.limit gone (multiset_of l.self) end → (all : List PairRecord) × EvictsInTurn l.limit all (multiset_of l.fn.self) end;
+  evicted : EvictsSome l.limit (multiset_of l.fn.self) (multiset_of l.self) (removed_of l.fn.self) (removed_of l.self);
   room : (n : ℕ) → HasRoom n l.fn.self → HasRoom n l.self;
   check_room : (n : ℕ) → HasCheckRoom n l.fn.self → HasCheckRoom n l.self;
-  removed : AreRemoved (λ p. true) (λ p. Evicted) (multiset_of l.fn.self) (removed_of l.fn.self) (removed_of l.self);
-  among : (p : PairRecord) → Has (multiset_of l.self) p → Has (multiset_of l.fn.self) p;
   below : (n : ℕ) → are_below n (multiset_of l.fn.self) ≡ true → are_below n (multiset_of l.self) ≡ true;
 }
 

@@ -1,18 +1,17 @@
-use Rattle.std.proofs.Common.{◌≡◌, ℕ, List, IfSome, Some, None, refl, sym, ap, subst, ◌∙◌}
-use Rattle.is_proto.specs.Lists.{Has}
-use Rattle.is_pair.specs.Pairs.{PairRecord}
+use Rattle.std.proofs.Common.{rules, ◌≡◌, slice_get, Some, None, ap, sym, ◌∙◌}
 use Rattle.is_pair.specs.Multiset.{pair_numbered}
-use Rattle.is_pair.specs.Checklists.{multiset_of}
-use Rattle.is_pair.proofs.PriorityOrder.GreatestPair.{found-has}
+use Rattle.is_pair.proofs.PriorityOrder.RankedPairs.{is-found, ranked-at, ranked-past}
 use Rattle.is_pair.proofs.checklist.Checklist.ranked.Goals as goal
-
-found-there : (n : ℕ) (ps : List PairRecord) → IfSome (pair_numbered n ps) (λ p. Has ps p)
-found-there n ps = elim (pair_numbered n ps) as (λ o. pair_numbered n ps ≡ o → IfSome o (λ p. Has ps p)) [
-  | Some p ↦ λ is. found-has n ps p is
-  | None ↦ λ is. tt
-] refl
 
 pub returns-in-Some : goal.returns-in-Some
 returns-in-Some c =
-    let ps = multiset_of c.args.self.now in
-    subst (λ o. IfSome o (λ p. Has ps p)) (sym (c.get-in-Some.ensures.found ∙ ap (pair_numbered c.in-Some.rank.now.number) c.deref-in-Some.ensures.value)) (found-there c.in-Some.rank.now.number ps)
+    let list = c.args.self.now in
+    let at : slice_get list.ranks.items c.args.place ≡ Some c.in-Some.rank = search rules in
+    c.get.ensures.found ∙ ap (pair_numbered c.in-Some.rank.number) c.deref-in-Some.ensures.value
+    ∙ sym (ranked-at list.pairs.items list.ranks.items c.args.place c.in-Some.rank (is-found list.pairs.items list.ranks.items list.rising list.ranked) at)
+
+pub returns-in-None : goal.returns-in-None
+returns-in-None c =
+    let list = c.args.self.now in
+    let none : slice_get list.ranks.items c.args.place ≡ None = search rules in
+    sym (ranked-past list.pairs.items list.ranks.items c.args.place (is-found list.pairs.items list.ranks.items list.rising list.ranked) none)

@@ -10,7 +10,7 @@ use Rattle.is_pair.proofs.checklist.Checklist.set_priorities.Goals as goal
 pub rebuild_order-requires : goal.rebuild_order-requires
 rebuild_order-requires g c =
     let f = with_priority (g.R.PairPriority.gives c.args.rule.now) in
-    record { rising = ap rises c.deref.ensures.value ∙ changed-rises f (λ p. refl) c.args.self.now.pairs.items _ c.set_priorities.ensures.set c.args.self.now.rising }
+    record { rising = ap rises c.deref.ensures.value ∙ changed-rises f (λ p. refl) c.args.self.now.pairs.items _ c.set_priorities.ensures.set c.args.self.now.rising; single = c.args.self.now.single }
 
 pub invariant_of-self-clause-rising : goal.invariant_of-self-clause-rising
 invariant_of-self-clause-rising g c =

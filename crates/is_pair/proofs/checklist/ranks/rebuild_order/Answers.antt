@@ -2,6 +2,8 @@ use Rattle.std.proofs.Common.{rules, tests, ap, sym, ◌∙◌}
 use Rattle.std.proofs.lemmas.List.Sorted.{list_any-IsPermutation, IsNonDecreasingBy-from_sort_by_key}
 use Rattle.std.specs.List.{list_any}
 use Rattle.is_pair.specs.declared.checklist.entries.Rank.{Rank}
+use Rattle.is_pair.specs.Entries.{are_single}
+use Rattle.is_pair.proofs.PriorityOrder.SingleEntries.{single-now, single-permuted}
 use Rattle.is_pair.proofs.PriorityOrder.OrderedPairs.{ordered-from}
 use Rattle.is_pair.proofs.checklist.ranks.rebuild_order.Goals as goal
 
@@ -13,3 +15,8 @@ pub returns-clause-ordered : goal.returns-clause-ordered
 returns-clause-ordered c =
     ordered-from c.sort_unstable_by_key.new.self.items
     (IsNonDecreasingBy-from_sort_by_key (λ (r : Rank). r.priority) c.sort_unstable_by_key.new.self.items c.sort_unstable_by_key.ensures.sorted (λ a r f k. search (rules, tests)))
+
+pub returns-clause-single : goal.returns-clause-single
+returns-clause-single c =
+    single-permuted _ _ c.sort_unstable_by_key.ensures.permutation
+    (ap are_single c.follow_pairs.ensures.items ∙ single-now c.args.pairs.now c.args.ranks.now.items c.requires.single)

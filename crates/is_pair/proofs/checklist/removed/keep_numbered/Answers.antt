@@ -1,23 +1,34 @@
-use Rattle.std.proofs.Common.{rules, sym, subst}
+use Rattle.std.proofs.Common.{◌≡◌, ◌∷◌, ◌++◌, [], List, ap, filter, length, sym, ◌∙◌, rules, arith}
+use Rattle.std.specs.Option.{option_to_list}
+use Rattle.is_pair.specs.declared.checklist.removed.RemovedPair.{RemovedPair}
 use Rattle.is_pair.specs.Pairs.{PairRecord}
-use Rattle.is_pair.specs.Multiset.{is_numbered}
-use Rattle.is_pair.specs.Removed.{IsKeptLast}
-use Rattle.is_pair.proofs.PriorityOrder.GreatestPair.{find-has}
-use Rattle.is_pair.proofs.RemovedPairs.{removed-more, removed-none}
+use Rattle.is_pair.specs.Multiset.{is_numbered, pair_numbered}
+use Rattle.is_pair.specs.Removed.{kept_as, last_removed, removed_after}
+use Rattle.is_pair.proofs.RemovedPairs.{after-none, few-pass, filter-one}
 use Rattle.is_pair.proofs.checklist.removed.keep_numbered.Goals as goal
 
-pub returns-in-Some-clause-removed : goal.returns-in-Some-clause-removed
-returns-in-Some-clause-removed c =
-    let ps = c.args.pairs.now in
-    let p = c.in-Some.pair.now in
-    let old = c.args.removed.now.items in
-    let test = is_numbered c.args.number in
-    let reason = λ (p : PairRecord). c.args.why in
-    let found = find-has test ps p (sym c.in-Some.ensures.found) in
-    removed-more test reason ps old old c.keep.new.removed.items c.of.result p (removed-none test reason ps old) c.keep.ensures.kept
-    found.0 found.1 c.of.ensures.is (search rules)
+pub keep-requires : goal.keep-requires
+keep-requires c =
+    let one : filter (is_numbered c.args.number) c.args.pairs.now ≡ c.in-Some.pair.now ∷ [] =
+    filter-one c.args.number c.args.pairs.now c.requires.rising ∙ ap option_to_list (sym c.in-Some.ensures.found) in
+    let many = few-pass (is_numbered c.args.number) c.args.pairs.now in
+    record { few = c.requires.few; room = omega (arith, many, ap length one) }
 
-pub returns-in-Some-clause-with_room : goal.returns-in-Some-clause-with_room
-returns-in-Some-clause-with_room c = λ room.
-    subst (λ found. IsKeptLast c.args.why found c.args.removed.now.items c.keep.new.removed.items) c.in-Some.ensures.found
-    (c.of.result, c.of.ensures.is, search rules, c.keep.ensures.with_room room)
+pub returns-in-Some : goal.returns-in-Some
+returns-in-Some c =
+    let one : filter (is_numbered c.args.number) c.args.pairs.now ≡ c.in-Some.pair.now ∷ [] =
+    filter-one c.args.number c.args.pairs.now c.requires.rising ∙ ap option_to_list (sym c.in-Some.ensures.found) in
+    record {
+      removed = c.keep.ensures.kept ∙ ap (λ (r : RemovedPair). last_removed (c.args.removed.now.items ++ r ∷ [])) c.of.ensures
+          ∙ ap (λ (ps : List PairRecord). removed_after (λ p. c.args.why) ps c.args.removed.now.items) (sym one);
+      few = c.keep.ensures.few;
+      len = omega (arith, ap length one, c.keep.ensures.len);
+      capacity = c.keep.ensures.capacity;
+    }
+
+pub returns-in-None-clause-removed : goal.returns-in-None-clause-removed
+returns-in-None-clause-removed c =
+    let none : option_to_list (pair_numbered c.args.number c.args.pairs.now) ≡ [] = ap option_to_list (sym c.in-None.ensures.found) in
+    after-none (λ p. c.args.why) c.args.removed.now.items (search rules)
+    ∙ ap (λ (ps : List PairRecord). removed_after (λ p. c.args.why) ps c.args.removed.now.items)
+    (sym (filter-one c.args.number c.args.pairs.now c.requires.rising ∙ none))

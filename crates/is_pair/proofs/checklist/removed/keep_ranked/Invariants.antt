@@ -1,6 +1,13 @@
-use Rattle.is_pair.specs.Removed.{AreRemoved}
+use Rattle.std.proofs.Common.{◌≡◌, ◌+◌, ◌≤◌, filter, length, take}
+use Rattle.std.specs.VecDeque.{deque_len, deque_capacity}
+use Rattle.is_pair.specs.Lowest.{pairs_of}
+use Rattle.is_pair.specs.Removed.{REMOVED_LIMIT, removed_passing}
 use Rattle.is_pair.proofs.checklist.removed.keep_ranked.Given as goal
 
 abbrev pub invariant-loop-rank : goal.invariant-loop-rank
-invariant-loop-rank g l =
-    AreRemoved (g.T.PairTest.passes l.test) (g.T.PairRemoval.reason l.test) l.pairs l.fn.removed.items l.removed.items
+invariant-loop-rank g l = record {
+  removed : l.removed.items ≡ removed_passing (g.T.PairTest.passes l.test) (g.T.PairRemoval.reason l.test) (pairs_of (take l.rank-index l.ranks) l.pairs) l.fn.removed.items;
+  few : deque_len l.removed ≤ REMOVED_LIMIT;
+  len : deque_len l.removed ≤ deque_len l.fn.removed + length (filter (g.T.PairTest.passes l.test) (pairs_of (take l.rank-index l.ranks) l.pairs));
+  capacity : deque_capacity l.removed ≡ deque_capacity l.fn.removed;
+}

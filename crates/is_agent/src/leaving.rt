@@ -1,0 +1,82 @@
+//! A selected path that falls silent is left for another one that works, with `Modern`; the rules: `is_rules::leaving`.
+
+ghost use Rattle.std.specs.Prelude.{◌≡◌, ℕ, List};
+ghost use Rattle.std.specs.List.{list_any};
+ghost use Rattle.std.specs.Option.{option_map_or};
+ghost use Rattle.is_agent.specs.View.{record_of, emitted_of};
+ghost use Rattle.is_agent.specs.Room.{HasCheckRoomAt, UsesEvents};
+ghost use Rattle.is_pair.specs.Multiset.{is_numbered, without};
+ghost use Rattle.is_rules.specs.Leaving.{gives_way, may_replace, path_left};
+
+use crate::agent::Agent;
+use is_candidate::LocalPreference;
+use is_pair::checklist::{Expired, Removal};
+use is_pair::pair::{CandidatePair, Span};
+use is_pair::{is_wholly_silent, silence_of};
+use is_proto::{Instant, Sha1HmacProvider};
+use is_rules::leaving::MayReplace;
+use is_rules::nomination::{is_eligible, is_named_by, pair_selected};
+
+impl<H: Sha1HmacProvider + Drop, P: LocalPreference> Agent<H, P> {
+    /// Whether there is a pair that may replace the one with this number, which is silent for that time.
+    fn has_replacement(&self, number: u64, silence: Span, now: Instant) -> bool
+        ensures { result ≡ list_any (may_replace now.0 (record_of self.now) number silence) (record_of self.now).pairs }
+    {
+        self.pairs.any(&MayReplace {
+            number,
+            controlling: self.controlling,
+            expired: Expired {
+                lite: self.lite,
+                now,
+                timing: &self.timing,
+                consent: self.kept_consent,
+            },
+            silence,
+        })
+    }
+
+    /// Whether the pair is the selected one, and gives way.
+    fn gives_way(&self, pair: &CandidatePair, now: Instant) -> bool
+        ensures { result ≡ gives_way now.0 (record_of self.now) pair.now }
+    {
+        if !self.timing.is_modern()
+            || self.lite
+            || !is_named_by(self.selected_pair, pair)
+            || !is_eligible(pair, self.controlling)
+            || !is_wholly_silent(pair, &self.timing)
+        {
+            return false;
+        }
+        match silence_of(pair) {
+            Some(silence) => self.has_replacement(pair.id().0, silence, now),
+            None => false,
+        }
+    }
+
+    /// The number of the selected pair, if it gives way.
+    fn left_number(&self, now: Instant) -> Option<u64>
+        ensures { option_map_or (λ n. without (is_numbered n) (record_of self.now).pairs) result (record_of self.now).pairs
+            ≡ (path_left now.0 (record_of self.now)).pairs }
+    {
+        self.pairs.numbers_rise();
+        let Some(pair) = pair_selected(self.selected_pair, &self.pairs) else {
+            return None;
+        };
+        if !self.gives_way(pair, now) {
+            return None;
+        }
+        Some(pair.id().0)
+    }
+
+    /// Removes the selected pair, if it gives way.
+    pub(crate) fn leave_path(&mut self, now: Instant)
+        ensures left { record_of self.new ≡ path_left now.0 (record_of self.old) }
+        ensures emitted { emitted_of self.new ≡ emitted_of self.old }
+        ensures events { UsesEvents 0 self.old self.new }
+        ensures checks { (t : ℕ) → HasCheckRoomAt t self.old → HasCheckRoomAt t self.new }
+    {
+        if let Some(number) = self.left_number(now) {
+            self.pairs.remove(number, Removal::ConsentLost);
+        }
+    }
+}

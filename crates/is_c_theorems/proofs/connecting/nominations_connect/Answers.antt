@@ -1,0 +1,8 @@
+use Rattle.is_c_theorems.proofs.NominatedAtOnce.{nominations_connect}
+use Rattle.is_c_theorems.proofs.connecting.nominations_connect.Goals as goal
+
+pub returns : goal.returns
+returns c =
+    nominations_connect c.all_settings_are_set_in_turn.ensures c.path_effect.ensures c.settings_are_set.ensures c.states_agree.ensures c.nominations_select_at_once.ensures
+    c.trade_effect.ensures c.macs_have_twenty_bytes.ensures c.checks_are_answered.ensures.carried_served c.checks_are_answered.ensures.carried_accepted c.checks_ask.ensures.carried
+    c.pairs_stay.ensures

@@ -1,0 +1,12 @@
+use Rattle.std.proofs.Common.{◌≡◌, ◌+◌, ◌≤◌, filter, length, take}
+use Rattle.std.specs.VecDeque.{deque_len, deque_capacity}
+use Rattle.is_pair.specs.Removed.{REMOVED_LIMIT, removed_passing}
+use Rattle.is_pair.proofs.checklist.removed.keep_by_number.Given as goal
+
+abbrev pub invariant-loop-pair : goal.invariant-loop-pair
+invariant-loop-pair g l = record {
+  removed : l.removed.items ≡ removed_passing (g.T.PairTest.passes l.test) (g.T.PairRemoval.reason l.test) (take l.pair-index l.pairs) l.fn.removed.items;
+  few : deque_len l.removed ≤ REMOVED_LIMIT;
+  len : deque_len l.removed ≤ deque_len l.fn.removed + length (filter (g.T.PairTest.passes l.test) (take l.pair-index l.pairs));
+  capacity : deque_capacity l.removed ≡ deque_capacity l.fn.removed;
+}

@@ -1,0 +1,77 @@
+//! The silence of a pair: its checks after the last one that had a response. With `Modern` a selected pair that is silent is left once
+//! another pair had a response meanwhile.
+
+ghost use Rattle.std.specs.Prelude.{◌≡◌, nat_le};
+ghost use Rattle.is_pair.specs.Checks.{unanswered_count};
+ghost use Rattle.is_pair.specs.Silence.{is_answered_within, outlives, silence_of, span_from};
+
+use super::attempt::BindingAttempt;
+use super::{CandidatePair, attempts};
+use is_proto::Instant;
+use is_stun::stun::StunTiming;
+
+/// So many checks of the silent pair have to follow the check of another pair that had a response: after an outage of the whole network
+/// the silent pair has that many chances to respond, too.
+const FOLLOWING: usize = 4;
+
+/// The time from a check to a later one.
+#[derive(Clone, Copy, Debug)]
+pub struct Span {
+    /// When the first was sent.
+    pub from: Instant,
+    /// When the last was sent.
+    pub to: Instant,
+}
+
+impl BindingAttempt {
+    /// Whether the check was sent in that time, and had a response.
+    fn is_answered_within(&self, span: Span) -> bool
+        ensures { result ≡ is_answered_within span self.now }
+    {
+        self.is_answered() && span.from < self.request_sent && self.request_sent < span.to
+    }
+}
+
+/// The time from one check to another one, if there are such.
+fn span_from(first: Option<BindingAttempt>, last: Option<BindingAttempt>) -> Option<Span>
+    ensures { result ≡ span_from first last }
+{
+    match first {
+        Some(first) => match last {
+            Some(last) => Some(Span {
+                from: first.request_sent,
+                to: last.request_sent,
+            }),
+            None => None,
+        },
+        None => None,
+    }
+}
+
+// ---- for the agent, but not for its users
+
+/// Whether none of the last `max_retransmits` checks had a response.
+pub fn is_wholly_silent(pair: &CandidatePair, timing: &StunTiming) -> bool
+    ensures { result ≡ nat_le timing.now.max_retransmits (unanswered_count pair.now.checks) }
+{
+    timing.max_retransmits() <= attempts::unanswered(&pair.binding_attempts)
+}
+
+/// Returns the time from the first check without a response to the first of the last four.
+pub fn silence_of(pair: &CandidatePair) -> Option<Span>
+    ensures { result ≡ silence_of pair.now.checks }
+{
+    span_from(
+        attempts::first_unanswered(&pair.binding_attempts),
+        attempts::first_of_last(&pair.binding_attempts, FOLLOWING),
+    )
+}
+
+/// Whether a check of the pair that was sent in that time had a response.
+pub fn outlives(pair: &CandidatePair, span: Span) -> bool
+    ensures { result ≡ outlives span pair.now }
+{
+    pair.binding_attempts
+        .iter()
+        .any(|attempt| attempt.is_answered_within(span))
+}

@@ -1,0 +1,149 @@
+-- When a selected pair gives way, and that all pairs stay otherwise.
+use Rattle.std.proofs.Common.{◌≡◌, ℕ, ◌<◌, ◌≤◌, ◌&&◌, ◌||◌, Bool, true, false, not, List, [], ◌∷◌, length, filter, inl, inr, nat_le, nat_lt, Option, Some, None, refl, ap, sym, ◌∙◌, subst, arith, if◌then◌else◌}
+use Rattle.std.specs.Prelude.{position, reverse, unwrap_or}
+use Rattle.std.specs.List.{list_any}
+use Rattle.std.specs.Option.{option_map_or}
+use Rattle.std.proofs.lemmas.Bool.Decides.{nat_tests}
+use Rattle.std.proofs.lemmas.List.{length-reverse}
+use Rattle.std.proofs.lemmas.List.Quantifiers.{position-Some}
+use Rattle.is_proto.specs.Lists.{Has}
+use Rattle.is_stun.specs.Timing.{is_modern}
+use Rattle.is_pair.specs.declared.pair.silence.Span.{Span}
+use Rattle.is_pair.specs.Checks.{Check, is_answered, unanswered_count}
+use Rattle.is_pair.specs.Multiset.{is_named_by}
+use Rattle.is_pair.specs.Pairs.{PairRecord, is_nominated, is_valid}
+use Rattle.is_pair.specs.Silence.{silence_of}
+use Rattle.is_rules.specs.Agent.{AgentRecord}
+use Rattle.is_rules.specs.Leaving.{gives_way, may_replace, path_left}
+use Rattle.is_rules.specs.Nominating.{is_eligible}
+
+-- ---- lists
+
+-- a filter that leaves all leaves the list
+filter-all : {X : Type 0} (keep : X → Bool) (xs : List X) → ((x : X) → Has xs x → keep x ≡ true) → filter keep xs ≡ xs
+filter-all keep [] all = refl
+filter-all keep (x ∷ xs) all =
+    ap (λ b. if b then x ∷ filter keep xs else filter keep xs) (all x (inl refl)) ∙ ap (λ ys. x ∷ ys) (filter-all keep xs (λ y has. all y (inr has)))
+
+pub passes : {X : Type 0} (test : X → Bool) (xs : List X) → list_any test xs ≡ true → (x : X) × Has xs x × (test x ≡ true)
+passes test [] h = absurd (let no : false ≡ true = h in cc)
+passes {X} test (x ∷ xs) h = by (test x) refl h (passes test xs) where
+  by : (b : Bool) → test x ≡ b → (b || list_any test xs) ≡ true → (list_any test xs ≡ true → (y : X) × Has xs y × (test y ≡ true)) → (y : X) × Has (x ∷ xs) y × (test y ≡ true)
+  by true is h later = (x, inl refl, is)
+  by false is h later = let k = later h in (k.0, inr k.1, k.2)
+
+-- at most all checks are without a response
+pub unanswered-most : (cs : List Check) → unanswered_count cs ≤ length cs
+unanswered-most cs = by (position is_answered (reverse cs)) refl where
+  by : (o : Option ℕ) → position is_answered (reverse cs) ≡ o → unwrap_or o (length cs) ≤ length cs
+  by None is = omega arith
+  by (Some i) is =
+      let lt : i < length (reverse cs) = (position-Some is_answered (reverse cs) i (record { id = []; sent = 0; answered = None; nominated = false; controlling = false }) is).0 in
+      let same : length (reverse cs) ≡ length cs = length-reverse cs in
+      omega (arith, lt, same)
+
+-- ---- when a pair gives way
+
+le-from : (n m : ℕ) → nat_le n m ≡ true → n ≤ m
+le-from n m h = grind (arith, nat_tests, h)
+
+all-six : (a b c d e f : Bool) → (a && b && c && d && e && f) ≡ true → (a ≡ true) × (b ≡ true) × (c ≡ true) × (d ≡ true) × (e ≡ true) × (f ≡ true)
+all-six true true true true true f h = (refl, refl, refl, refl, refl, h)
+all-six true true true true false f h = absurd (let no : false ≡ true = h in cc)
+all-six true true true false e f h = absurd (let no : false ≡ true = h in cc)
+all-six true true false d e f h = absurd (let no : false ≡ true = h in cc)
+all-six true false c d e f h = absurd (let no : false ≡ true = h in cc)
+all-six false b c d e f h = absurd (let no : false ≡ true = h in cc)
+
+third-off : (a b c d e f : Bool) → c ≡ false → (a && b && c && d && e && f) ≡ false
+third-off true true true d e f is = absurd (let no : true ≡ false = is in cc)
+third-off true true false d e f is = refl
+third-off true false c d e f is = refl
+third-off false b c d e f is = refl
+
+fourth-off : (a b c d e f : Bool) → d ≡ false → (a && b && c && d && e && f) ≡ false
+fourth-off true true true true e f is = absurd (let no : true ≡ false = is in cc)
+fourth-off true true true false e f is = refl
+fourth-off true true false d e f is = refl
+fourth-off true false c d e f is = refl
+fourth-off false b c d e f is = refl
+
+first-off : (a b c d e f : Bool) → a ≡ false → (a && b && c && d && e && f) ≡ false
+first-off true b c d e f is = absurd (let no : true ≡ false = is in cc)
+first-off false b c d e f is = refl
+
+invalid-off : (v n : Bool) → v ≡ false → (v && n) ≡ false
+invalid-off true n is = absurd (let no : true ≡ false = is in cc)
+invalid-off false n is = refl
+
+in-some : {X : Type 0} (f : X → Bool) (o : Option X) → option_map_or f o false ≡ true → (x : X) × (o ≡ Some x) × (f x ≡ true)
+in-some f None h = absurd (let no : false ≡ true = h in cc)
+in-some f (Some x) h = (x, refl, h)
+
+is-full : (l : Bool) → not l ≡ true → l ≡ false
+is-full true h = absurd (let no : false ≡ true = h in cc)
+is-full false h = refl
+
+module _ {H P : Type 0} where
+  -- what the pair and another one are
+  pub record GivesWay (now : ℕ) (a : AgentRecord H P) (p : PairRecord) : Type 0 where
+    pub modern : is_modern a.timing ≡ true
+    pub full : a.lite ≡ false
+    pub selected : is_named_by a.selected_pair p ≡ true
+    pub eligible : is_eligible a.controlling p ≡ true
+    pub silent : a.timing.max_retransmits ≤ unanswered_count p.checks
+    pub silence : Span
+    pub lasts : silence_of p.checks ≡ Some silence
+    pub other : PairRecord
+    pub there : Has a.pairs other
+    pub replaces : may_replace now a p.number silence other ≡ true
+
+  pub gives-why : (now : ℕ) (a : AgentRecord H P) (p : PairRecord) → gives_way now a p ≡ true → GivesWay now a p
+  gives-why now a p h = from parts where
+    Parts : Type 0
+    Parts = (is_modern a.timing ≡ true) × (not a.lite ≡ true) × (is_named_by a.selected_pair p ≡ true) × (is_eligible a.controlling p ≡ true)
+        × (nat_le a.timing.max_retransmits (unanswered_count p.checks) ≡ true) × (option_map_or (λ silence. list_any (may_replace now a p.number silence) a.pairs) (silence_of p.checks) false ≡ true)
+
+    parts : Parts
+    parts = all-six (is_modern a.timing) (not a.lite) (is_named_by a.selected_pair p) (is_eligible a.controlling p) (nat_le a.timing.max_retransmits (unanswered_count p.checks))
+        (option_map_or (λ silence. list_any (may_replace now a p.number silence) a.pairs) (silence_of p.checks) false) h
+
+    from : Parts → GivesWay now a p
+    from (modern, full, selected, eligible, silent, another) =
+        let o = in-some (λ silence. list_any (may_replace now a p.number silence) a.pairs) (silence_of p.checks) another in
+        let k = passes (may_replace now a p.number o.0) a.pairs o.2 in record {
+          modern = modern;
+          full = is-full a.lite full;
+          selected = selected;
+          eligible = eligible;
+          silent = le-from a.timing.max_retransmits (unanswered_count p.checks) silent;
+          silence = o.0;
+          lasts = o.1;
+          other = k.0;
+          there = k.1;
+          replaces = k.2;
+        }
+
+  pub gives-stores : (now : ℕ) (a : AgentRecord H P) (p : PairRecord) → gives_way now a p ≡ true → a.timing.max_retransmits ≤ length p.checks
+  gives-stores now a p h = let silent = (gives-why now a p h).silent in let most = unanswered-most p.checks in omega (arith, silent, most)
+
+  -- ---- when all pairs stay
+
+  pub none-left : (now : ℕ) (a : AgentRecord H P) → ((p : PairRecord) → Has a.pairs p → gives_way now a p ≡ false) → path_left now a ≡ a
+  none-left now a none = ap (λ ps. record a { pairs = ps }) (filter-all (λ p. not (gives_way now a p)) a.pairs (λ p has. ap not (none p has)))
+
+  -- no pair is valid
+  pub invalid-stays : (now : ℕ) (a : AgentRecord H P) (p : PairRecord) → is_valid p ≡ false → gives_way now a p ≡ false
+  invalid-stays now a p invalid =
+      fourth-off (is_modern a.timing) (not a.lite) (is_named_by a.selected_pair p) (is_eligible a.controlling p) _ _ (invalid-off (is_valid p) (a.controlling || is_nominated p) invalid)
+
+  pub none-valid-left : (now : ℕ) (a : AgentRecord H P) → ((p : PairRecord) → Has a.pairs p → is_valid p ≡ false) → path_left now a ≡ a
+  none-valid-left now a none = none-left now a (λ p has. invalid-stays now a p (none p has))
+
+  -- no pair is selected
+  pub unselected-left : (now : ℕ) (a : AgentRecord H P) → a.selected_pair ≡ None → path_left now a ≡ a
+  unselected-left now a none = none-left now a (λ p has. third-off (is_modern a.timing) (not a.lite) (is_named_by a.selected_pair p) _ _ _ (ap (λ o. is_named_by o p) none))
+
+  -- the profile is `Original`
+  pub original-left : (now : ℕ) (a : AgentRecord H P) → is_modern a.timing ≡ false → path_left now a ≡ a
+  original-left now a off = none-left now a (λ p has. first-off (is_modern a.timing) _ _ _ _ _ off)
