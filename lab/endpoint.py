@@ -9,7 +9,7 @@ from typing import Protocol as Interface_, cast
 from is_ice import Candidate, Consent, IceAgent, IceAgentEvent, IceCreds, Profile, Settings, SocketAddress, line_fields, new_creds
 
 from .clock import Clock, nanoseconds
-from .log import Beginning, Log, LoggedAgent
+from .log import Beginning, Log
 from .network import Datagram, Interface, Packet
 from .scenario import AgentSettings
 from .servers import SMALL, WRAPPED, BindingRequest, AllocateRequest, CreatePermission, Relayed, SuccessResponse
@@ -53,7 +53,7 @@ class Endpoint:
         self.agent = IceAgent(creds, self.tie_breaker)
         if log is not None:
             log.sides[side] = Beginning(creds, self.tie_breaker, settings.controlling)
-            self.agent = cast(IceAgent, LoggedAgent(self.agent, side, clock, log))
+            self.agent = cast(IceAgent, log.wrapped(self.agent, side, clock))
         self.sockets: dict[SocketAddress, Interface] = {}
         self.relays: dict[SocketAddress, tuple[SocketAddress, SocketAddress]] = {}  # relayed address to socket and server
         self.generation = 0

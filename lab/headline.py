@@ -1,19 +1,23 @@
-"""Decides clauses of docs/HEADLINE.md on what a program passed to agents and got from them, by the definitions of `Seen.antt`,
-`Headline.antt`, `Executions.antt` and `TwoAgents.antt` in crates/is_c_theorems/specs."""
+"""Decides the clauses of docs/HEADLINE.md on what a program passed to agents and got from them, by the definitions of
+crates/is_c_theorems/specs. Those of `Seen.antt`, `Headline.antt` and `TwoAgents.antt`, and consent, are decided here, the others in
+`clauses/`."""
 
 from __future__ import annotations
 
 from collections import defaultdict
-from collections.abc import Callable, Iterable, Sequence
+from collections.abc import Callable, Iterable, Mapping, Sequence
 from dataclasses import dataclass, field
 
 from is_ice.stun import StunMessage
 
+from .clauses import along, bounded, deliveries, new_agents, settings_set, uses
+from .clauses.found import Found, Records, other
+from .clauses.seen import CLEARING
 from .clock import SECOND
 from .consent import timeout
 from .figures import aligned
 from .guarantees import Broken, Path
-from .log import Entry
+from .log import Entry, Log
 from .pool import Fault, Portion
 from .scenario import SIDES, Scenario
 from .stun import message_of, nomination_of
@@ -23,34 +27,21 @@ CONSENT = timeout()  # since the last check that was answered was sent
 PEER_CONSENT = 15 * SECOND  # since the last check of the peer arrived
 
 
-@dataclass
-class Found:
-    """What is found in a session: how often the preconditions of a clause held, and where its conclusion was not true then."""
-
-    held: int = 0
-    faults: list[str] = field(default_factory=list)
-
-    def add(self, is_true: bool, fault: str) -> None:
-        """Adds a case in which the preconditions held."""
-        self.held += 1
-        if not is_true:
-            self.faults.append(fault)
-
-
 # ---- one agent
 
 def selected_are_answered(record: Record) -> Found:
-    """`SelectedAreAnswered`: since the last restart the program passed a response on the reverse of the path, signed with the peer's
-    password that it had set last, with the ID of a check of the path that it got since that restart."""
+    """`SelectedAreAnswered`: since pairs were last cleared, by a restart or by forming them again, the program passed a response on the
+    reverse of the path, signed with the peer's password that it had set last, with the ID of a check of the path that it got since then."""
     found = Found()
     if not record.keeps_modern():
         return found
     checks, answers = defaultdict[Path, set[bytes]](set), defaultdict[Path, set[bytes]](set)
     password: bytes | None = None
     for at, e in record.entries:
-        if e.call == "ice_restart":
+        if e.call in CLEARING:
             checks.clear()
             answers.clear()
+        if e.call == "ice_restart":
             password = None
         if e.call == "set_remote_credentials":
             password = e.given[0].pass_.encode()
@@ -64,13 +55,15 @@ def selected_are_answered(record: Record) -> Found:
 
 
 def selected_are_nominated_by_peer(record: Record) -> Found:
-    """`SelectedAreNominatedByPeer`: the agent was controlled all along, and the program passed a request that nominates the path, on its
-    reverse."""
+    """`SelectedAreNominatedByPeer`: the agent was controlled since the last restart, and since then the program passed a request that
+    nominates the path, on its reverse."""
     found = Found()
     if not record.keeps_modern():
         return found
     nominated: set[Path] = set()
     for at, e in record.entries:
+        if e.call == "ice_restart":
+            nominated.clear()
         if request := accepted(e, "request"):
             path, contents = request
             if message_of(contents).use_candidate or nomination_of(contents):
@@ -136,14 +129,6 @@ def connected_are_alive(record: Record) -> Found:
 
 
 # ---- two agents
-
-Records = dict[str, Record]
-
-
-def other(side: str) -> str:
-    """Returns the other side."""
-    return "b" if side == "a" else "a"
-
 
 def turns(records: Records) -> list[tuple[int, Entry]]:
     """Returns the calls on both, oldest first."""
@@ -261,12 +246,24 @@ def selected_are_traced(records: Records) -> Found:
 # ---- sessions
 
 ONE: dict[str, Callable[[Record], Found]] = {
-    "SelectedAreAnswered": selected_are_answered, "SelectedAreNominatedByPeer": selected_are_nominated_by_peer,
-    "UnacceptedChangeNothing": unaccepted_change_nothing, "ConnectedAreAlive": connected_are_alive}
+    "NewAgentsAreFresh": new_agents.new_agents_are_fresh, "FollowedAreUses": uses.followed_are_uses,
+    "UnacceptedChangeNothing": unaccepted_change_nothing, "SelectedAreAnswered": selected_are_answered,
+    "SelectedAreNominatedByPeer": selected_are_nominated_by_peer, "SettingsAreThoseSet": settings_set.settings_are_those_set,
+    "PathsAreAnswered": along.paths_are_answered, "PathsAreNominatedByPeer": along.paths_are_nominated_by_peer,
+    "PathsAreFirstChoice": along.paths_are_first_choice, "EachQueuesOne": bounded.each_queues_one,
+    "ConnectedAreAlive": connected_are_alive, "ConnectedHavePath": along.connected_have_path, "StaysBounded": bounded.stays_bounded,
+    "ResponsesConnect": deliveries.responses_connect}
+LOGGED: dict[str, Callable[[Log], Found]] = {"SessionsAreRuns": uses.sessions_are_runs}
 TWO: dict[str, Callable[[Records], Found]] = {
-    "SelectedAreTraced": selected_are_traced, "GreaterKeepsRole": greater_keeps_role, "LesserSwitchesOnce": lesser_switches_once,
-    "RolesStayOpposite": roles_stay_opposite}
-CLAUSES = (*ONE, *TWO)
+    "GreaterKeepsRole": greater_keeps_role, "LesserSwitchesOnce": lesser_switches_once, "RolesStayOpposite": roles_stay_opposite,
+    "SelectedAreTraced": selected_are_traced}
+DELIVERED: dict[str, Callable[[deliveries.Session], Found]] = {
+    "DeliveredAreAccepted": deliveries.delivered_are_accepted, "NominatedConnect": deliveries.nominated_connect,
+    "NominationsConnect": deliveries.nominations_connect, "BothBecomeConnected": deliveries.both_become_connected}
+CLAUSES = (*ONE, *LOGGED, *TWO, *DELIVERED)
+# The scenario in which both begin with one role, so that one switches: `LesserSwitchesOnce` speaks of such sessions.
+CONFLICT = "role_conflict"
+TITLE = "In how many percent of the sessions the preconditions of each theorem held, and in how many cases of them all"
 
 
 def decide(records: Records) -> dict[str, Found]:
@@ -276,7 +273,10 @@ def decide(records: Records) -> dict[str, Found]:
         for one in map(find, records.values()):
             found[clause].held += one.held
             found[clause].faults += one.faults
-    return found | {clause: find_two(records) for clause, find_two in TWO.items()}
+    session, log = deliveries.Session(records), records["a"].log
+    return (found | {clause: find_logged(log) for clause, find_logged in LOGGED.items()}
+            | {clause: find_two(records) for clause, find_two in TWO.items()}
+            | {clause: find_delivered(session) for clause, find_delivered in DELIVERED.items()})
 
 
 def is_ordinary(scenario: Scenario) -> bool:
@@ -315,12 +315,21 @@ class Play:
         return decided
 
 
-def table(names: Sequence[str], decided: Iterable[Decided]) -> str:
-    """Returns a table: of how many percent of the sessions of each scenario, and of all, the preconditions held."""
+def groups_of(scenarios: Sequence[Scenario]) -> dict[str, list[str]]:
+    """Returns the columns of the table, each with its scenarios: the ordinary sessions, and any other scenario."""
+    ordinary = [s.name for s in scenarios if is_ordinary(s)]
+    return ({"ordinary": ordinary} if ordinary else {}) | {s.name: [s.name] for s in scenarios if not is_ordinary(s)}
+
+
+def table(groups: Mapping[str, Sequence[str]], decided: Iterable[Decided]) -> str:
+    """Returns a table: of how many percent of the sessions of each group the preconditions of each clause held, and in how many cases of
+    all sessions together. Its first row has the number of sessions."""
     sessions = list(decided)
+    own = {group: [d for d in sessions if d.scenario in names] for group, names in groups.items()}
 
-    def row(title: str, own: Sequence[Decided]) -> list[str]:
-        return [title, str(len(own)), *(f"{100 * sum(d.held[c] > 0 for d in own) / max(len(own), 1):.1f}" for c in CLAUSES)]
+    def row(clause: str) -> list[str]:
+        shares = (f"{100 * sum(d.held[clause] > 0 for d in found) / max(len(found), 1):.1f}" for found in own.values())
+        return [f"`{clause}`", *shares, str(sum(d.held[clause] for d in sessions))]
 
-    head = ["scenario", "sessions", *(f"{clause} %" for clause in CLAUSES)]
-    return aligned([head, *(row(name, [d for d in sessions if d.scenario == name]) for name in names), row("all", sessions)])
+    head = ["theorem", *(f"{group} %" for group in groups), "cases"]
+    return aligned([head, ["sessions", *(str(len(found)) for found in own.values()), str(len(sessions))], *map(row, CLAUSES)])

@@ -47,6 +47,10 @@ class Log:
     entries: list[Entry] = field(default_factory=list)
     removed: dict[str, list[RemovedPair]] = field(default_factory=dict)
 
+    def wrapped(self, agent: IceAgent, side: str, clock: Clock) -> Any:
+        """Returns an agent, whose calls are logged."""
+        return LoggedAgent(agent, side, clock, self)
+
 
 class LoggedAgent:
     """An agent whose calls are logged. Polls that return nothing are left out, not `poll_timeout`: with `Original` it fixes due times."""
@@ -58,6 +62,11 @@ class LoggedAgent:
     def unlogged(self) -> IceAgent:
         """The agent, whose calls are not logged."""
         return self._agent
+
+    @property
+    def now(self) -> int:
+        """The time."""
+        return self._clock.now
 
     def __getattr__(self, name: str) -> Any:
         found = getattr(self._agent, name)

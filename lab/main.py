@@ -46,9 +46,11 @@ def _arguments() -> argparse.Namespace:
     covering.add_argument("--set", action="append", default=[], metavar="KEY=VALUE", help="as for measure")
     covering.add_argument("--settle", type=float, metavar="S", help="go on this long after the last selection (as the scenario says: 12 s)")
     deciding = words.add_parser("headline", help="decides the clauses of docs/HEADLINE.md, and shows how many sessions they cover")
-    deciding.add_argument("scenario", nargs="*", help="as for measure; default: those in which two full agents with opposite roles connect")
+    deciding.add_argument("scenario", nargs="*",
+                          help="as for measure; default: those in which two full agents with opposite roles connect, and role_conflict")
     deciding.add_argument("-n", "--sessions", type=int, default=50, help="sessions of each scenario (50)")
     deciding.add_argument("--set", action="append", default=[], metavar="KEY=VALUE", help="as for measure")
+    deciding.add_argument("--document", type=Path, metavar="FILE", help="puts the table in place of that of a document")
     counting = words.add_parser("checks", help="counts the checks that agents send, and compares with the bounds of the theorems")
     counting.add_argument("scenario", nargs="*", help="as for measure")
     counting.add_argument("-n", "--sessions", type=int, default=50, help="sessions of each scenario (50)")
@@ -87,9 +89,14 @@ def _cover(options: argparse.Namespace) -> None:
 
 def _decide(options: argparse.Namespace) -> None:
     known = [scenario.load(name, tuple(options.set)) for name in options.scenario or scenario.names()]
-    scenarios = known if options.scenario else [s for s in known if headline.is_ordinary(s)]
+    scenarios = known if options.scenario else [s for s in known if headline.is_ordinary(s) or s.name == headline.CONFLICT]
     found = pool.run_by(headline.Play(), scenarios, options.sessions, options.seed, options.processes, options.quiet)
-    print(headline.table([s.name for s in scenarios], found))
+    made = headline.table(headline.groups_of(scenarios), found)
+    if options.document is None:
+        print(made)
+    else:
+        text = options.document.read_text(encoding="utf-8")
+        options.document.write_text(hosts.filled(text, headline.TITLE, made), encoding="utf-8")
 
 
 def _count(options: argparse.Namespace) -> None:

@@ -3,12 +3,17 @@
 import unittest
 from collections.abc import Callable
 from dataclasses import replace
+from typing import Any
 
+from is_ice import Candidate, IceAgent, Profile, SocketAddress
 from lab import headline, scenario
-from lab.clock import SECOND
-from lab.headline import CLAUSES, Found, Records, by_tie, decide, is_ordinary, table
-from lab.log import Entry
-from lab.witness import Record, Stray, accepted, gets, play, selected
+from lab.clauses.found import Found, Records
+from lab.clauses.seen import CLEARING
+from lab.clock import MILLISECOND, SECOND, Clock
+from lab.headline import CLAUSES, by_tie, decide, groups_of, is_ordinary, table
+from lab.log import Entry, Log, LoggedAgent
+from lab.view import born
+from lab.witness import Record, Stray, Witness, accepted, gets, play, selected
 
 SESSIONS = 2
 COVERED = 0.95
@@ -52,7 +57,9 @@ class Sessions(unittest.TestCase):
         for one in decided:
             for clause in ("GreaterKeepsRole", "LesserSwitchesOnce", "RolesStayOpposite", "SelectedAreTraced"):
                 self.assertTrue(one.held[clause])
-        self.assertIn("| role_conflict", table(["role_conflict"], decided))
+        made = table(groups_of([scenario.load(headline.CONFLICT)]), decided)
+        self.assertIn(f"| sessions                     | {SESSIONS} ", made)
+        self.assertIn("| `LesserSwitchesOnce`         | 100.0 ", made)
 
     def test_forged_packets_leave_the_session_as_it_is(self) -> None:
         for name in ("same_lan", "change_of_network"):
@@ -118,15 +125,19 @@ class Faults(Altered):
         other = [(at, replace(e, given=(replace(e.given[0], pass_="x" * 22),)) if is_password(e) else e) for at, e in creds]
         self.assert_fault(headline.selected_are_answered(replace(self.controlling, entries=other)))
 
-    def test_an_answer_before_a_restart(self) -> None:
+    def test_an_answer_before_a_clear(self) -> None:
         first = next(i for i, (_, e) in enumerate(self.controlled.entries) if selected(e))
         at, e = self.controlled.entries[first]
-        entries = list(self.controlled.entries)
-        entries[first:first] = [(at, Entry(e.time, e.side, "ice_restart"))]
-        self.assert_fault(headline.selected_are_answered(replace(self.controlled, entries=entries)))
+        for clear in CLEARING:
+            entries = list(self.controlled.entries)
+            entries[first:first] = [(at, Entry(e.time, e.side, clear))]
+            self.assert_fault(headline.selected_are_answered(replace(self.controlled, entries=entries)))
 
     def test_selected_are_nominated_by_peer(self) -> None:
         self.assert_fault(headline.selected_are_nominated_by_peer(without(self.controlled, lambda e: accepted(e, "request") is not None)))
+
+    def test_a_nomination_before_a_restart(self) -> None:
+        self.assert_fault(headline.selected_are_nominated_by_peer(self._restarted(self.controlled)))
 
     def test_unaccepted_change_nothing(self) -> None:
         stray = self.controlled.witness.strays[0]
@@ -162,11 +173,53 @@ class Faults(Altered):
         _, lesser = by_tie(self.records)
         self.assert_fault(headline.roles_stay_opposite(self._switched(lesser, (not lesser.witness.began_controlling,))))
 
+    def _restarted(self, record: Record) -> Record:
+        """The record with a restart before the first selected path is polled."""
+        first = next(i for i, (_, e) in enumerate(record.entries) if selected(e))
+        at, e = record.entries[first]
+        entries = list(record.entries)
+        entries[first:first] = [(at, Entry(e.time, e.side, "ice_restart"))]
+        return replace(record, entries=entries)
+
     def _switched(self, record: Record, roles: tuple[bool, ...]) -> Records:
         """The records, in which this side has these roles after its last calls."""
         last = record.entries[-1][0]
         witness = replace(record.witness, roles=[*record.witness.roles, *((last, role) for role in roles)])
         return {side: replace(one, witness=witness) if one is record else one for side, one in self.records.items()}
+
+
+class Cleared(unittest.TestCase):
+    """Two agents of which one selects a path, forms its pairs again, and only then is polled for events."""
+
+    def record(self, profile: Profile) -> Record:
+        clock, log = Clock(), Log()
+        one, two = IceAgent(), IceAgent()
+        witness = Witness(born(one, one.local_credentials))
+        one.set_controlling(True)
+        one.set_settings(replace(one.settings, profile=profile))  # no call of the record
+        logged: Any = LoggedAgent(one, "a", clock, log)
+        for agent, remote, address in ((logged, two, "10.0.0.1"), (two, logged, "10.0.0.2")):
+            agent.set_remote_credentials(remote.local_credentials)
+            remote.add_remote_candidate(agent.add_local_candidate(Candidate.host(SocketAddress(address, 5000))))
+        while one.nominated_pair is None:
+            for agent, remote in ((logged, two), (two, logged)):
+                agent.handle_timeout(clock.now)
+                while packet := agent.poll_transmit():
+                    remote.handle_packet(clock.now, packet.source, packet.destination, packet.contents)
+            clock.now += 50 * MILLISECOND
+        logged.recreate_candidate_pairs()
+        while logged.poll_event():
+            pass
+        return Record(list(enumerate(log.entries)), witness, 1, log)
+
+    def test_it_is_not_reported(self) -> None:
+        record = self.record(Profile.MODERN)
+        self.assertTrue(any(accepted(e, "success") for _, e in record.entries))
+        self.assertFalse(any(selected(e) for _, e in record.entries))
+
+    def test_with_original_it_is(self) -> None:
+        found = headline.selected_are_answered(self.record(Profile.ORIGINAL))
+        self.assertEqual((found.held, len(found.faults)), (1, 1))
 
 
 class Preconditions(Altered):
@@ -189,6 +242,9 @@ class Preconditions(Altered):
 
     def test_it_was_controlling(self) -> None:
         self.assert_lacks(headline.selected_are_nominated_by_peer(self.controlling))
+        began = replace(self.controlled, witness=replace(self.controlled.witness, began_controlling=True))
+        self.assert_lacks(headline.selected_are_nominated_by_peer(began))
+        self.assert_holds(headline.selected_are_nominated_by_peer(self._with(began, "ice_restart")))
 
     def test_a_message_is_forged(self) -> None:
         self._assert_unfair(without_in(self.records, lambda e: gets(e, "success") is not None))

@@ -23,8 +23,9 @@ module _ {H P : Type 0} (mac : H → List ℕ → List ℕ → List ℕ) (answer
   abbrev pub OthersIssueNone : AgentRecord H P → Stream → List (Logged P) → Type 0
   OthersIssueNone first s log = AtEach mac answers first s log (λ before mid x after. IssuesNone x.call x.entry)
 
-  -- What is issued is appended to its queue, a poll removes the first element, and an ICE restart leaves only its own events.
+  -- What is issued is appended to its queue, a poll removes the first element, and an ICE restart leaves only its own events. With
+  -- `Modern`, `recreate_candidate_pairs` removes each `NominatedSend` that waits.
   abbrev pub QueuesAreKept : AgentRecord H P → Stream → List (Logged P) → Type 0
   QueuesAreKept first s log =
       AtEach mac answers first s log (λ before mid x after.
-      QueuesPackets x.call x.entry mid.packets after.packets × Reports x.call x.entry mid.events after.events)
+      QueuesPackets x.call x.entry mid.packets after.packets × Reports mid.timing.profile x.call x.entry mid.events after.events)

@@ -28,7 +28,7 @@ module _ {H P : Type 0} (mac : H → List ℕ → List ℕ → List ℕ) (answer
       AtEach mac answers first s log (λ before mid x after. (path : Path) → Has after.events (selecting path)
       → Has mid.events (selecting path) ⊎ Has x.entry.emitted.selected_paths (Some path))
 
-  -- Each path in a `NominatedSend` that `poll_event` returned was selected since the last ICE restart,
+  -- Each path in a `NominatedSend` that `poll_event` returned was selected since the last ICE restart, with `Modern` since the last clear,
   abbrev pub PolledAreSelected : AgentRecord H P → Stream → List (Logged P) → Type 0
   PolledAreSelected first s log = AtEach mac answers first s log (λ before mid x after. (path : Path) → ReportsPath x path → IsSelectedSince before path)
 
@@ -50,8 +50,8 @@ module _ {H P : Type 0} (mac : H → List ℕ → List ℕ → List ℕ) (answer
 
   -- ---- two agents
 
-  -- Each `NominatedSend` that waits in a side reports a path that the side selected since its last ICE restart. If it was never lite, the
-  -- path was answered by then.
+  -- Each `NominatedSend` that waits in a side reports a path that the side selected since its last ICE restart, with `Modern` since its last
+  -- clear.
   abbrev pub BothReportSelected : WorldRecord H P → Streams → List (LoggedEvent P) → Type 0
   BothReportSelected first s log =
       AfterEach mac answers first s log (λ part side a. (path : Path) → Has a.events (selecting path) → IsSelectedSince (own_log side [] part) path)

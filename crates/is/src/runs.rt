@@ -119,7 +119,8 @@ pub fn run<H: Sha1HmacProvider + Drop, P: LocalPreference, R: Rng>(
         → LastPathsAreTop H.mac P.answers (record_of agent.old) (R.stream rng.old) (log_of calls.items result) }
 
     // What the caller sees of this: each path in a `NominatedSend` that `poll_event` returned was selected by a call since the last ICE
-    // restart, and so all that the clauses above say of selected paths holds of it. No event reports another path.
+    // restart, with `Modern` since the last clear, and so all that the clauses above say of selected paths holds of it. No event reports
+    // another path.
     ensures polled { IsFresh (record_of agent.old)
         → PolledAreSelected H.mac P.answers (record_of agent.old) (R.stream rng.old) (log_of calls.items result) }
 
@@ -207,8 +208,8 @@ pub fn run<H: Sha1HmacProvider + Drop, P: LocalPreference, R: Rng>(
     ensures takers { IsFresh (record_of agent.old)
         → SuccessesMakeValid H.mac P.answers (record_of agent.old) (R.stream rng.old) (log_of calls.items result) }
 
-    // If a request with USE-CANDIDATE gets a success response, and the agent is controlled afterwards, a pair on the response's
-    // path is nominated.
+    // If a request that nominates its pair gets a success response, and the agent is controlled afterwards, a pair on the response's
+    // path is nominated. Requests nominate by USE-CANDIDATE, or if nominations have numbers, by NOMINATION.
     ensures nominated { IsFresh (record_of agent.old)
         → RequestsNominate H.mac P.answers (record_of agent.old) (R.stream rng.old) (log_of calls.items result) }
 
@@ -236,7 +237,7 @@ pub fn run<H: Sha1HmacProvider + Drop, P: LocalPreference, R: Rng>(
     // After each call, whatever was received: at most as many packets wait to be polled as packets were accepted and
     // `handle_timeout` was called since `poll_transmit` returned None or the agent was restarted. Events wait likewise since
     // `poll_event` returned None, `DiscoveredRecv` aside: at most two for each of these packets, five for each of these calls, and
-    // those of a clear, and two for each candidate that was added or invalidated. At most 100 early requests wait.
+    // those of a clear, and with `Modern` two for each candidate that was added or invalidated. At most 100 early requests wait.
     ensures waiting { IsFresh (record_of agent.old)
         → QueuesStayShort H.mac P.answers (record_of agent.old) (R.stream rng.old) (log_of calls.items result) }
 
@@ -259,7 +260,7 @@ pub fn run<H: Sha1HmacProvider + Drop, P: LocalPreference, R: Rng>(
         → SilentPairsStayFew H.mac P.answers (record_of agent.old) (R.stream rng.old) (log_of calls.items result) }
 
     // Packets and events are polled in the order in which they were issued, and an ICE restart empties both queues before its own
-    // events.
+    // events. With `Modern`, `recreate_candidate_pairs` removes each `NominatedSend` that waits; with `Original` it removes nothing.
     ensures order { QueuesAreKept H.mac P.answers (record_of agent.old) (R.stream rng.old) (log_of calls.items result) }
 
     // A `NominatedSend` that waits after a call waited before it, or reports a path that the call selects.

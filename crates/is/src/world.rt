@@ -153,7 +153,8 @@ impl<H: Sha1HmacProvider + Drop, P: LocalPreference> TwoAgents<H, P> {
         ensures traced { SelectedAreTraced (world_of self.old) (logged events.items result.entries.items) result.entries.items }
 
         // What the callers see of this: after each event, each `NominatedSend` that waits in a side reports a path that a call of the side
-        // selected since its last ICE restart. If the side was never lite, the path had got an authentic success response by then.
+        // selected since its last ICE restart, with `Modern` since its last clear. If the side was never lite, the path had got an
+        // authentic success response by then.
         ensures events { BothReportSelected H.mac P.answers (world_of self.old) (sources (R.stream rng_a.old) (S.stream rng_b.old)) (logged events.items result.entries.items) }
         ensures events_answered { BothReportAnswered H.mac P.answers (world_of self.old) (sources (R.stream rng_a.old) (S.stream rng_b.old)) (logged events.items result.entries.items) }
 

@@ -12,6 +12,8 @@ use Rattle.is_rules.specs.declared.event.IceConnectionState.TheVariants.{New}
 use Rattle.is_rules.specs.declared.settings.Settings.{Settings}
 use Rattle.is_rules.specs.Effects.{lite_set_by}
 use Rattle.is_rules.specs.Issuing.{QueuesPackets, IsQueued}
+use Rattle.is_rules.specs.Nominating.{is_eligible}
+use Rattle.is_rules.specs.Points.{IsNominationPoint}
 use Rattle.is_rules.specs.Polls.{IsPolled, NextTimeoutFrom, is_waiting, is_idle}
 use Rattle.is_rules.specs.Sending.{path_of}
 use Rattle.is_rules.specs.Settings.{modern_settings}
@@ -24,11 +26,12 @@ use Rattle.is_theorems.specs.ConsentLogs.{IsConnectedAt}
 use Rattle.is_theorems.specs.Exchange.{Course}
 use Rattle.is_theorems.specs.Limited.{ListsStayBounded, DiscoveriesStayFew, IsLimitedAt}
 use Rattle.is_theorems.specs.Logs.{Logged, NeverLite, last_selected}
+use Rattle.is_theorems.specs.Polled.{SelectionsAreNominatedSince}
 use Rattle.is_theorems.specs.Reporting.{QueuesTheorem}
 use Rattle.is_theorems.specs.Runs.{IsFresh}
 use Rattle.is_theorems.specs.Settings.{all_settings_of, settings_along, SettingsAreSet}
 use Rattle.is_theorems.specs.Settled.{IsModernAlong, IsAgreed, StatesAgree}
-use Rattle.is_theorems.specs.Shared.{IsNewlyCreated, BeforeEach, SelectionsAreAnswered, SelectionsAreNominatedByPeer, SelectionsAreTop}
+use Rattle.is_theorems.specs.Shared.{IsControlledSince, IsNewlyCreated, BeforeEach, SelectionsAreAnswered, SelectionsAreTop}
 use Rattle.is_theorems.specs.Waiting.{QueuesAreShort}
 use Rattle.is_theorems.proofs.ExecutionLogs.SegmentsAsExecutions.{calls_onto, onto_is}
 use Rattle.is_c_calls.specs.declared.preference.Preference.{Preference}
@@ -37,16 +40,16 @@ use Rattle.is_c_calls.specs.Held.{Held, HomeRecord, KeepsRest}
 use Rattle.is_c_calls.specs.Packets.{packet_path, HandlesDatagram, AcceptsOn}
 use Rattle.is_c_calls.specs.Codes.{OK}
 use Rattle.is_c_calls.specs.Preferences.{answers}
-use Rattle.is_c_calls.specs.Following.{Follows}
+use Rattle.is_c_calls.specs.Following.{Follows, Followed}
 use Rattle.is_c_calls.specs.Sessions.{Used, is_ok}
-use Rattle.is_c_calls.specs.Uses.{Use, mac_of, Does}
-use Rattle.is_c_theorems.specs.CallLogs.{settings_onto, IsLogOf, newborn}
+use Rattle.is_c_calls.specs.Uses.{Use, SetSettings, mac_of, Does}
+use Rattle.is_c_theorems.specs.CallLogs.{settings_onto, IsLogOf, newborn, IsUsed}
 use Rattle.is_c_theorems.specs.Chosen.{EachKeeps, keeps_modern, keeps_consent, keeps_limit}
 use Rattle.is_c_theorems.specs.Headline.{UnacceptedChangeNothing}
 use Rattle.is_c_theorems.specs.Executions.{PathsAreAnswered, PathsAreNominatedByPeer, PathsAreFirstChoice, EachQueuesOne, modern_consent, ConnectedAreAlive, ConnectedHavePath, DISCOVERED_LIMIT, StaysBounded}
 use Rattle.is_c_theorems.proofs.CallsAsSteps.{never, either, one, error_bad}
 use Rattle.is_c_theorems.proofs.LogsOfCalls.{Ran}
-use Rattle.is_c_theorems.proofs.SettingsOfCalls.{Log, Chosen, IsModern, along, begins, settings_last, settings_now, modern_by, rest_of, new_settings, never_lite, modern_full, consent_full, consent_by, limit_by}
+use Rattle.is_c_theorems.proofs.SettingsOfCalls.{Log, Chosen, IsModern, along, begins, settings_last, settings_now, modern_by, rest_of, new_settings, never_lite, modern_log, modern_full, consent_full, consent_by, limit_by}
 
 abbrev pub Set : Type 0
 Set = SettingsAreSet {H = _} {P = Preference} mac_of answers
@@ -66,14 +69,14 @@ module _ (creds : IceCreds) (tie_breaker : ℕ) where
   pub is_new : IsNewlyCreated born
   is_new = (creds, tie_breaker, false, refl)
 
-  abbrev first_set : Chosen
+  abbrev pub first_set : Chosen
   first_set = all_settings_of born
 
   -- the profile is `Modern` after the log, or the log is empty
-  abbrev IsReady : Log → Type 0
+  abbrev pub IsReady : Log → Type 0
   IsReady log = (log ≡ []) ⊎ IsModern (settings_along first_set log)
 
-  abbrev ReadyAlong : Log → Type 0
+  abbrev pub ReadyAlong : Log → Type 0
   ReadyAlong [] = Unit {0}
   ReadyAlong (x ∷ before) = IsReady before × ReadyAlong before
 
@@ -85,7 +88,7 @@ module _ (creds : IceCreds) (tie_breaker : ℕ) where
   modern_after uses log logs each =
       subst (λ (k : Chosen). IsModern k) (sym (along uses log first_set logs)) (modern_by uses (begins first_set) each refl)
 
-  ready_along : (uses : List Used) (log : Log) → IsLogOf uses log → EachKeeps keeps_modern uses → ReadyAlong log
+  pub ready_along : (uses : List Used) (log : Log) → IsLogOf uses log → EachKeeps keeps_modern uses → ReadyAlong log
   ready_along [] log is each = subst (λ (l : Log). ReadyAlong l) (sym is) (set_ready modern_settings [] refl (inl refl) tt)
   ready_along (u ∷ before) log (inl (none, logs)) each = ready_along before log logs (rest_of keeps_modern u before each)
   ready_along (u ∷ before) log (inr (rest, inl (x, is, of), logs)) each =
@@ -93,7 +96,8 @@ module _ (creds : IceCreds) (tie_breaker : ℕ) where
       subst (λ (l : Log). ReadyAlong l) (sym is) (inr (modern_after before rest logs kept), ready_along before rest logs kept)
   ready_along (u ∷ before) log (inr (rest, inr (s, export, ok, is), logs)) each =
       let kept = rest_of keeps_modern u before each in
-      let chosen : s.modern ≡ true = subst (λ (e : Use). keeps_modern e ≡ true) export (each u (inl refl)) in
+      let export_is : u.export ≡ SetSettings s = search export in
+      let chosen : s.modern ≡ true = subst (λ (e : Use). keeps_modern e ≡ true) export_is (each u (inl refl)) in
       subst (λ (l : Log). ReadyAlong l) (sym is)
       (set_ready (settings_of s) rest (ap (λ (b : Bool). is_modern_profile (profile_of b)) chosen) (inr (modern_after before rest logs kept)) (ready_along before rest logs kept))
 
@@ -136,23 +140,35 @@ onto_never xs none y has = elim (onto_is xs [] y has) [
 
 pub answered : SelectionsAreAnswered {H = _} {P = Preference} mac_of answers → PathsAreAnswered
 answered law uses before x home used each path has =
+    let known : IsUsed uses (x ∷ before) home = search used in
     let kept : EachKeeps keeps_modern uses = search each in
-    search (law (newborn used.creds used.tie_breaker) home.agent x before (is_new used.creds used.tie_breaker) (full_log uses (x ∷ before) used.logs kept) used.run path has)
+    let selected : Has x.entry.emitted.selected_paths (Some path) = search has in
+    search (law (newborn known.creds known.tie_breaker) home.agent x before (is_new known.creds known.tie_breaker) (full_log uses (x ∷ before) known.logs kept)
+    known.run path selected)
 
-pub asked : SelectionsAreNominatedByPeer {H = _} {P = Preference} mac_of answers → PathsAreNominatedByPeer
+pub asked : SelectionsAreNominatedSince {H = _} {P = Preference} mac_of answers → PathsAreNominatedByPeer
 asked law uses before x home used each controlled path has =
-    law (newborn used.creds used.tie_breaker) home.agent x before (is_new used.creds used.tie_breaker) (full_log uses (x ∷ before) used.logs each) used.run controlled path has
+    let kept : EachKeeps keeps_modern uses = search each in
+    let calm : IsControlledSince mac_of answers (newborn used.creds used.tie_breaker) (x ∷ before) home.agent used.run = search controlled in
+    let selected : Has x.entry.emitted.selected_paths (Some path) = search has in
+    search (law (newborn used.creds used.tie_breaker) home.agent x before (is_new used.creds used.tie_breaker) (full_log uses (x ∷ before) used.logs kept)
+    (modern_log uses (x ∷ before) used.logs kept) used.run calm path selected)
 
 pub first_choice : SelectionsAreTop {H = _} {P = Preference} mac_of answers → PathsAreFirstChoice
 first_choice law uses before x home used nominates p has is =
-    law (newborn used.creds used.tie_breaker) home.agent x before (is_new used.creds used.tie_breaker) used.run nominates p has is
+    let point : IsNominationPoint used.run.0 x.call x.entry = search nominates in
+    let there : Has home.agent.pairs p = search has in
+    let able : is_eligible home.agent.controlling p ≡ true = search is in
+    search (law (newborn used.creds used.tie_breaker) home.agent x before (is_new used.creds used.tie_breaker) used.run point p there able)
 
 pub connected_have_path : Set → StatesAgree {H = _} {P = Preference} mac_of answers → ConnectedHavePath
 connected_have_path law agree uses log home used each =
+    let known : IsUsed uses log home = search used in
     let kept : EachKeeps keeps_modern uses = search each in
-    let k = gone used.creds used.tie_breaker law uses log home.agent used.logs kept used.run in
+    let k = gone known.creds known.tie_breaker law uses log home.agent known.logs kept known.run in
     search (subst (λ (path : Option Path). IsAgreed path home.agent) (onto_selected log [])
-    (agree (newborn used.creds used.tie_breaker) home.agent (calls_onto log []) (is_born used.creds used.tie_breaker) (onto_never log (full_log uses log used.logs kept)) k.0 k.1))
+    (agree (newborn known.creds known.tie_breaker) home.agent (calls_onto log []) (is_born known.creds known.tie_breaker)
+    (onto_never log (full_log uses log known.logs kept)) k.0 k.1))
 
 -- ---- bounds
 
@@ -184,9 +200,9 @@ pub bounded : Set → ListsStayBounded {H = _} {P = Preference} mac_of answers �
 bounded law lists few short uses log home used each =
     let new = is_new used.creds used.tie_breaker in
     let within_limit = limited used.creds used.tie_breaker law uses log home.agent used.logs each used.run in (
-      lists DISCOVERED_LIMIT (newborn used.creds used.tie_breaker) home.agent log new used.run within_limit,
-      few DISCOVERED_LIMIT (newborn used.creds used.tie_breaker) home.agent log new used.run within_limit,
-      short (newborn used.creds used.tie_breaker) home.agent log new used.run,
+      search (lists DISCOVERED_LIMIT (newborn used.creds used.tie_breaker) home.agent log new used.run within_limit),
+      search (few DISCOVERED_LIMIT (newborn used.creds used.tie_breaker) home.agent log new used.run within_limit),
+      search (short (newborn used.creds used.tie_breaker) home.agent log new used.run),
     )
 
 -- ---- consent
@@ -209,7 +225,7 @@ same_path before x now is =
     ∙ onto_selected before ((x.call, x.entry) ∷ []))
 
 pub alive : Set → ConnectedAreAnswered {H = _} {P = Preference} mac_of answers → ConnectedAreAlive
-alive law answered_by uses before x home now used each k = by used.run k where
+alive law answered_by uses before x home now used each k = search (by used.run (search k)) where
   by : (run : Ran (newborn used.creds used.tie_breaker) (x ∷ before) home.agent) → IsConnectedAt now run.0 x home.agent
       → (p : PairRecord) × Has home.agent.pairs p × IsAliveBy modern_consent now p × (last_selected (x ∷ before) ≡ Some (path_of home.agent p))
   by (mid, s, t, earlier, given, step) is =
@@ -260,11 +276,11 @@ unaccepted old new code now protocol source destination bytes does not_accepted 
 
 uses_one : QueuesTheorem {H = _} {P = Preference} mac_of answers → (export : Use) (old new : HomeRecord) (code : ℤ) → Does export old code new
     → length new.agent.packets ≤ suc (length old.agent.packets)
-uses_one queues export old new code does = search (elim (one 0 export code old new does) as (λ _. length new.agent.packets ≤ suc (length old.agent.packets)) [
+uses_one queues export old new code does = elim (one 0 export code old new does) as (λ _. length new.agent.packets ≤ suc (length old.agent.packets)) [
   | inl (same, none) ↦ stays (ap (λ (a : Held). length a.packets) same)
   | inr (inl (x, s, t, of, given, step)) ↦ by x.call x.entry (queues old.agent new.agent s t x.call x.entry step).0
   | inr (inr all) ↦ stays (ap (λ (a : Held). length a.packets) all.sets)
-]) where
+] where
   stays : length new.agent.packets ≡ length old.agent.packets → length new.agent.packets ≤ suc (length old.agent.packets)
   stays is = omega (arith, is)
 
@@ -300,9 +316,13 @@ follows_none soon code mid new h = either (is_ok code && is_modern mid.agent.tim
     (λ (deadline, polls, coded, is). none_queued mid.agent.last_time mid.agent new.agent deadline polls)
     (λ is. ap (λ (x : HomeRecord). x.agent.packets) is) h
 
-pub queues_one : QueuesTheorem {H = _} {P = Preference} mac_of answers → EachQueuesOne
-queues_one queues soon export old new code (inl does) = search (uses_one queues export old new code does)
-queues_one queues soon export old new code (inr (mid, does, follows)) =
+followed_one : QueuesTheorem {H = _} {P = Preference} mac_of answers → (soon : HomeRecord → HomeRecord → Bool) (export : Use) (old new : HomeRecord) (code : ℤ)
+    → Followed soon export old code new → length new.agent.packets ≤ suc (length old.agent.packets)
+followed_one queues soon export old new code (mid, does, follows) =
     let one_more : length mid.agent.packets ≤ suc (length old.agent.packets) = uses_one queues export old mid code does in
     let same : length new.agent.packets ≡ length mid.agent.packets = ap (λ (ps : List Packet). length ps) (follows_none (soon old mid) code mid new follows) in
-    search (subst (λ (n : ℕ). n ≤ suc (length old.agent.packets)) (sym same) one_more)
+    subst (λ (n : ℕ). n ≤ suc (length old.agent.packets)) (sym same) one_more
+
+pub queues_one : QueuesTheorem {H = _} {P = Preference} mac_of answers → EachQueuesOne
+queues_one queues soon export old new code (inl does) = search (uses_one queues export old new code does)
+queues_one queues soon export old new code (inr followed) = search (followed_one queues soon export old new code (search followed))

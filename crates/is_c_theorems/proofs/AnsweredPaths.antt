@@ -1,5 +1,5 @@
 -- Each path that C gets by a `NominatedSend` was answered, by bytes that C passed. What mutants/specifications changes is read by tactics.
-use Rattle.std.proofs.Common.{◌≡◌, ◌⊎◌, ℕ, false, List, [], ◌∷◌, length, Option, Some, None, inl, inr, refl, ap, sym, ◌∙◌, subst}
+use Rattle.std.proofs.Common.{◌≡◌, ℕ, Bool, false, List, [], ◌∷◌, length, Option, Some, None, inl, inr, refl, ap, sym, ◌∙◌, subst, if◌then◌else◌}
 use Rattle.rand_core.specs.Stream.{Stream}
 use Rattle.is_proto.specs.Lists.{Has}
 use Rattle.is_proto.specs.Packets as packets
@@ -19,12 +19,13 @@ use Rattle.is_rules.specs.Settings.{modern_settings}
 use Rattle.is_rules.specs.Sound.{IsSound, FreshIsSound}
 use Rattle.is_rules.specs.Steps as agent
 use Rattle.is_rules.specs.Steps.{Call, Answer, Entry, Done, Step, is_done, quiet, Becomes}
-use Rattle.is_theorems.specs.Logs.{Logged, IsSent, AnswersAt, Answered}
+use Rattle.is_theorems.specs.Logs.{Logged, clears_at, numbering_set_by, numbering_of, IsSent, Answered}
 use Rattle.is_theorems.specs.Polled as polled
-use Rattle.is_theorems.specs.Polled.{SelectedSince, IsAnsweredSince, IsControlledSinceRestart, WaitingAreAnswered, WaitingAreNominatedByPeer}
+use Rattle.is_theorems.specs.Polled.{removes_selections, SelectedSince, WaitingAreAnswered}
 use Rattle.is_theorems.specs.Logs.{IsAnsweredBy}
 use Rattle.is_theorems.specs.Reporting.{QueuesTheorem}
-use Rattle.is_theorems.specs.Settings.{AllAreSetInTurn, setters_of}
+use Rattle.is_theorems.specs.Settings.{AllAreSetInTurn, setters_of, settings_along}
+use Rattle.is_theorems.proofs.ExecutionLogs.SharedLogTheorems.{numbering-in, numbering_set}
 use Rattle.is_c_calls.specs.declared.preference.Preference.{Preference}
 use Rattle.is_c_calls.specs.AgentSettings.{settings_of}
 use Rattle.is_c_calls.specs.Held.{Held, HomeRecord}
@@ -33,12 +34,12 @@ use Rattle.is_c_calls.specs.Sessions.{Used}
 use Rattle.is_c_calls.specs.Uses.{Does, mac_of}
 use Rattle.is_c_theorems.specs.CallLogs.{setters_onto, settings_onto, IsLogOf, newborn}
 use Rattle.is_c_theorems.specs.Chosen.{EachKeeps, keeps_modern}
-use Rattle.is_c_theorems.specs.Seen.{Gets, IsCheckIn, is_restart, Since, IsChecked}
+use Rattle.is_c_theorems.specs.Seen.{Gets, IsCheckIn, is_clear, Since, IsChecked}
 use Rattle.is_c_theorems.specs.Headline.{Answers, SelectedAreAnswered}
-use Rattle.is_c_theorems.proofs.AlongExecutions.{is_new, full_log}
+use Rattle.is_c_theorems.proofs.AlongExecutions.{is_new, full_log, first_set, ReadyAlong, ready_along}
 use Rattle.is_c_theorems.proofs.LogsOfCalls.{Ran, Walk, walk, log_is, run_is}
-use Rattle.is_c_theorems.proofs.SeenCalls.{peers, not_restarted, idle_restart, set_restart, accepts, none_brought}
-use Rattle.is_c_theorems.proofs.SettingsOfCalls.{Log}
+use Rattle.is_c_theorems.proofs.SeenCalls.{peers, not_cleared, idle_clear, set_clear, no_restart, accepts, none_brought}
+use Rattle.is_c_theorems.proofs.SettingsOfCalls.{Log, Chosen, IsModern}
 use Rattle.is_c_theorems.proofs.WaitingPackets.{is_polling, not_poll, kept_packets, carry_queue}
 use Rattle.is_c_theorems.proofs.PolledPaths.{waited}
 
@@ -48,75 +49,73 @@ Turn = AllAreSetInTurn {H = _} {P = Preference} mac_of answers
 abbrev pub setter : Call Preference → Log → Logged Preference
 setter call log = record { number = length log; call = call; entry = quiet Done }
 
--- ---- answered since the last restart
-
--- An entry of the log answers the path, and no restart came since.
-abbrev AnsweredSince : Log → Path → Type 0
-AnsweredSince [] path = ⊥
-AnsweredSince (x ∷ before) path = AnswersAt mac_of (record {}) x before path ⊎ ((polled.restarts x.call x.entry.answer ≡ false) × AnsweredSince before path)
+-- ---- answered since the last clear
 
 -- a clear is a restart, or it is none
-not_clear : (call : Call Preference) (a : Answer) → clears call a ≡ false → polled.restarts call a ≡ false
-not_clear (agent.RestartIce creds keep) a is = is
-not_clear _ a is = refl
+not_restart : (call : Call Preference) (a : Answer) → clears call a ≡ false → polled.restarts call a ≡ false
+not_restart (agent.RestartIce creds keep) a is = is
+not_restart _ a is = refl
 
-answered_since : (log : Log) (path : Path) → Answered mac_of (record {}) log path → AnsweredSince log path
-answered_since [] path none = none
-answered_since (x ∷ before) path (inl now) = inl now
-answered_since (x ∷ before) path (inr (kept, was)) = inr (not_clear x.call x.entry.answer kept, answered_since before path was)
-
-not_selected : {Z : Type 0} (path : Path) → None ≡ Some path → Z
-not_selected path is = let wrong_ : None ≡ Some path = is in absurd (cc)
-
--- a restart selects no path
-no_restart : (old new : Held) (s t : Stream) (call : Call Preference) (e : Entry) (path : Path) → Step mac_of answers old s call e new t
-    → Has e.emitted.selected_paths (Some path) → polled.restarts call e.answer ≡ false
-no_restart old new s t (agent.RestartIce creds keep) e path (r, is, does, drawn) has = elim (subst (λ (x : Entry). Has x.emitted.selected_paths (Some path)) is has) [
-  | inl wrong_ ↦ not_selected path wrong_
-  | inr (inl wrong_) ↦ not_selected path wrong_
+none_selected : {Z : Type 0} (e : Entry) (answer : Answer) (path : Path) → e ≡ quiet answer → Has e.emitted.selected_paths (Some path) → Z
+none_selected e answer path is has = elim (subst (λ (x : Entry). Has x.emitted.selected_paths (Some path)) is has) [
+  | inl none ↦ let wrong_ : None ≡ Some path = none in absurd (cc)
+  | inr (inl none) ↦ let wrong_ : None ≡ Some path = none in absurd (cc)
   | inr (inr none) ↦ absurd none
 ]
-no_restart old new s t _ e path step has = refl
 
-since : (first last : Held) (log : Log) (path : Path) → Ran first log last → SelectedSince (λ x before. IsAnsweredBy mac_of (record {}) x before path) log path
-    → AnsweredSince log path
-since first last [] path run none = none
-since first last (x ∷ before) path (mid, s, t, run, given, step) (inl (now, inl here)) = inl here
-since first last (x ∷ before) path (mid, s, t, run, given, step) (inl (now, inr earlier)) =
-    inr (no_restart mid last s t x.call x.entry path step now, answered_since before path earlier)
-since first last (x ∷ before) path (mid, s, t, run, given, step) (inr (none, was)) = inr (none, since first mid before path run was)
+-- a call that selects a path is no clear
+not_clear : (old new : Held) (s t : Stream) (call : Call Preference) (e : Entry) (path : Path) → Step mac_of answers old s call e new t
+    → Has e.emitted.selected_paths (Some path) → clears call e.answer ≡ false
+not_clear old new s t (agent.RestartIce creds keep) e path (r, is, does, drawn) has = none_selected e _ path is has
+not_clear old new s t agent.RecreateCandidatePairs e path (r, is, does, drawn) has = none_selected e _ path is has
+not_clear old new s t _ e path step has = refl
 
--- ---- sent since the last restart
+-- the profile, as the log set it last
+profile_is : (k : Chosen) (log : Log) → numbering-in k ≡ (false, false) → numbering_of log ≡ numbering-in (settings_along k log)
+profile_is k [] new = sym new
+profile_is k (x ∷ before) new =
+    ap (λ (set : Bool × Bool). numbering_set_by x.call set) (profile_is k before new) ∙ sym (numbering_set x.call x.entry.answer (settings_along k before))
 
-abbrev SentSince : Log → Path → List ℕ → Type 0
-SentSince [] path id = ⊥
-SentSince (x ∷ before) path id =
-    (x.entry.emitted.issued ≡ Some (issued_as path class.Request id)) ⊎ ((polled.restarts x.call x.entry.answer ≡ false) × SentSince before path id)
+module _ (creds : IceCreds) (tie_breaker : ℕ) where
+  abbrev Selected : Log → Path → Type 0
+  Selected log path = SelectedSince (λ x before. IsAnsweredBy mac_of (record {}) x before path) log path
 
-sent_since : (log : Log) (path : Path) (id : List ℕ) → IsSent log path id → SentSince log path id
-sent_since [] path id none = none
-sent_since (x ∷ before) path id (inl is) = inl is
-sent_since (x ∷ before) path id (inr (kept, was)) = inr (not_clear x.call x.entry.answer kept, sent_since before path id was)
+  -- with `Modern` what clears no pairs removes no event
+  none_cleared : (x : Logged Preference) (before : Log) → IsModern (settings_along (first_set creds tie_breaker) before) → removes_selections x before ≡ false → clears_at x ≡ false
+  none_cleared x before is none =
+      subst (λ (modern : Bool). (if modern then clears_at x else polled.restarts x.call x.entry.answer) ≡ false)
+      (ap (λ (set : Bool × Bool). set.1) (profile_is (first_set creds tie_breaker) before refl) ∙ is) none
+
+  since : (last : Held) (log : Log) (path : Path) → Ran (newborn creds tie_breaker) log last → ReadyAlong creds tie_breaker log → Selected log path
+      → Answered mac_of (record {}) log path
+  since last [] path run ready none = none
+  since last (x ∷ before) path (mid, s, t, run, given, step) ready (inl (now, inl here)) = inl here
+  since last (x ∷ before) path (mid, s, t, run, given, step) ready (inl (now, inr earlier)) = inr (not_clear mid last s t x.call x.entry path step now, earlier)
+  since last (x ∷ before) path (mid, s, t, run, given, step) (inl empty, others) (inr (none, was)) =
+      absurd (subst (λ (l : Log). Selected l path) empty was)
+  since last (x ∷ before) path (mid, s, t, run, given, step) (inr modern, others) (inr (none, was)) =
+      inr (none_cleared x before modern none, since mid before path run others was)
 
 -- ---- setters in turn
 
 -- none of them answers a path, or sends a check
-answered_before : (calls : List (Call Preference)) (log : Log) (path : Path) → AnsweredSince (setters_onto calls log) path → AnsweredSince log path
+answered_before : (calls : List (Call Preference)) (log : Log) (path : Path) → Answered mac_of (record {}) (setters_onto calls log) path
+    → Answered mac_of (record {}) log path
 answered_before [] log path answered = answered
 answered_before (call ∷ more) log path answered = by (answered_before more (setter call log ∷ log) path answered) where
-  by : AnsweredSince (setter call log ∷ log) path → AnsweredSince log path
+  by : Answered mac_of (record {}) (setter call log ∷ log) path → Answered mac_of (record {}) log path
   by (inl (at, via, m, peer, brings, binding, success, known, signed, sent, back)) = absurd (none_brought call at via m brings)
   by (inr (none, was)) = was
 
-sent_before : (calls : List (Call Preference)) (log : Log) (path : Path) (id : List ℕ) → SentSince (setters_onto calls log) path id → SentSince log path id
+sent_before : (calls : List (Call Preference)) (log : Log) (path : Path) (id : List ℕ) → IsSent (setters_onto calls log) path id → IsSent log path id
 sent_before [] log path id sent = sent
 sent_before (call ∷ more) log path id sent = by (sent_before more (setter call log ∷ log) path id sent) where
-  by : SentSince (setter call log ∷ log) path id → SentSince log path id
+  by : IsSent (setter call log ∷ log) path id → IsSent log path id
   by (inl is) = let wrong_ : None ≡ Some (issued_as path class.Request id) = is in absurd (cc)
   by (inr (none, was)) = was
 
--- and none restarts
-sent_after : (settings : Settings) (log : Log) (path : Path) (id : List ℕ) → SentSince log path id → SentSince (settings_onto settings log) path id
+-- and none clears
+sent_after : (settings : Settings) (log : Log) (path : Path) (id : List ℕ) → IsSent log path id → IsSent (settings_onto settings log) path id
 sent_after settings log path id sent =
     inr (refl, inr (refl, inr (refl, inr (refl, inr (refl, inr (refl, inr (refl, inr (refl, inr (refl, inr (refl, sent))))))))))
 
@@ -137,16 +136,17 @@ is_check old new call e p path id is (m, contents, issued, says) =
     let two_ : m.id ≡ id = ap (λ o. id_or o) (sym issued ∙ is) in
     (m, (subst (λ (c : Class). Says c old call e p.contents m (via_out p) new.controlling) one_ says).7, one_, two_)
 
--- a packet is no restart
-not_restart_brought : (call : Call Preference) (e : Entry) (at : ℕ) (by : Path) (m : Message) → Brings call e at by m → polled.restarts call e.answer ≡ false
-not_restart_brought (agent.RestartIce creds keep) e at by m brings = absurd brings
-not_restart_brought _ e at by m brings = refl
+-- a packet is no clear
+not_clear_brought : (call : Call Preference) (e : Entry) (at : ℕ) (by : Path) (m : Message) → Brings call e at by m → clears call e.answer ≡ false
+not_clear_brought (agent.RestartIce creds keep) e at by m brings = absurd brings
+not_clear_brought agent.RecreateCandidatePairs e at by m brings = absurd brings
+not_clear_brought _ e at by m brings = refl
 
-carried : (path : Path) (id : List ℕ) (u : Used) (before : List Used) (mid home : HomeRecord) → Does u.export mid u.code home → is_restart u ≡ false
+carried : (path : Path) (id : List ℕ) (u : Used) (before : List Used) (mid home : HomeRecord) → Does u.export mid u.code home → is_clear u ≡ false
     → (is_polling u.export ≡ false → (p : packets.Packet) → Has mid.agent.packets p → Has home.agent.packets p)
     → IsChecked before mid path id → IsChecked (u ∷ before) home path id
 carried path id u before mid home does none on (inl was) = inl (inr (none, was))
-carried path id u before mid home does none on (inr (p, has, via, check)) = elim (carry_queue u.export u.code mid home does none on p has) [
+carried path id u before mid home does none on (inr (p, has, via, check)) = elim (carry_queue u.export u.code mid home does (no_restart u.export u.code (search none)) on p has) [
   | inl there ↦ inr (p, there, via, check)
   | inr gets ↦ inl (inl (p.contents, subst (λ (to : Path). Gets u to p.contents) via gets, check))
 ]
@@ -166,39 +166,39 @@ module _ (turn : Turn) (creds : IceCreds) (tie_breaker : ℕ) where
   sound_run law new (x ∷ before) last (mid, s, t, run, given, step) = (law mid last s t x.call x.entry (sound_run law new before mid run) given step).1
 
   module _ (law : Paths) (new : Fresh) (trade : TradeTheorem {H = _} {P = Preference} mac_of answers) (queues : QueuesTheorem {H = _} {P = Preference} mac_of answers) where
-    flow : (uses : List Used) (log : Log) (home : HomeRecord) → Walked uses log home → (path : Path) (id : List ℕ) → SentSince log path id → IsChecked uses home path id
+    flow : (uses : List Used) (log : Log) (home : HomeRecord) → Walked uses log home → (path : Path) (id : List ℕ) → IsSent log path id → IsChecked uses home path id
     flow [] log home (is, same) path id sent =
-        absurd (sent_before (setters_of modern_settings) [] path id (subst (λ (l : Log). SentSince l path id) is sent))
+        absurd (sent_before (setters_of modern_settings) [] path id (subst (λ (l : Log). IsSent l path id) is sent))
     flow (u ∷ before) log home (mid, does, inl (same, none, walked)) path id sent =
-        carried path id u before mid home does (idle_restart u.export u.code none)
+        carried path id u before mid home does (search (idle_clear u.export u.code none))
         (λ _ p has. subst (λ (a : Held). Has a.packets p) (sym same) has) (flow before log mid walked path id sent)
     flow (u ∷ before) log home (mid, does, inr (inl (x, rest, s, t, is, of, given, step, walked))) path id sent =
-        by (λ was. flow before rest mid walked path id was) (subst (λ (l : Log). SentSince l path id) is sent) where
-          by : (SentSince rest path id → IsChecked before mid path id) → SentSince (x ∷ rest) path id → IsChecked (u ∷ before) home path id
+        by (λ was. flow before rest mid walked path id was) (subst (λ (l : Log). IsSent l path id) is sent) where
+          by : (IsSent rest path id → IsChecked before mid path id) → IsSent (x ∷ rest) path id → IsChecked (u ∷ before) home path id
           by on (inl now) =
               let k = (trade mid.agent home.agent s t x.call x.entry (sound_run law new rest mid.agent (run_is turn creds tie_breaker before rest mid walked)) given step).issued (issued_as path class.Request id) now in
               inr (k.0, inr k.1, k.2, is_check mid.agent home.agent x.call x.entry k.0 path id now k.3)
           by on (inr (kept, was)) =
-              carried path id u before mid home does (not_restarted u.export x.call x.entry.answer u.code of.makes of.answers kept)
-              (λ other p has. kept_packets x.call x.entry mid.agent.packets home.agent.packets (queues mid.agent home.agent s t x.call x.entry step).0 kept
+              carried path id u before mid home does (search (not_cleared u.export x.call x.entry.answer u.code of.makes of.answers kept))
+              (λ other p has. kept_packets x.call x.entry mid.agent.packets home.agent.packets (queues mid.agent home.agent s t x.call x.entry step).0 (not_restart x.call x.entry.answer kept)
               (not_poll u.export x.call of.makes other) p has) (on was)
     flow (u ∷ before) log home (mid, does, inr (inr (all, rest, is, walked))) path id sent =
-        carried path id u before mid home does (set_restart u all.settings all.export)
+        carried path id u before mid home does (set_clear u all.settings all.export)
         (λ other p has. subst (λ (a : Held). Has a.packets p) (sym all.sets) has)
-        (flow before rest mid walked path id (sent_before (setters_of (settings_of all.settings)) rest path id (subst (λ (l : Log). SentSince l path id) is sent)))
+        (flow before rest mid walked path id (sent_before (setters_of (settings_of all.settings)) rest path id (subst (λ (l : Log). IsSent l path id) is sent)))
 
 -- ---- the answer, in C's words
 
 checked : (whole : List Used) (home : HomeRecord) (path : Path) (uses : List Used) (log : Log) → IsLogOf uses log
-    → ((id : List ℕ) → SentSince log path id → IsChecked whole home path id) → AnsweredSince log path → Since (Answers whole home path) uses
+    → ((id : List ℕ) → IsSent log path id → IsChecked whole home path id) → Answered mac_of (record {}) log path → Since is_clear (Answers whole home path) uses
 checked whole home path [] log is lift answered =
-    absurd (answered_before (setters_of modern_settings) [] path (subst (λ (l : Log). AnsweredSince l path) is answered))
-checked whole home path (u ∷ before) log (inl (none, logs)) lift answered = inr (idle_restart u.export u.code none, checked whole home path before log logs lift answered)
+    absurd (answered_before (setters_of modern_settings) [] path (subst (λ (l : Log). Answered mac_of (record {}) l path) is answered))
+checked whole home path (u ∷ before) log (inl (none, logs)) lift answered = inr (search (idle_clear u.export u.code none), checked whole home path before log logs lift answered)
 checked whole home path (u ∷ before) log (inr (rest, inl (x, is, of), logs)) lift answered =
-    by (λ l was. checked whole home path before rest logs l was) (subst (λ (l : Log). (id : List ℕ) → SentSince l path id → IsChecked whole home path id) is lift)
-    (subst (λ (l : Log). AnsweredSince l path) is answered) where
-      by : (((id : List ℕ) → SentSince rest path id → IsChecked whole home path id) → AnsweredSince rest path → Since (Answers whole home path) before)
-          → ((id : List ℕ) → SentSince (x ∷ rest) path id → IsChecked whole home path id) → AnsweredSince (x ∷ rest) path → Since (Answers whole home path) (u ∷ before)
+    by (λ l was. checked whole home path before rest logs l was) (subst (λ (l : Log). (id : List ℕ) → IsSent l path id → IsChecked whole home path id) is lift)
+    (subst (λ (l : Log). Answered mac_of (record {}) l path) is answered) where
+      by : (((id : List ℕ) → IsSent rest path id → IsChecked whole home path id) → Answered mac_of (record {}) rest path → Since is_clear (Answers whole home path) before)
+          → ((id : List ℕ) → IsSent (x ∷ rest) path id → IsChecked whole home path id) → Answered mac_of (record {}) (x ∷ rest) path → Since is_clear (Answers whole home path) (u ∷ before)
       by on lift (inl (at, via, m, peer, brings, binding, success, known, signed, sent, back)) =
           inl (
             via,
@@ -210,16 +210,16 @@ checked whole home path (u ∷ before) log (inr (rest, inl (x, is, of), logs)) l
             sym (peers before rest logs) ∙ known,
             signed,
             back,
-            lift m.id (inr (not_restart_brought x.call x.entry at via m brings, sent_since rest path m.id sent)),
+            lift m.id (inr (not_clear_brought x.call x.entry at via m brings, sent)),
           )
       by on lift (inr (kept, was)) =
-          inr (not_restarted u.export x.call x.entry.answer u.code of.makes of.answers kept, on (λ id sent. lift id (inr (kept, sent))) was)
+          inr (search (not_cleared u.export x.call x.entry.answer u.code of.makes of.answers kept), on (λ id sent. lift id (inr (kept, sent))) was)
 checked whole home path (u ∷ before) log (inr (rest, inr (s, export, ok, is), logs)) lift answered =
-    let here = subst (λ (l : Log). (id : List ℕ) → SentSince l path id → IsChecked whole home path id) is lift in
+    let here = subst (λ (l : Log). (id : List ℕ) → IsSent l path id → IsChecked whole home path id) is lift in
     inr (
-      set_restart u s export,
+      set_clear u s export,
       checked whole home path before rest logs (λ id sent. here id (sent_after (settings_of s) rest path id sent))
-          (answered_before (setters_of (settings_of s)) rest path (subst (λ (l : Log). AnsweredSince l path) is answered)),
+          (answered_before (setters_of (settings_of s)) rest path (subst (λ (l : Log). Answered mac_of (record {}) l path) is answered)),
     )
 
 pub are_answered : Turn → Paths → Fresh → TradeTheorem {H = _} {P = Preference} mac_of answers → QueuesTheorem {H = _} {P = Preference} mac_of answers
@@ -231,4 +231,4 @@ are_answered turn paths new trade queues law creds tie_breaker before home after
     let kept : EachKeeps keeps_modern before = search each in
     let found = law (newborn creds tie_breaker) home.agent k.0 (is_new creds tie_breaker) (full_log before k.0 logs kept) run path (waited u home after path does selects) in
     search (checked before home path before k.0 logs (λ id sent. flow turn creds tie_breaker paths new trade queues before k.0 home k.1 path id sent)
-    (since (newborn creds tie_breaker) home.agent k.0 path run found))
+    (since creds tie_breaker home.agent k.0 path run (ready_along creds tie_breaker before k.0 logs kept) found))

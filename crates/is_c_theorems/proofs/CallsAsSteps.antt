@@ -1,4 +1,4 @@
--- Each call of C on an agent is one transition of it, or none, or sets all settings.
+-- Each call of C on an agent is one transition of it, or none, or sets all settings. What mutants/specifications changes is read by tactics.
 use Rattle.std.proofs.Common.{◌≡◌, ℕ, ◌==◌, ◌<◌, ◌⊎◌, Bool, true, false, nat_lt, List, [], length, Option, Some, None, Result, Ok, Err, MatchBool, MatchOption, ℤ, inl, inr, refl, ap, sym, ◌∙◌, subst, zero, suc, arith}
 use Rattle.rand_core.specs.Stream.{Stream}
 use Rattle.rand_core.specs.Steps.{stream_of}
@@ -252,7 +252,7 @@ module _ (n : ℕ) where
   receives now protocol source destination bytes code old new (Some path) is (inr (m, reads, (r, (emitted, handles, coded, kept)))) =
       by_step (HandlePacket now protocol source destination bytes) code (agent.ReceivePacket (agent_time now) path bytes)
       (record { answer = answer_by Flag r; emitted = emitted }) old new
-      (path, is, refl) (coded ∙ flag_coded r) tt any any (inr (m, reads, (r, emitted, refl, handles)), refl)
+      (path, search is, refl) (coded ∙ flag_coded r) tt any any (inr (m, reads, (r, emitted, refl, handles)), refl)
 
   gives : (export : Use) (code : ℤ) (waiting given : Option packets.Packet) (old new : HomeRecord) → Makes export agent.PollTransmit
       → Answers export (Polled given) code → counts export ≡ false → TakesNext waiting old.agent given new.agent → IsAtMostOne (used export code) old new
@@ -356,7 +356,7 @@ module _ (n : ℕ) where
   one (Restart ufrag pass keep) code old new (Ok creds, made, (r, restarted, is)) =
       let here : Restarts old.agent (record { ufrag = ufrag; pass = pass }) keep r new.agent = subst (λ (c : IceCreds). Restarts old.agent c keep r new.agent) made restarted.0 in
       by_step (Restart ufrag pass keep) code (agent.RestartIce (record { ufrag = ufrag; pass = pass }) keep) (quiet (answer_by done r)) old new
-      refl (is ∙ done_coded r, done_ok r code is) tt any any (r, refl, here, refl)
+      (search) (is ∙ done_coded r, done_ok r code is) tt any any (r, refl, here, refl)
   one (Restart ufrag pass keep) code old new (Err why, made, h) = rejects (Restart ufrag pass keep) why code old new (why_bad ufrag pass why made) h
   one RecreatePairs code old new (r, does, is, kept) =
       by_step RecreatePairs code agent.RecreateCandidatePairs (quiet (answer_by done r)) old new refl (is ∙ done_coded r, done_ok r code is) tt any any (r, refl, does, refl)
@@ -365,9 +365,9 @@ module _ (n : ℕ) where
   one (HandleTimeout now random) code old new h =
       either (nat_lt (length random) 12) (λ k. rejects (HandleTimeout now random) TOO_FEW_RANDOM_BYTES code old new refl k)
       (λ (r, (emitted, k)). by_step (HandleTimeout now random) code (agent.HandleTimeout (agent_time now))
-      (record { answer = answer_by done r; emitted = emitted }) old new refl (k.2 ∙ done_coded r, done_ok r code k.2) tt (stream_of given_steps random) k.0 (r, emitted, refl, k.1)) h
+      (record { answer = answer_by done r; emitted = emitted }) old new (search) (k.2 ∙ done_coded r, done_ok r code k.2) tt (stream_of given_steps random) k.0 (r, emitted, refl, k.1)) h
   one (PollTransmit before after known reported) code old new k =
-      gives (PollTransmit before after known reported) code old.waiting k.0 old new refl (k.0, refl) refl k.1
+      gives (PollTransmit before after known reported) code old.waiting k.0 old new refl (k.0, refl) (search) k.1
   one (PollTimeout before after) code old new h =
       either (is_modern old.agent.timing) (λ k. idle (PollTimeout before after) code old new k.1 never)
       (λ (deadline, polls, kept, writes). by_step (PollTimeout before after) code agent.PollTimeout (quiet (NextTimeout deadline)) old new

@@ -73,8 +73,8 @@ module _ (turn : Turns) (paths : Paths) (law : Set) (agree : Agree) where
 
   pub responses_connect : ResponsesConnect
   responses_connect old new via bytes m held passes reads success role =
-      let k = taken_top old new (search held) via bytes passes m (search reads) (search success) in
-      k.2.connects k.3 k.4.0 k.4.1 (steering_able new.agent.controlling k.4.0 (search role) k.4.2)
+      let k = taken_top old new (search held) via bytes (search passes) m (search reads) (search success) in
+      search (k.2.connects k.3 k.4.0 k.4.1 (steering_able new.agent.controlling k.4.0 (search role) k.4.2))
 
   -- ---- an evaluation
 
@@ -149,4 +149,4 @@ module _ (turn : Turns) (paths : Paths) (law : Set) (agree : Agree) where
         let code_is : r.code ≡ OK = is_accepted turn paths trades twenty serves accepts k.opening r in
         let it = accepted turn paths trades twenty serves accepts k.opening r in
         let passes : PassesPacket r.via r.reply.contents r.mid OK r.taken = subst (λ (c : ℤ). PassesPacket r.via r.reply.contents r.mid c r.taken) code_is r.passes in
-        (responses_connect r.mid r.taken r.via r.reply.contents it.0 (held_mid turn paths trades k.opening r) passes it.1.2 it.2 (search k.controlling), nominated_connect k.nomination)
+        (search (responses_connect r.mid r.taken r.via r.reply.contents it.0 (held_mid turn paths trades k.opening r) passes it.1.2 it.2 (search k.controlling)), nominated_connect k.nomination)

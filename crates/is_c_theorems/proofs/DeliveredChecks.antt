@@ -14,7 +14,7 @@ use Rattle.is_rules.specs.Issuing.{via_out, Says, IsIssued}
 use Rattle.is_rules.specs.Steps as agent
 use Rattle.is_theorems.specs.Carried.{CarriedAreServed, CarriedAreAccepted, CarriedCheck}
 use Rattle.is_theorems.specs.Delivery as delivery
-use Rattle.is_theorems.specs.Delivery.{Delivered, IsTaken, ReceivedPacket, SentCheck, Sends}
+use Rattle.is_theorems.specs.Delivery.{Delivered, IsReachedBy, IsTaken, ReceivedPacket, SentCheck, Sends}
 use Rattle.is_c_calls.specs.declared.preference.Preference.{Preference}
 use Rattle.is_c_calls.specs.Clock.{agent_time}
 use Rattle.is_c_calls.specs.Codes.{OK}
@@ -48,6 +48,9 @@ know_as twenty one other k = record {
   alike = refl;
   twenty = twenty;
 }
+
+pub reached_of : (d : DeliveredCheck) → IsReachedBy d.receiver.agent d.over
+reached_of d = search d.reached
 
 last_same : (xs : List Packet) (x y : Packet) → xs ++ x ∷ [] ≡ xs ++ y ∷ [] → x ≡ y
 last_same [] x y is = let k : x ∷ [] ≡ y ∷ [] = is in let same : x ≡ y = cc in same
@@ -127,7 +130,7 @@ module _ (turn : Turns) (paths : Paths) (trades : Trades) where
     at = agent_time d.passes.now;
     handed = (got d).entry;
     sound = sound_held turn paths d.receiver d.other_held;
-    reached = d.reached;
+    reached = reached_of d;
     delivered = delivered d.over d.check.contents (agent_time d.passes.now) d.code d.receiver d.served (got d);
   }
 
@@ -148,7 +151,7 @@ module _ (turn : Turns) (paths : Paths) (trades : Trades) where
         let k = sent_check d in
         let r = receipt d in
         serves d.sender.agent d.sent.agent d.receiver.agent d.served.agent d.check (came_on d.over d.check.contents) d.message.id r.at r.handed k.sound r.sound
-        (know_as twenty d.sender d.receiver d.know) (search d.apart) d.reached
+        (know_as twenty d.sender d.receiver d.know) (search d.apart) (reached_of d)
         (record { call = agent.HandleTimeout k.now; entry = k.timeout; before = k.before; following = k.following; step = k.step; sends = k.sends }) refl r.delivered
 
     -- OK is returned for a packet that is accepted
@@ -161,7 +164,7 @@ module _ (turn : Turns) (paths : Paths) (trades : Trades) where
         let s = served d in (
           coded d.over d.check.contents (agent_time d.passes.now) d.code d.receiver d.served (got d) class.Request s.0,
           s.1.0,
-          s.1.2.put,
+          search s.1.2.put,
           search s.1.1,
         )
 

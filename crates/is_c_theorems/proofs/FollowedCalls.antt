@@ -1,8 +1,9 @@
--- A call of C is one use, or two.
+-- A call of C is one use, or two. What mutants/specifications changes is read by tactics.
 use Rattle.std.proofs.Common.{◌≡◌, ◌⊎◌, ◌&&◌, Bool, List, ◌∷◌, ℤ, inl, inr, refl, sym, subst}
 use Rattle.is_stun.specs.Timing.{is_modern}
 use Rattle.is_c_calls.specs.Codes.{OK}
 use Rattle.is_c_calls.specs.Held.{HomeRecord}
+use Rattle.is_c_calls.specs.Following.{Followed}
 use Rattle.is_c_calls.specs.Sessions.{Used, Session, is_ok}
 use Rattle.is_c_calls.specs.Uses.{Use, FixTimes, Does}
 use Rattle.is_c_theorems.specs.Headline.{used, FollowedAreUses}
@@ -13,8 +14,9 @@ Goes first new uses export code =
     (more : List Used) × Session first more new
     × ((more ≡ used export code ∷ uses) ⊎ ((fixes : Bool) × (more ≡ used (FixTimes fixes) OK ∷ used export code ∷ uses)))
 
-pub are_uses : FollowedAreUses
-are_uses soon first old new uses export code session (mid, does, follows) = either (is_ok code && is_modern mid.agent.timing) fixed same follows where
+one_or_two : (soon : HomeRecord → HomeRecord → Bool) (first old new : HomeRecord) (uses : List Used) (export : Use) (code : ℤ)
+    → Session first uses old → Followed soon export old code new → Goes first new uses export code
+one_or_two soon first old new uses export code session (mid, does, follows) = either (is_ok code && is_modern mid.agent.timing) fixed same follows where
   before : Session first (used export code ∷ uses) mid
   before = (old, session, does)
 
@@ -23,3 +25,7 @@ are_uses soon first old new uses export code session (mid, does, follows) = eith
 
   same : new ≡ mid → Goes first new uses export code
   same is = (used export code ∷ uses, subst (λ (h : HomeRecord). Session first (used export code ∷ uses) h) (sym is) before, inl refl)
+
+pub are_uses : FollowedAreUses
+are_uses soon first old new uses export code session followed =
+    search (one_or_two soon first old new uses export code (search session) (search followed))

@@ -1,4 +1,5 @@
--- A list of C's calls is an execution: the states of C's agent, and those of the log, are the same.
+-- A list of C's calls is an execution: the states of C's agent, and those of the log, are the same. What mutants/specifications changes is read by
+-- tactics.
 use Rattle.std.proofs.Common.{◌≡◌, ℕ, ◌⊎◌, ◌<◌, List, [], ◌∷◌, length, map, inl, inr, refl, sym, subst, arith}
 use Rattle.rand_core.specs.Stream.{Stream}
 use Rattle.rand_core.specs.Steps.{stream_of}
@@ -68,12 +69,12 @@ module _ (law : AllAreSetInTurn {H = _} {P = Preference} mac_of answers) where
       ]
 
     pub log_is : (uses : List Used) (log : List (Logged Preference)) (home : HomeRecord) → Walk uses log home → IsLogOf uses log
-    log_is [] log home walked = walked.0
+    log_is [] log home walked = search (walked.0)
     log_is (u ∷ before) log home (mid, does, inl (same, none, walked)) = inl (none, log_is before log mid walked)
     log_is (u ∷ before) log home (mid, does, inr (inl (x, rest, s, t, is, of, given, step, walked))) =
         inr (rest, inl (x, is, of), log_is before rest mid walked)
     log_is (u ∷ before) log home (mid, does, inr (inr (all, rest, is, walked))) =
-        inr (rest, inr (all.settings, all.export, all.ok, is), log_is before rest mid walked)
+        inr (rest, inr (all.settings, search (all.export), all.ok, search is), log_is before rest mid walked)
 
     pub run_is : (uses : List Used) (log : List (Logged Preference)) (home : HomeRecord) → Walk uses log home → Ran (newborn creds tie_breaker) log home.agent
     run_is [] log home (is, same) =
@@ -94,4 +95,5 @@ module _ (law : AllAreSetInTurn {H = _} {P = Preference} mac_of answers) where
 
   pub sessions_are_runs : SessionsAreRuns
   sessions_are_runs creds tie_breaker uses home session =
-      let k = walk creds tie_breaker uses home session in (k.0, used_of creds tie_breaker uses k.0 home k.1, refl, refl)
+      let calls : Session (fresh_home creds tie_breaker) uses home = search session in
+      let k = walk creds tie_breaker uses home calls in (k.0, used_of creds tie_breaker uses k.0 home k.1, (search), (search))

@@ -1,5 +1,5 @@
--- Each path that C gets by a `NominatedSend` from an agent that was always controlled was nominated by the peer. What mutants/specifications
--- changes is read by tactics.
+-- Each path that C gets by a `NominatedSend` from an agent that was controlled since the last restart was nominated by the peer since then. What
+-- mutants/specifications changes is read by tactics.
 use Rattle.std.proofs.Common.{◌≡◌, ◌⊎◌, ◌==◌, ◌<◌, ℕ, Bool, true, false, List, [], ◌∷◌, length, map, inl, inr, refl, ap, sym, ◌∙◌, subst, arith}
 use Rattle.rand_core.specs.Stream.{Stream}
 use Rattle.is_stun.specs.Message.{Message}
@@ -12,8 +12,9 @@ use Rattle.is_rules.specs.Settings.{modern_settings, with_settings}
 use Rattle.is_rules.specs.Steps as agent
 use Rattle.is_rules.specs.Steps.{Call, Answer, Entry, Done, Step, is_done, quiet, Becomes}
 use Rattle.is_theorems.specs.Exchange.{Course}
-use Rattle.is_theorems.specs.Logs.{AsksAt, AskedBy, NominatedByPeer, has_numbers}
-use Rattle.is_theorems.specs.Polled.{IsControlledSinceRestart, WaitingAreNominatedByPeer}
+use Rattle.is_theorems.specs.Logs.{AsksAt, has_numbers}
+use Rattle.is_theorems.specs.Polled as polled
+use Rattle.is_theorems.specs.Polled.{AskedSince, NominatedSince, IsControlledSinceRestart, WaitingAreNominatedSince}
 use Rattle.is_theorems.specs.Settings.{setters_of}
 use Rattle.is_c_calls.specs.declared.preference.Preference.{Preference}
 use Rattle.is_c_calls.specs.AgentSettings.{settings_of}
@@ -24,51 +25,53 @@ use Rattle.is_c_calls.specs.Sessions.{Used, Session}
 use Rattle.is_c_calls.specs.Uses.{mac_of}
 use Rattle.is_c_theorems.specs.CallLogs.{setters_onto, settings_onto, IsLogOf, newborn}
 use Rattle.is_c_theorems.specs.Chosen.{EachKeeps, keeps_modern}
-use Rattle.is_c_theorems.specs.Seen.{nominates, Ever}
+use Rattle.is_c_theorems.specs.Seen.{nominates, is_restart, Since}
 use Rattle.is_c_theorems.specs.Headline.{Nominates, StaysControlled, SelectedAreNominatedByPeer}
 use Rattle.is_c_theorems.proofs.AlongExecutions.{is_new, full_log}
 use Rattle.is_c_theorems.proofs.CallsAsSteps.{never, either, one}
 use Rattle.is_c_theorems.proofs.LogsOfCalls.{Ran, any}
-use Rattle.is_c_theorems.proofs.SeenCalls.{accepts, none_brought}
-use Rattle.is_c_theorems.proofs.SettingsOfCalls.{Log}
+use Rattle.is_c_theorems.proofs.SeenCalls.{restarted, not_restarted, idle_restart, set_restart, accepts, none_brought}
+use Rattle.is_c_theorems.proofs.SettingsOfCalls.{Log, modern_log}
 use Rattle.is_c_theorems.proofs.AnsweredPaths.{Turn, setter}
 use Rattle.is_c_theorems.proofs.PolledPaths.{waited}
 
+-- The path was nominated since the last restart, whether nominations have numbers or not.
 abbrev AskedSome : Log → Path → Type 0
 AskedSome [] path = ⊥
-AskedSome (x ∷ before) path = ((numbered : Bool) × AsksAt numbered x path) ⊎ AskedSome before path
+AskedSome (x ∷ before) path =
+    ((numbered : Bool) × AsksAt numbered x path) ⊎ ((polled.restarts x.call x.entry.answer ≡ false) × AskedSome before path)
 
-asked_some : (numbered : Bool) (log : Log) (path : Path) → AskedBy numbered log path → AskedSome log path
+asked_some : (numbered : Bool) (log : Log) (path : Path) → AskedSince numbered log path → AskedSome log path
 asked_some numbered [] path none = none
 asked_some numbered (x ∷ before) path (inl now) = inl (numbered, now)
-asked_some numbered (x ∷ before) path (inr was) = inr (asked_some numbered before path was)
+asked_some numbered (x ∷ before) path (inr (none, was)) = inr (none, asked_some numbered before path was)
 
-nominated_some : (log : Log) (path : Path) → NominatedByPeer log path → AskedSome log path
+nominated_some : (log : Log) (path : Path) → NominatedSince log path → AskedSome log path
 nominated_some [] path none = none
 nominated_some (x ∷ before) path (inl now) = asked_some (has_numbers before) (x ∷ before) path now
-nominated_some (x ∷ before) path (inr was) = inr (nominated_some before path was)
+nominated_some (x ∷ before) path (inr (none, was)) = inr (none, nominated_some before path was)
 
 asked_before : (calls : List (Call Preference)) (log : Log) (path : Path) → AskedSome (setters_onto calls log) path → AskedSome log path
 asked_before [] log path asked = asked
 asked_before (call ∷ more) log path asked = by (asked_before more (setter call log ∷ log) path asked) where
   by : AskedSome (setter call log ∷ log) path → AskedSome log path
   by (inl (numbered, (at, via, m, brings, binding, request, asks_it, to))) = absurd (none_brought call at via m brings)
-  by (inr was) = was
+  by (inr (none, was)) = was
 
 taken : (numbered : Bool) (at : ℕ) (by : Path) (m : Message) → (as_taken numbered (request_in at by m)).use_candidate ≡ true → nominates numbered m ≡ true
 taken true at by m is = search is
 taken false at by m is = search is
 
-asked : (uses : List Used) (log : Log) (path : Path) → IsLogOf uses log → AskedSome log path → Ever (Nominates path) uses
+asked : (uses : List Used) (log : Log) (path : Path) → IsLogOf uses log → AskedSome log path → Since is_restart (Nominates path) uses
 asked [] log path is k = absurd (asked_before (setters_of modern_settings) [] path (subst (λ (l : Log). AskedSome l path) is k))
-asked (u ∷ before) log path (inl (none, logs)) k = inr (asked before log path logs k)
+asked (u ∷ before) log path (inl (none, logs)) k = inr (idle_restart u.export u.code none, asked before log path logs k)
 asked (u ∷ before) log path (inr (rest, inl (x, is, of), logs)) k = by (λ was. asked before rest path logs was) (subst (λ (l : Log). AskedSome l path) is k) where
-  by : (AskedSome rest path → Ever (Nominates path) before) → AskedSome (x ∷ rest) path → Ever (Nominates path) (u ∷ before)
+  by : (AskedSome rest path → Since is_restart (Nominates path) before) → AskedSome (x ∷ rest) path → Since is_restart (Nominates path) (u ∷ before)
   by on (inl (numbered, (at, via, m, brings, binding, request, asks_it, to))) =
       inl (via, m, numbered, accepts u.export x.call x.entry u.code at via m of.makes of.answers brings, binding, request, taken numbered at via m asks_it, to)
-  by on (inr was) = inr (on was)
+  by on (inr (kept, was)) = inr (not_restarted u.export x.call x.entry.answer u.code of.makes of.answers kept, on was)
 asked (u ∷ before) log path (inr (rest, inr (s, export, ok, is), logs)) k =
-    inr (asked before rest path logs (asked_before (setters_of (settings_of s)) rest path (subst (λ (l : Log). AskedSome l path) is k)))
+    inr (set_restart u s export, asked before rest path logs (asked_before (setters_of (settings_of s)) rest path (subst (λ (l : Log). AskedSome l path) is k)))
 
 -- ---- controlled in each state of the log
 
@@ -108,58 +111,84 @@ AllLeave (call ∷ more) = (leaves_role call ≡ true) × AllLeave more
 all_leave : (settings : Settings) → AllLeave (setters_of settings)
 all_leave settings = (refl, (refl, (refl, (refl, (refl, (refl, (refl, (refl, (refl, (refl, tt))))))))))
 
--- an execution in which the agent is controlled in each state
-abbrev Calm : Held → Log → Held → Type 0
-Calm first log last = (run : Ran first log last) × IsControlledSinceRestart mac_of answers first log last run
+-- an execution in which the agent is controlled in each state since the last restart, if this is so
+abbrev Calm : Type 0 → Held → Log → Held → Type 0
+Calm Is first log last = (run : Ran first log last) × (Is → IsControlledSinceRestart mac_of answers first log last run)
 
-calm_setters : (calls : List (Call Preference)) → AllLeave calls → (first mid last : Held) (log : Log) → Calm first log mid → mid.controlling ≡ false
-    → Course mac_of answers (map (λ call. (call, quiet Done)) calls) mid last → Calm first (setters_onto calls log) last
-calm_setters [] leave first mid last log calm role course = subst (λ (a : Held). Calm first log a) (sym course) calm
-calm_setters (call ∷ more) (here, leave) first mid last log (run, since_it) role (next, s, t, given, step, course) =
-    let kept : next.controlling ≡ false = role_kept call here mid next s t (quiet Done) step ∙ role in
-    calm_setters more leave first next last (setter call log ∷ log) ((mid, s, t, run, given, step), (kept, inr since_it)) kept course
+calm_setters : {Is : Type 0} (calls : List (Call Preference)) → AllLeave calls → (first mid last : Held) (log : Log) → Calm Is first log mid
+    → (Is → mid.controlling ≡ false) → Course mac_of answers (map (λ call. (call, quiet Done)) calls) mid last → Calm Is first (setters_onto calls log) last
+calm_setters {Is = Is} [] leave first mid last log calm role course = subst (λ (a : Held). Calm Is first log a) (sym course) calm
+calm_setters {Is = Is} (call ∷ more) (here, leave) first mid last log (run, since_it) role (next, s, t, given, step, course) =
+    let kept : (is : Is) → next.controlling ≡ false = λ is. role_kept call here mid next s t (quiet Done) step ∙ role is in
+    calm_setters more leave first next last (setter call log ∷ log) ((mid, s, t, run, given, step), λ is. (kept is, inr (since_it is))) kept course
 
 module _ (turn : Turn) (creds : IceCreds) (tie_breaker : ℕ) where
-  calm_all : (settings : Settings) (mid last : Held) (log : Log) → 0 < settings.max_retransmits → last ≡ with_settings settings mid
-      → Calm (newborn creds tie_breaker) log mid → mid.controlling ≡ false → Calm (newborn creds tie_breaker) (settings_onto settings log) last
-  calm_all settings mid last log some is calm role =
-      subst (λ (a : Held). Calm (newborn creds tie_breaker) (settings_onto settings log) a) (sym is)
+  calm_all : (Is : Type 0) (settings : Settings) (mid last : Held) (log : Log) → 0 < settings.max_retransmits → last ≡ with_settings settings mid
+      → Calm Is (newborn creds tie_breaker) log mid → (Is → mid.controlling ≡ false) → Calm Is (newborn creds tie_breaker) (settings_onto settings log) last
+  calm_all Is settings mid last log some is calm role =
+      subst (λ (a : Held). Calm Is (newborn creds tie_breaker) (settings_onto settings log) a) (sym is)
       (calm_setters (setters_of settings) (all_leave settings) (newborn creds tie_breaker) mid (with_settings settings mid) log calm role (turn mid settings any some))
 
+  abbrev Stays : (uses : List Used) (home : HomeRecord) → Session (fresh_home creds tie_breaker) uses home → Type 0
+  Stays uses home session = StaysControlled (fresh_home creds tie_breaker) uses home session
+
+  -- after a call that is no restart
+  stayed : (u : Used) (before : List Used) (home : HomeRecord) (session : Session (fresh_home creds tie_breaker) (u ∷ before) home) → is_restart u ≡ false
+      → Stays (u ∷ before) home session → Stays before session.0 session.1
+  stayed u before home session none (role, inl restart) = let so : is_restart u ≡ true = search restart in never (sym none ∙ so)
+  stayed u before home session none (role, inr was) = was
+
   -- with the log of C's calls
-  calm_of : (uses : List Used) (home : HomeRecord) (session : Session (fresh_home creds tie_breaker) uses home) → StaysControlled (fresh_home creds tie_breaker) uses home session
-      → (log : Log) × IsLogOf uses log × Calm (newborn creds tie_breaker) log home.agent × (home.agent.controlling ≡ false)
-  calm_of [] home is c = (
+  calm_of : (uses : List Used) (home : HomeRecord) (session : Session (fresh_home creds tie_breaker) uses home)
+      → (log : Log) × IsLogOf uses log × Calm (Stays uses home session) (newborn creds tie_breaker) log home.agent
+  calm_of [] home is = (
     settings_onto modern_settings [],
     refl,
-    calm_all modern_settings (newborn creds tie_breaker) home.agent [] (omega arith) (ap (λ (h : HomeRecord). h.agent) is) (refl, refl) refl,
-    c,
+    calm_all (home.agent.controlling ≡ false) modern_settings (newborn creds tie_breaker) home.agent [] (omega arith) (ap (λ (h : HomeRecord). h.agent) is)
+        (refl, λ _. refl) (λ _. refl),
   )
-  calm_of (u ∷ before) home (mid, session, does) c = next (calm_of before mid session c.1) where
-    next : (log : Log) × IsLogOf before log × Calm (newborn creds tie_breaker) log mid.agent × (mid.agent.controlling ≡ false)
-        → (log : Log) × IsLogOf (u ∷ before) log × Calm (newborn creds tie_breaker) log home.agent × (home.agent.controlling ≡ false)
-    next (log, logs, calm, role) = elim (one (length log) u.export u.code mid home does)
-        as (λ _. (log : Log) × IsLogOf (u ∷ before) log × Calm (newborn creds tie_breaker) log home.agent × (home.agent.controlling ≡ false)) [
-          | inl (same, none) ↦ (log, inl (none, logs), subst (λ (a : Held). Calm (newborn creds tie_breaker) log a) (sym same) calm, c.0)
+  calm_of (u ∷ before) home (mid, session, does) = next (calm_of before mid session) where
+    Now : Type 0
+    Now = Stays (u ∷ before) home (mid, session, does)
+
+    next : (log : Log) × IsLogOf before log × Calm (Stays before mid session) (newborn creds tie_breaker) log mid.agent
+        → (log : Log) × IsLogOf (u ∷ before) log × Calm Now (newborn creds tie_breaker) log home.agent
+    next (log, logs, (run, since_it)) = elim (one (length log) u.export u.code mid home does)
+        as (λ _. (log : Log) × IsLogOf (u ∷ before) log × Calm Now (newborn creds tie_breaker) log home.agent) [
+          | inl (same, none) ↦ (
+            log,
+            inl (none, logs),
+            subst (λ (a : Held). Calm Now (newborn creds tie_breaker) log a) (sym same)
+                (run, λ is. since_it (stayed u before home (mid, session, does) (idle_restart u.export u.code none) is)),
+          )
           | inr (inl (x, s, t, is, given, step)) ↦ (
             x ∷ log,
             inr (log, inl (x, refl, is), logs),
-            ((mid.agent, s, t, calm.0, given, step), (c.0, inr calm.1)),
-            c.0,
+            (
+              (mid.agent, s, t, run, given, step),
+              λ stays. (
+                stays.0,
+                elim stays.1 [
+                  | inl restart ↦ inl (restarted u.export x.call x.entry.answer u.code is.makes is.answers (search restart))
+                  | inr was ↦ inr (since_it was)
+                ],
+              ),
+            ),
           )
           | inr (inr all) ↦ (
             settings_onto (settings_of all.settings) log,
             inr (log, inr (all.settings, all.export, all.ok, refl), logs),
-            calm_all (settings_of all.settings) mid.agent home.agent log all.some all.sets calm role,
-            c.0,
+            calm_all Now (settings_of all.settings) mid.agent home.agent log all.some all.sets
+                (run, λ is. since_it (stayed u before home (mid, session, does) (set_restart u all.settings all.export) is))
+                (λ is. sym (ap (λ (a : Held). a.controlling) all.sets) ∙ is.0),
           )
         ]
 
-pub are_nominated_by_peer : Turn → WaitingAreNominatedByPeer {H = _} {P = Preference} mac_of answers → SelectedAreNominatedByPeer
+pub are_nominated_by_peer : Turn → WaitingAreNominatedSince {H = _} {P = Preference} mac_of answers → SelectedAreNominatedByPeer
 are_nominated_by_peer turn law creds tie_breaker before home after u path session each controlled does selects =
     let stays : StaysControlled (fresh_home creds tie_breaker) before home session = search controlled in
-    let k = calm_of turn creds tie_breaker before home session stays in
+    let k = calm_of turn creds tie_breaker before home session in
     let kept : EachKeeps keeps_modern before = search each in
-    let found = law (newborn creds tie_breaker) home.agent k.0 (is_new creds tie_breaker) (full_log before k.0 k.1 kept) k.2.0 k.2.1 path
-    (waited u home after path does selects) in
+    let found = law (newborn creds tie_breaker) home.agent k.0 (is_new creds tie_breaker) (full_log before k.0 k.1 kept) (modern_log before k.0 k.1 kept)
+    k.2.0 (k.2.1 stays) path (waited u home after path does selects) in
     search (asked before k.0 path k.1 (nominated_some k.0 path found))

@@ -1,4 +1,4 @@
--- The path that C gets by a `NominatedSend` waited before.
+-- The path that C gets by a `NominatedSend` waited before. What mutants/specifications changes is read by tactics.
 use Rattle.std.proofs.Common.{◌≡◌, List, Option, Some, None, option_map, ℤ, pos, inl, ap, sym, ◌∙◌, subst}
 use Rattle.std.specs.Option.{option_and_then}
 use Rattle.std.specs.declared.net.socket_addr.SocketAddr.{SocketAddr}
@@ -64,4 +64,4 @@ poll (Some e) m before after path old new (coded, is) polls kind to =
 pub waited : (u : Used) (home after : HomeRecord) (path : Path) → Does u.export home u.code after → Selects u path → Has home.agent.events (selecting path)
 waited u home after path does (b, a, is, kind, to, ok) =
     let d : Does (PollEvent b a) home OK after = subst (λ (e : Use). Does e home OK after) is (subst (λ (c : ℤ). Does u.export home c after) ok does) in
-    poll d.0 home.monitor b a path home.agent.events after.agent.events d.2 d.1.0 kind to
+    poll d.0 home.monitor b a path home.agent.events after.agent.events d.2 d.1.0 (search kind) to

@@ -1,10 +1,11 @@
--- What C saw of each entry of the log: the bytes that it passed, the password that it set, and its restarts.
+-- What C saw of each entry of the log: the bytes that it passed, the password that it set, and when it cleared the pairs.
 use Rattle.std.proofs.Common.{◌≡◌, ℕ, Bool, true, false, List, [], ◌∷◌, Option, Some, None, ℤ, inl, inr, refl, ap, sym, ◌∙◌, subst, if◌then◌else◌}
 use Rattle.is_stun.specs.Message.{Message}
 use Rattle.is_rules.specs.declared.credentials.IceCreds.{IceCreds}
 use Rattle.is_rules.specs.declared.emitted.Path.{Path}
 use Rattle.is_rules.specs.declared.settings.Settings.{Settings}
 use Rattle.is_rules.specs.Brought.{Brings}
+use Rattle.is_rules.specs.Effects as effects
 use Rattle.is_rules.specs.Effects.{remote_after, remote_set_by}
 use Rattle.is_rules.specs.Steps as agent
 use Rattle.is_rules.specs.Steps.{Call, Answer, Entry, Done, Flag, is_done, quiet}
@@ -17,7 +18,8 @@ use Rattle.is_c_calls.specs.Clock.{agent_time}
 use Rattle.is_c_calls.specs.Sessions.{Used, is_ok}
 use Rattle.is_c_calls.specs.Uses.{Use, Ask, SetControlling, SetLite, SetRenomination, SetTieBreaker, SetMaxPairs, SetMaxDiscovered, SetMaxCandidates, SetTimingAdvance, SetInitialRto, SetMaxRto, SetLiteTimeout, SetMaxRetransmits, SetMtu, SetPreference, SetSettings, SkipPairIds, SetSilence, SetLocalCredentials, SetRemoteCredentials, AddLocal, AddLocalLine, AddRemote, InvalidateLocal, Invalidate, Restart, RecreatePairs, HandlePacket, HandleTimeout, PollTransmit, PollTimeout, PollEvent, SendFailed, FixTimes}
 use Rattle.is_c_theorems.specs.CallLogs.{Makes, Answers, code_by, counts, settings_onto, IsLogOf}
-use Rattle.is_c_theorems.specs.Seen.{Accepts, restarts, is_restart, peer_by, peer_of}
+use Rattle.is_c_theorems.specs.Seen.{Accepts, restarts, is_restart, clears, is_clear, peer_by, peer_of}
+use Rattle.is_c_theorems.proofs.CallsAsSteps.{never}
 use Rattle.is_c_theorems.proofs.SettingsOfCalls.{Log}
 
 if_same : {A : Type 0} (b : Bool) (x : A) → (if b then x else x) ≡ x
@@ -105,6 +107,33 @@ idle_restart _ code none = refl
 
 pub set_restart : (u : Used) (s : AgentSettings) → u.export ≡ SetSettings s → is_restart u ≡ false
 set_restart u s is = ap (λ (e : Use). if restarts e then is_ok u.code else false) is
+
+-- a restart of C is one of the agent
+pub restarted : (export : Use) (call : Call Preference) (answer : Answer) (code : ℤ) → Makes export call → Answers export answer code
+    → (if restarts export then is_ok code else false) ≡ true → polled.restarts call answer ≡ true
+restarted (Restart u p keep) call answer code m a is = subst (λ (c : Call Preference). polled.restarts c answer ≡ true) (sym m) (a.1 ∙ is)
+restarted _ call answer code m a is = never is
+
+-- ---- clears
+
+pub not_cleared : (export : Use) (call : Call Preference) (answer : Answer) (code : ℤ) → Makes export call → Answers export answer code
+    → effects.clears call answer ≡ false → (if clears export then is_ok code else false) ≡ false
+not_cleared (Restart u p keep) call answer code m a is = sym a.1 ∙ subst (λ (c : Call Preference). effects.clears c answer ≡ false) m is
+not_cleared RecreatePairs call answer code m a is = sym a.1 ∙ subst (λ (c : Call Preference). effects.clears c answer ≡ false) m is
+not_cleared _ call answer code m a is = search
+
+pub idle_clear : (export : Use) (code : ℤ) → (counts export ≡ true → is_ok code ≡ false) → (if clears export then is_ok code else false) ≡ false
+idle_clear (Restart u p keep) code none = none refl
+idle_clear RecreatePairs code none = none refl
+idle_clear _ code none = search
+
+pub set_clear : (u : Used) (s : AgentSettings) → u.export ≡ SetSettings s → is_clear u ≡ false
+set_clear u s is = search (ap (λ (e : Use). if clears e then is_ok u.code else false) is)
+
+-- what clears nothing is no restart
+pub no_restart : (export : Use) (code : ℤ) → (if clears export then is_ok code else false) ≡ false → (if restarts export then is_ok code else false) ≡ false
+no_restart (Restart u p keep) code none = none
+no_restart _ code none = refl
 
 -- ---- the packet
 

@@ -9,14 +9,17 @@ use Rattle.is_rules.specs.Effects.{lite_set_by}
 use Rattle.is_rules.specs.Settings.{modern_settings}
 use Rattle.is_rules.specs.Steps as agent
 use Rattle.is_rules.specs.Steps.{Call, Answer, is_done}
-use Rattle.is_theorems.specs.Logs.{Logged, NeverLite}
+use Rattle.is_theorems.specs.Logs.{Logged, NeverLite, numbering_set_by, numbering_of}
+use Rattle.is_theorems.specs.Polled.{restarts, IsModernAtRestart}
 use Rattle.is_theorems.specs.Settings.{AllAreSetInTurn, SettingsRecord, all_settings_of, settings_after, settings_along, SettingsAreSet}
 use Rattle.is_theorems.specs.Shared.{SharedRun}
+use Rattle.is_theorems.proofs.ExecutionLogs.SharedLogTheorems.{numbering_set}
 use Rattle.is_c_calls.specs.declared.preference.Preference.{Preference}
 use Rattle.is_c_calls.specs.AgentSettings.{settings_of, profile_of}
-use Rattle.is_c_calls.specs.Held.{Held}
+use Rattle.is_c_calls.specs.Held.{Held, HomeRecord}
 use Rattle.is_c_calls.specs.Preferences.{answers}
-use Rattle.is_c_calls.specs.Sessions.{Used, is_ok}
+use Rattle.is_c_calls.specs.Making.{fresh_home}
+use Rattle.is_c_calls.specs.Sessions.{Used, Session, is_ok}
 use Rattle.is_c_calls.specs.Uses.{Use, Ask, SetControlling, SetLite, SetRenomination, SetTieBreaker, SetMaxPairs, SetMaxDiscovered, SetMaxCandidates, SetTimingAdvance, SetInitialRto, SetMaxRto, SetLiteTimeout, SetMaxRetransmits, SetMtu, SetPreference, SetSettings, SkipPairIds, SetSilence, SetLocalCredentials, SetRemoteCredentials, AddLocal, AddLocalLine, AddRemote, InvalidateLocal, Invalidate, Restart, RecreatePairs, HandlePacket, HandleTimeout, PollTransmit, PollTimeout, PollEvent, SendFailed, FixTimes, mac_of}
 use Rattle.is_c_theorems.specs.CallLogs.{Makes, Answers, IsOf, counts, settings_onto, AddsTo, IsLogOf, newborn}
 use Rattle.is_c_theorems.specs.Chosen.{sets, settings_by, SettingsAreThoseSet, EachKeeps, keeps_modern, keeps_consent, keeps_limit}
@@ -70,14 +73,14 @@ sets_as (SetLite lite) call answer code k m a = sure (SetLite lite) call _ answe
 sets_as (SetRenomination enabled) call answer code k m a = sure (SetRenomination enabled) call _ answer code k m (ap is_ok a.1) refl
 sets_as (SetTieBreaker n) call answer code k m a = sure (SetTieBreaker n) call _ answer code k m (ap is_ok a.1) refl
 sets_as (SetMaxPairs n) call answer code k m a = sure (SetMaxPairs n) call _ answer code k m (ap is_ok a.1) refl
-sets_as (SetMaxDiscovered n) call answer code k m a = sure (SetMaxDiscovered n) call _ answer code k m (ap is_ok a.1) refl
+sets_as (SetMaxDiscovered n) call answer code k m a = sure (SetMaxDiscovered n) call _ answer code k m (ap is_ok a.1) (search)
 sets_as (SetTimingAdvance n) call answer code k m a = sure (SetTimingAdvance n) call _ answer code k m (ap is_ok a.1) refl
 sets_as (SetInitialRto n) call answer code k m a = sure (SetInitialRto n) call _ answer code k m (ap is_ok a.1) refl
-sets_as (SetMaxRto n) call answer code k m a = sure (SetMaxRto n) call _ answer code k m (ap is_ok a.1) refl
+sets_as (SetMaxRto n) call answer code k m a = sure (SetMaxRto n) call _ answer code k m (ap is_ok a.1) (search)
 sets_as (SetLiteTimeout n) call answer code k m a = sure (SetLiteTimeout n) call _ answer code k m (ap is_ok a.1) refl
 sets_as (SetPreference p) call answer code k m a = sure (SetPreference p) call _ answer code k m (ap is_ok a.1) refl
 sets_as (SetMaxRetransmits n) call answer code k m a = may (SetMaxRetransmits n) call _ answer code k m (ap is_done a.0 ∙ sym (ap is_ok a.1)) refl
-sets_as (SetMtu mtu warn) call answer code k m a = may (SetMtu mtu warn) call _ answer code k m a.1 refl
+sets_as (SetMtu mtu warn) call answer code k m a = may (SetMtu mtu warn) call _ answer code k m a.1 (search)
 sets_as (SkipPairIds n) call answer code k m a = other (SkipPairIds n) call _ answer code k m refl refl
 sets_as (SetLocalCredentials u p) call answer code k m a = other (SetLocalCredentials u p) call _ answer code k m refl refl
 sets_as (SetRemoteCredentials u p) call answer code k m a = other (SetRemoteCredentials u p) call _ answer code k m refl refl
@@ -133,15 +136,16 @@ added_along : (u : Used) (before log : Log) (k : Chosen) → AddsTo before u log
 added_along u before log k (inl (x, is, of)) =
     ap (λ (l : Log). settings_along k l) is ∙ sets_as u.export x.call x.entry.answer u.code (settings_along k before) of.makes of.answers
 added_along u before log k (inr (s, export, ok, is)) =
+    let export_is : u.export ≡ SetSettings s = search export in
     ap (λ (l : Log). settings_along k l) is ∙ (all_along (settings_of s) k before
     ∙ sym (ap (λ (b : Bool). if b then sets u.export (settings_along k before) else settings_along k before) ok
-    ∙ ap (λ (e : Use). sets e (settings_along k before)) export))
+    ∙ ap (λ (e : Use). sets e (settings_along k before)) export_is))
 
 -- The settings along the log are those that C set.
 pub along : (uses : List Used) (log : Log) (k : Chosen) → IsLogOf uses log → settings_along k log ≡ settings_by (begins k) uses
 along [] log k is = ap (λ (l : Log). settings_along k l) is ∙ all_along modern_settings k []
 along (u ∷ before) log k (inl (none, logs)) =
-    along before log k logs ∙ sym (keeps_none u.export u.code (settings_by (begins k) before) none)
+    search (along before log k logs ∙ sym (keeps_none u.export u.code (settings_by (begins k) before) none))
 along (u ∷ before) log k (inr (rest, adds, logs)) =
     added_along u rest log k adds ∙ ap (λ (s : Chosen). if is_ok u.code then sets u.export s else s) (along before rest k logs)
 
@@ -160,8 +164,9 @@ module _ (law : SettingsAreSet {H = _} {P = Preference} mac_of answers) where
 
   pub those_set : AllAreSetInTurn {H = _} {P = Preference} mac_of answers → SettingsAreThoseSet
   those_set turn creds tie_breaker uses home session =
-      let k = walk turn creds tie_breaker uses home session in
-      settings_now creds tie_breaker uses k.0 home.agent (log_is turn creds tie_breaker uses k.0 home k.1) (run_is turn creds tie_breaker uses k.0 home k.1)
+      let calls : Session (fresh_home creds tie_breaker) uses home = search session in
+      let k = walk turn creds tie_breaker uses home calls in
+      search (settings_now creds tie_breaker uses k.0 home.agent (log_is turn creds tie_breaker uses k.0 home k.1) (run_is turn creds tie_breaker uses k.0 home k.1))
 
 -- ---- what C leaves
 
@@ -192,6 +197,43 @@ stays_modern _ k is m = m
 
 pub modern_by : (uses : List Used) (k : Chosen) → EachKeeps keeps_modern uses → IsModern k → IsModern (settings_by k uses)
 modern_by uses k each is = kept_by (λ (s : Chosen). s) keeps_modern (λ s. IsModern s) stays_modern uses k each is
+
+-- ---- the profile at restarts
+
+numbering_along : (first : Chosen) (log : Log) → first.settings.renomination ≡ false → is_modern_profile first.settings.profile ≡ false
+    → is_modern_profile (settings_along first log).settings.profile ≡ (numbering_of log).1
+numbering_along first log none plain = ap (λ (set : Bool × Bool). set.1) (both log) where
+  both : (log : Log) → ((settings_along first log).settings.renomination, is_modern_profile (settings_along first log).settings.profile) ≡ numbering_of log
+  both [] = ap (λ (b : Bool). (b, is_modern_profile first.settings.profile)) none ∙ ap (λ (b : Bool). (false, b)) plain
+  both (x ∷ before) =
+      numbering_set x.call x.entry.answer (settings_along first before) ∙ ap (λ (set : Bool × Bool). numbering_set_by x.call set) (both before)
+
+-- no setter restarts
+set_modern : (settings : Settings) (log : Log) → IsModernAtRestart log → IsModernAtRestart (settings_onto settings log)
+set_modern settings log was =
+    inr (refl, inr (refl, inr (refl, inr (refl, inr (refl, inr (refl, inr (refl, inr (refl, inr (refl, inr (refl, was))))))))))
+
+-- the settings of a new agent, before it gets those of `Modern`
+abbrev pub new_settings : Chosen
+new_settings = all_settings_of (newborn (record { ufrag = []; pass = [] }) 0)
+
+pub modern_log : (uses : List Used) (log : Log) → IsLogOf uses log → EachKeeps keeps_modern uses → IsModernAtRestart log
+modern_log [] log is each = subst (λ (l : Log). IsModernAtRestart l) (sym is) (set_modern modern_settings [] tt)
+modern_log (u ∷ before) log (inl (none, logs)) each = modern_log before log logs (rest_of keeps_modern u before each)
+modern_log (u ∷ before) log (inr (rest, inl (x, is, of), logs)) each =
+    subst (λ (l : Log). IsModernAtRestart l) (sym is)
+    (by (restarts x.call x.entry.answer) (modern_log before rest logs (rest_of keeps_modern u before each)) refl) where
+      by : (b : Bool) → IsModernAtRestart rest → restarts x.call x.entry.answer ≡ b → IsModernAtRestart (x ∷ rest)
+      by true were restart =
+          inl (
+            restart,
+            sym (numbering_along new_settings rest refl refl)
+                ∙ subst (λ (k : Chosen). IsModern k) (sym (along before rest new_settings logs))
+                (modern_by before (begins new_settings) (rest_of keeps_modern u before each) refl),
+          )
+      by false were none = inr (none, were)
+modern_log (u ∷ before) log (inr (rest, inr (s, export, ok, is), logs)) each =
+    subst (λ (l : Log). IsModernAtRestart l) (sym is) (set_modern (settings_of s) rest (modern_log before rest logs (rest_of keeps_modern u before each)))
 
 -- ---- a full agent
 
@@ -235,15 +277,11 @@ module _ (keeps : Use → Bool) (full : (lite : Bool) → keeps (SetLite lite) �
   never_lite (u ∷ before) log (inr (rest, inr (s, export, ok, is), logs)) each =
       subst (λ (l : Log). NeverLite l) (sym is) (all_full (settings_of s) rest (never_lite before rest logs (rest_of keeps u before each)))
 
--- the settings of a new agent, before it gets those of `Modern`
-abbrev pub new_settings : Chosen
-new_settings = all_settings_of (newborn (record { ufrag = []; pass = [] }) 0)
-
 pub modern_full : (lite : Bool) → keeps_modern (SetLite lite) ≡ true → lite ≡ false
-modern_full lite is = not_lite lite is
+modern_full lite is = not_lite lite (search is)
 
 pub consent_full : (lite : Bool) → keeps_consent (SetLite lite) ≡ true → lite ≡ false
-consent_full lite is = not_lite lite is
+consent_full lite is = not_lite lite (search is)
 
 -- ---- consent
 

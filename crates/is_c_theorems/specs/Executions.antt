@@ -11,7 +11,8 @@ use Rattle.is_rules.specs.Sending.{path_of}
 use Rattle.is_theorems.specs.Bounds.{IsBounded, gathered_count, signal_count}
 use Rattle.is_theorems.specs.ConsentCourses.{IsAliveBy}
 use Rattle.is_theorems.specs.ConsentLogs.{IsConnectedAt}
-use Rattle.is_theorems.specs.Logs.{Logged, last_selected, IsAnsweredBy, NominatedByPeer}
+use Rattle.is_theorems.specs.Logs.{Logged, last_selected, IsAnsweredBy}
+use Rattle.is_theorems.specs.Polled.{NominatedSince}
 use Rattle.is_theorems.specs.Settled.{IsAgreed}
 use Rattle.is_theorems.specs.Shared.{IsControlledSince}
 use Rattle.is_theorems.specs.Waiting.{IsShort, discovery_count}
@@ -31,12 +32,12 @@ PathsAreAnswered =
     → IsUsed uses (x ∷ before) home → EachKeeps keeps_modern uses
     → (path : Path) → Has x.entry.emitted.selected_paths (Some path) → IsAnsweredBy mac_of (record {}) x before path
 
--- Each path that it selects while it was controlled since the last clear was nominated by the peer.
+-- Each path that it selects while it was controlled since the last clear was nominated by the peer since the last restart.
 abbrev pub PathsAreNominatedByPeer : Type 0
 PathsAreNominatedByPeer =
     (uses : List Used) (before : List (Logged Preference)) (x : Logged Preference) (home : HomeRecord) (used : IsUsed uses (x ∷ before) home)
     → EachKeeps keeps_modern uses → IsControlledSince mac_of answers (newborn used.creds used.tie_breaker) (x ∷ before) home.agent used.run
-    → (path : Path) → Has x.entry.emitted.selected_paths (Some path) → NominatedByPeer (x ∷ before) path
+    → (path : Path) → Has x.entry.emitted.selected_paths (Some path) → NominatedSince (x ∷ before) path
 
 -- After an accepted success response, and after a timeout that serves no early request, if a pair is eligible, the path that was
 -- selected last is the first choice.

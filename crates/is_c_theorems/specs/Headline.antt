@@ -18,7 +18,7 @@ use Rattle.is_c_calls.specs.Sessions.{Used, Session}
 use Rattle.is_c_calls.specs.Following.{Followed}
 use Rattle.is_c_calls.specs.Uses.{Use, HandlePacket, FixTimes, Does, mac_of}
 use Rattle.is_c_theorems.specs.Chosen.{EachKeeps, keeps_modern}
-use Rattle.is_c_theorems.specs.Seen.{Accepts, Selects, nominates, peer_of, Since, Ever, IsChecked}
+use Rattle.is_c_theorems.specs.Seen.{Accepts, Selects, nominates, is_restart, is_clear, peer_of, Since, IsChecked}
 
 abbrev pub used : Use → ℤ → Used
 used export code = record { export = export; code = code }
@@ -45,19 +45,19 @@ UnacceptedChangeNothing =
     → ¬ AcceptsOn mac_of old.agent (packet_path protocol source destination) bytes → (new ≡ old) × ¬ (code ≡ OK)
 
 -- This call passed a Binding success response, signed with the password that C had set last for the peer, received on the reverse of the path,
--- with the ID of a check of the path: one that C got from `is_ice_poll_transmit` since the last restart, or that is still to be polled.
+-- with the ID of a check of the path: one that C got from `is_ice_poll_transmit` since pairs were last cleared, or that is still to be polled.
 abbrev pub Answers : List Used → HomeRecord → Path → Used → List Used → Type 0
 Answers uses home path u before =
     (by : Path) × (m : Message) × (peer : IceCreds)
     × Accepts u by m × (m.method ≡ Binding) × (m.class ≡ class.Success) × (peer_of before ≡ Some peer) × IsSignedBy (mac_of (record {})) m peer.pass
     × (goes_back by path ≡ true) × IsChecked uses home path m.id
 
--- Each path that C gets by a `NominatedSend` was answered since the last restart (RFC 8445, section 7.2.5.3).
+-- Each path that C gets by a `NominatedSend` was answered since pairs were last cleared (RFC 8445, section 7.2.5.3).
 abbrev pub SelectedAreAnswered : Type 0
 SelectedAreAnswered =
     (creds : IceCreds) (tie_breaker : ℕ) (before : List Used) (home after : HomeRecord) (u : Used) (path : Path)
     → Session (fresh_home creds tie_breaker) before home → EachKeeps keeps_modern before
-    → Does u.export home u.code after → Selects u path → Since (Answers before home path) before
+    → Does u.export home u.code after → Selects u path → Since is_clear (Answers before home path) before
 
 -- This call passed a Binding request on the reverse of the path that nominates it.
 abbrev pub Nominates : Path → Used → List Used → Type 0
@@ -65,15 +65,16 @@ Nominates path u before =
     (by : Path) × (m : Message) × (numbered : Bool)
     × Accepts u by m × (m.method ≡ Binding) × (m.class ≡ class.Request) × (nominates numbered m ≡ true) × (reversed by ≡ path)
 
--- The agent is controlled in each state, as `is_ice_status` says.
+-- The agent is controlled in each state since the last restart, or since it was made if there was none, as `is_ice_status` says.
 abbrev pub StaysControlled : (first : HomeRecord) (uses : List Used) (last : HomeRecord) → Session first uses last → Type 0
 StaysControlled first [] last session = last.agent.controlling ≡ false
-StaysControlled first (u ∷ before) last session = (last.agent.controlling ≡ false) × StaysControlled first before session.0 session.1
+StaysControlled first (u ∷ before) last session =
+    (last.agent.controlling ≡ false) × ((is_restart u ≡ true) ⊎ StaysControlled first before session.0 session.1)
 
--- If the agent was controlled all along, each such path was nominated by the peer (RFC 8445, section 7.3.1.5).
+-- If the agent was controlled since the last restart, the peer nominated each such path since then (RFC 8445, section 7.3.1.5).
 abbrev pub SelectedAreNominatedByPeer : Type 0
 SelectedAreNominatedByPeer =
     (creds : IceCreds) (tie_breaker : ℕ) (before : List Used) (home after : HomeRecord) (u : Used) (path : Path)
     → (session : Session (fresh_home creds tie_breaker) before home) → EachKeeps keeps_modern before
     → StaysControlled (fresh_home creds tie_breaker) before home session
-    → Does u.export home u.code after → Selects u path → Ever (Nominates path) before
+    → Does u.export home u.code after → Selects u path → Since is_restart (Nominates path) before

@@ -17,7 +17,7 @@ use Rattle.is_c_calls.specs.Codes.{OK}
 use Rattle.is_c_calls.specs.Held.{HomeRecord}
 use Rattle.is_c_calls.specs.Packets.{packet_path}
 use Rattle.is_c_calls.specs.Sessions.{Used, is_ok}
-use Rattle.is_c_calls.specs.Uses.{Use, SetRemoteCredentials, Restart, HandlePacket, PollTransmit, PollEvent}
+use Rattle.is_c_calls.specs.Uses.{Use, SetRemoteCredentials, Restart, RecreatePairs, HandlePacket, PollTransmit, PollEvent}
 
 -- ---- one call
 
@@ -59,6 +59,15 @@ restarts _ = false
 abbrev pub is_restart : Used → Bool
 is_restart u = if restarts u.export then is_ok u.code else false
 
+abbrev pub clears : Use → Bool
+clears (Restart ufrag pass keep) = true
+clears RecreatePairs = true
+clears _ = false
+
+-- a restart that returned OK, or pairs that were formed again
+abbrev pub is_clear : Used → Bool
+is_clear u = if clears u.export then is_ok u.code else false
+
 -- the credentials of the peer that C set last, none since a restart
 abbrev pub peer_by : Use → Option IceCreds → Option IceCreds
 peer_by (SetRemoteCredentials ufrag pass) old = Some (record { ufrag = ufrag; pass = pass })
@@ -69,22 +78,17 @@ abbrev pub peer_of : List Used → Option IceCreds
 peer_of [] = None
 peer_of (u ∷ before) = if is_ok u.code then peer_by u.export (peer_of before) else peer_of before
 
--- It holds of one of these calls, newest first, and of those before it, up to the last restart.
-abbrev pub Since : (Used → List Used → Type 0) → List Used → Type 0
-Since Is [] = ⊥
-Since Is (u ∷ before) = Is u before ⊎ ((is_restart u ≡ false) × Since Is before)
-
--- It holds of one of these calls, which may come before a restart.
-abbrev pub Ever : (Used → List Used → Type 0) → List Used → Type 0
-Ever Is [] = ⊥
-Ever Is (u ∷ before) = Is u before ⊎ Ever Is before
+-- It holds of one of these calls, newest first, and of those before it, up to the last one that ends it, as a restart.
+abbrev pub Since : (ends : Used → Bool) → (Used → List Used → Type 0) → List Used → Type 0
+Since ends Is [] = ⊥
+Since ends Is (u ∷ before) = Is u before ⊎ ((ends u ≡ false) × Since ends Is before)
 
 -- The packet is still to be polled.
 abbrev pub IsToPoll : HomeRecord → packets.Packet → Type 0
 IsToPoll home p = (home.waiting ≡ Some p) ⊎ Has home.agent.packets p
 
--- A check with this ID was given to C for the path since the last restart, or is still to be polled.
+-- A check with this ID was given to C for the path since pairs were last cleared, or is still to be polled.
 abbrev pub IsChecked : List Used → HomeRecord → Path → List ℕ → Type 0
 IsChecked uses home path id =
-    Since (λ u before. (bytes : List ℕ) × Gets u path bytes × IsCheckIn bytes id) uses
+    Since is_clear (λ u before. (bytes : List ℕ) × Gets u path bytes × IsCheckIn bytes id) uses
     ⊎ ((p : packets.Packet) × IsToPoll home p × (via_out p ≡ path) × IsCheckIn p.contents id)

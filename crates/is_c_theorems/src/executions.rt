@@ -10,7 +10,7 @@ use is_theorems::consent::connected_are_answered;
 use is_theorems::flooding::{discoveries_stay_few, lists_stay_bounded, queues_are_short};
 use is_theorems::logs::queues_are_kept;
 use is_theorems::selecting::{
-    selections_are_answered, selections_are_nominated_by_peer, selections_are_top,
+    selections_are_answered, selections_are_nominated_since, selections_are_top,
 };
 use is_theorems::settling::states_agree;
 use is_theorems::transitions::{all_settings_are_set_in_turn, settings_are_set};
@@ -37,11 +37,11 @@ pub fn paths_are_answered()
     selections_are_answered::<DefaultSha1HmacProvider, Preference>();
 }
 
-/// Each path that it selects while it was controlled since the last clear was nominated by the peer.
+/// Each path that it selects while it was controlled since the last clear was nominated by the peer since the last restart.
 pub fn paths_are_nominated_by_peer()
     ensures { PathsAreNominatedByPeer }
 {
-    selections_are_nominated_by_peer::<DefaultSha1HmacProvider, Preference>();
+    selections_are_nominated_since::<DefaultSha1HmacProvider, Preference>();
 }
 
 /// After each nomination point at which a pair is eligible, the path that was selected last is the first choice.

@@ -5,7 +5,7 @@ ghost use Rattle.is_c_theorems.specs.Headline.{NewAgentsAreFresh, FollowedAreUse
 use is_c_calls::Preference;
 use is_proto::DefaultSha1HmacProvider;
 use is_theorems::logs::queues_are_kept;
-use is_theorems::selecting::{waiting_are_answered, waiting_are_nominated_by_peer};
+use is_theorems::selecting::{waiting_are_answered, waiting_are_nominated_since};
 use is_theorems::transitions::{
     all_settings_are_set_in_turn, fresh_is_sound, path_effect, trade_effect,
 };
@@ -25,8 +25,8 @@ pub fn unaccepted_change_nothing()
     ensures { UnacceptedChangeNothing }
 {}
 
-/// Each path that C gets by a `NominatedSend` was answered since the last restart: C passed a signed response to a check that it got, or has
-/// still to poll.
+/// Each path that C gets by a `NominatedSend` was answered since pairs were last cleared: C passed a signed response to a check that it got, or
+/// has still to poll.
 pub fn selected_are_answered()
     ensures { SelectedAreAnswered }
 {
@@ -38,10 +38,11 @@ pub fn selected_are_answered()
     waiting_are_answered::<DefaultSha1HmacProvider, Preference>();
 }
 
-/// Each such path of an agent that was always controlled was nominated by the peer: C passed a request that nominates it.
+/// Each such path of an agent that was controlled since the last restart was nominated by the peer since then: C passed a request that
+/// nominates it.
 pub fn selected_are_nominated_by_peer()
     ensures { SelectedAreNominatedByPeer }
 {
     all_settings_are_set_in_turn::<DefaultSha1HmacProvider, Preference>();
-    waiting_are_nominated_by_peer::<DefaultSha1HmacProvider, Preference>();
+    waiting_are_nominated_since::<DefaultSha1HmacProvider, Preference>();
 }

@@ -8,4 +8,5 @@ pub mod UnacceptedBytes
 pub mod PollingOrder
 pub mod SharedRandomSource
 pub mod PerAgentExecutions
+pub mod NominatedSinceRestart
 pub mod PolledSelections

@@ -10,6 +10,8 @@ use Rattle.is_rules.specs.declared.credentials.IceCreds.{IceCreds}
 use Rattle.is_rules.specs.declared.emitted.Issued.{Issued}
 use Rattle.is_rules.specs.declared.emitted.Path.{Path}
 use Rattle.is_rules.specs.Emitted.{nothing_emitted}
+use Rattle.is_rules.specs.Request.{request_in}
+use Rattle.is_rules.specs.Serving.{nominates}
 use Rattle.is_rules.specs.Agent.{AgentRecord, fresh}
 use Rattle.is_rules.specs.Nominating.{is_eligible}
 use Rattle.is_rules.specs.Answers.{keeps_check_on}
@@ -98,12 +100,12 @@ module _ {H P : Type 0} (mac : H → List ℕ → List ℕ → List ℕ) (answer
       AtEach first s log (λ before mid x after. (at : ℕ) (by : Path) (m : Message) → Brings x.call x.entry at by m → m.class ≡ class.Success
       → (p : PairRecord) × Has after.pairs p × (keeps_check_on after by m.id p ≡ true) × (is_valid p ≡ true))
 
-  -- If a request with USE-CANDIDATE and without a NOMINATION of 0 is received and gets a success response, and the agent is controlled afterwards, a pair on
-  -- the path of the response is nominated.
+  -- If a request that nominates its pair is received and gets a success response, and the agent is controlled afterwards, a pair on the path
+  -- of the response is nominated. Requests nominate by USE-CANDIDATE, or if nominations have numbers, by NOMINATION (`nominates`).
   abbrev pub RequestsNominate : AgentRecord H P → Stream → List (Logged P) → Type 0
   RequestsNominate first s log =
       AtEach first s log (λ before mid x after. (at : ℕ) (by : Path) (m : Message) (issued : Issued) → Brings x.call x.entry at by m
-      → m.attributes.use_candidate ≡ true → ¬ (m.attributes.nomination ≡ Some 0) → x.entry.emitted.issued ≡ Some issued → issued.class ≡ class.Success → after.controlling ≡ false
+      → nominates mid (request_in at by m) ≡ true → x.entry.emitted.issued ≡ Some issued → issued.class ≡ class.Success → after.controlling ≡ false
       → IsNominatedOn after issued.path)
 
   -- ---- the theorems

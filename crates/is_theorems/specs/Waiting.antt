@@ -4,7 +4,7 @@ use Rattle.is_candidate.specs.Candidates.{CandidateRecord}
 use Rattle.is_rules.specs.declared.event.IceAgentEvent.{IceAgentEvent}
 use Rattle.is_rules.specs.declared.event.IceAgentEvent.TheVariants.{DiscoveredRecv}
 use Rattle.is_rules.specs.Agent.{AgentRecord}
-use Rattle.is_theorems.specs.Logs.{Logged}
+use Rattle.is_theorems.specs.Logs.{Logged, numbering_of}
 use Rattle.is_rules.specs.Queue.{QUEUE_LIMIT}
 use Rattle.is_rules.specs.Steps.{Call, AddLocalCandidate, AddRemoteCandidate, InvalidateCandidate, RestartIce, RecreateCandidatePairs, ReceivePacket, HandleTimeout, PollTransmit, PollEvent}
 use Rattle.is_rules.specs.Steps.{Answer, Done, Added, Flag, Polled, Happened, is_done}
@@ -56,16 +56,16 @@ abbrev pub other_count : List IceAgentEvent → ℕ
 other_count events = count_by (λ (e : IceAgentEvent). not (is_discovery e)) events
 
 -- How many events the call emits at most, `DiscoveredRecv` aside. A packet: a selected path and a state. A `handle_timeout` call: the
--- start, two selected paths and two states. A candidate that takes the selected pair away: a selected path and a state.
-abbrev pub events_of : {P : Type 0} → Call P → ℕ
-events_of (ReceivePacket now path bytes) = 2
-events_of (HandleTimeout now) = 5
-events_of (RestartIce creds keep) = 2
-events_of RecreateCandidatePairs = 1
-events_of (AddLocalCandidate c) = 2
-events_of (AddRemoteCandidate c) = 2
-events_of (InvalidateCandidate c) = 2
-events_of _ = 0
+-- start, two selected paths and two states. With `Modern` a candidate that takes the selected pair away: a selected path and a state.
+abbrev pub events_of : {P : Type 0} → (modern : Bool) → Call P → ℕ
+events_of modern (ReceivePacket now path bytes) = 2
+events_of modern (HandleTimeout now) = 5
+events_of modern (RestartIce creds keep) = 2
+events_of modern RecreateCandidatePairs = 1
+events_of modern (AddLocalCandidate c) = if modern then 2 else 0
+events_of modern (AddRemoteCandidate c) = if modern then 2 else 0
+events_of modern (InvalidateCandidate c) = if modern then 2 else 0
+events_of modern _ = 0
 
 -- `poll_event` returned None.
 abbrev pub finds_no_event : Answer → Bool
@@ -82,7 +82,7 @@ leaves_no_event _ answer = false
 abbrev pub most_events : {P : Type 0} → List (Logged P) → ℕ
 most_events [] = 0
 most_events (x ∷ before) =
-    (if is_taken x.entry.answer then events_of x.call else 0) + (if leaves_no_event x.call x.entry.answer then 0 else most_events before)
+    (if is_taken x.entry.answer then events_of (numbering_of before).1 x.call else 0) + (if leaves_no_event x.call x.entry.answer then 0 else most_events before)
 
 -- ---- what waits after a log
 

@@ -32,7 +32,8 @@ pub fn unaccepted_change_nothing<H: Sha1HmacProvider, P: LocalPreference>()
     ensures { UnacceptedChangeNothing H.mac P.answers }
 {}
 
-/// Packets and events are polled in the order in which they were issued, and an ICE restart leaves only its own events.
+/// Packets and events are polled in the order in which they were issued, and an ICE restart leaves only its own events. With `Modern`,
+/// `recreate_candidate_pairs` removes each `NominatedSend` that waits; with `Original` it removes nothing.
 pub fn queues_are_kept<H: Sha1HmacProvider, P: LocalPreference>()
     ensures { QueuesTheorem H.mac P.answers }
 {}

@@ -5,7 +5,7 @@ ghost use Rattle.is_theorems.specs.AskedCourses.{SuccessesSelect, AcceptedNomina
 ghost use Rattle.is_theorems.specs.AtOnce.{RequestsSelect, NominationsSelectAtOnce};
 ghost use Rattle.is_theorems.specs.AtOnceCourses.{CompletedNominationsAreSelected};
 ghost use Rattle.is_theorems.specs.GivingWay.{PathsAreReplaced};
-ghost use Rattle.is_theorems.specs.Polled.{WaitingAreSelected, WaitingAreAnswered, WaitingAreNominatedByPeer};
+ghost use Rattle.is_theorems.specs.Polled.{WaitingAreSelected, WaitingAreAnswered, WaitingAreNominatedByPeer, WaitingAreNominatedSince, SelectionsAreNominatedSince};
 ghost use Rattle.is_theorems.specs.Progress.{AnswersSelect, TimeoutsSelect};
 ghost use Rattle.is_theorems.specs.Runs.{SelectedAreAnswered, SelectedAreNominatedByPeer, PointsAreTop, TakersAreValid, AskedAreNominated};
 ghost use Rattle.is_theorems.specs.Shared.{SelectionsAreAnswered, SelectionsAreNominatedByPeer, SelectionsAreTop};
@@ -31,7 +31,8 @@ pub fn selections_are_top<H: Sha1HmacProvider, P: LocalPreference>()
     ensures { SelectionsAreTop H.mac P.answers }
 {}
 
-/// From a newly created agent: each `NominatedSend` that waits reports a path that a call selected since the last ICE restart.
+/// From a newly created agent: each `NominatedSend` that waits reports a path that a call selected since the last ICE restart, with `Modern`
+/// since the last clear.
 pub fn waiting_are_selected<H: Sha1HmacProvider, P: LocalPreference>()
     ensures { WaitingAreSelected H.mac P.answers }
 {}
@@ -44,6 +45,16 @@ pub fn waiting_are_answered<H: Sha1HmacProvider, P: LocalPreference>()
 /// If it is also controlled since the last ICE restart, the peer nominated the path.
 pub fn waiting_are_nominated_by_peer<H: Sha1HmacProvider, P: LocalPreference>()
     ensures { WaitingAreNominatedByPeer H.mac P.answers }
+{}
+
+/// If the profile was `Modern` at that restart, or there was none, the peer nominated the path since then: the restart left no early request.
+pub fn waiting_are_nominated_since<H: Sha1HmacProvider, P: LocalPreference>()
+    ensures { WaitingAreNominatedSince H.mac P.answers }
+{}
+
+/// So it did of each path that a call selects while the agent was controlled since the last clear.
+pub fn selections_are_nominated_since<H: Sha1HmacProvider, P: LocalPreference>()
+    ensures { SelectionsAreNominatedSince H.mac P.answers }
 {}
 
 /// From a newly created agent that is never lite, with one random source: each selected path got an authentic success response to a check
@@ -69,7 +80,7 @@ pub fn takers_are_valid<H: Sha1HmacProvider, P: LocalPreference>()
     ensures { TakersAreValid H.mac P.answers }
 {}
 
-/// If a request with USE-CANDIDATE gets a success response, and the agent is controlled, a pair on the response's path is
+/// If a request that nominates its pair gets a success response, and the agent is controlled, a pair on the response's path is
 /// nominated.
 pub fn asked_are_nominated<H: Sha1HmacProvider, P: LocalPreference>()
     ensures { AskedAreNominated H.mac P.answers }

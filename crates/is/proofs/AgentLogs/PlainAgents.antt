@@ -15,12 +15,9 @@ use Rattle.is_rules.specs.Effects.{lite_set_by}
 use Rattle.is_theorems.specs.Logs.{Logged, NeverLite, numbering_set_by, numbering_of, has_numbers, last_selected, AskedBy, NominatedByPeer}
 use Rattle.is_theorems.specs.Runs.{IsFresh, Run, Point, PathsAreAnswered, PathsAreNominatedByPeer, LastPathsAreTop, run_to}
 use Rattle.is_theorems.specs.Settings.{SettingsRecord, all_settings_of, SettingsAreSet}
-use Rattle.is_theorems.proofs.ExecutionLogs.SharedLogTheorems.{numbering_set}
+use Rattle.is_theorems.proofs.ExecutionLogs.SharedLogTheorems.{numbering-in, numbering_set}
 use Rattle.is.specs.Accepted.{PacketsAreSettled}
 use Rattle.is.specs.Headline.{LeavesPlain, StaysPlain, IsAsked, IsGreatestSelected, Headline}
-
-abbrev numbering-in : {P : Type 0} → SettingsRecord P → Bool × Bool
-numbering-in s = (s.settings.renomination, is_modern_profile s.settings.profile)
 
 module _ {P : Type 0} where
   -- ---- the log of a plain agent

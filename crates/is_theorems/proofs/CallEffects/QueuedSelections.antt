@@ -73,7 +73,7 @@ second-in None second path is = inl is
 pub no-such : {Z : Type 0} (path : Path) (e : IceAgentEvent) → is_other e ≡ true → e ≡ selecting path → Z
 no-such path e other is = let f : is_other e ≡ false = ap is_other is in let wrong_ : true ≡ false = sym other ∙ f in absurd (cc)
 
-has-last : (es : List IceAgentEvent) (e x : IceAgentEvent) → Has (es ++ e ∷ []) x → Has es x ⊎ (e ≡ x)
+pub has-last : (es : List IceAgentEvent) (e x : IceAgentEvent) → Has (es ++ e ∷ []) x → Has es x ⊎ (e ≡ x)
 has-last [] e x (inl is) = inr is
 has-last [] e x (inr none) = absurd none
 has-last (y ∷ es) e x (inl is) = inl (inl is)

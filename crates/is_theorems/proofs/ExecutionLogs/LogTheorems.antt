@@ -6,10 +6,10 @@ use Rattle.is_stun.specs.declared.header.Class.TheVariants as class
 use Rattle.is_stun.specs.Message.{Message}
 use Rattle.is_rules.specs.declared.emitted.Issued.{Issued}
 use Rattle.is_rules.specs.declared.emitted.Path.{Path}
-use Rattle.is_rules.specs.Request.{RequestRecord}
+use Rattle.is_rules.specs.Request.{RequestRecord, request_in}
 use Rattle.is_rules.specs.Steps.{Entry}
 use Rattle.is_rules.specs.Agent.{AgentRecord}
-use Rattle.is_rules.specs.Nominating.{is_eligible, numbers}
+use Rattle.is_rules.specs.Nominating.{is_eligible}
 use Rattle.is_rules.specs.Steps.{Call, ReceivePacket}
 use Rattle.is_rules.specs.Brought.{Brings, IsServing, IsNominatedOn}
 use Rattle.is_rules.specs.Owed.{Transaction, count, owed, reply_of, request_of}
@@ -21,7 +21,6 @@ use Rattle.is_theorems.specs.Shared.{IsNewlyCreated}
 use Rattle.is_theorems.proofs.ExecutionLogs.SharedLogTheorems as any
 use Rattle.is_theorems.proofs.ExecutionLogs.SharedLogTheorems.{Holds}
 use Rattle.is_theorems.proofs.BasicLemmas.MultisetInclusion.{among_by_counts}
-use Rattle.is_theorems.proofs.BasicLemmas.ServedPairs.{asks-taken}
 use Rattle.is_rules.specs.Serving.{nominates}
 
 count-append : (test : Transaction → Bool) (xs ys : List Transaction) → count test (xs ++ ys) ≡ count test xs + count test ys
@@ -36,14 +35,17 @@ module _ {H P : Type 0} (mac : H → List ℕ → List ℕ → List ℕ) (answer
   never_lite_to [] before x h = h
   never_lite_to (y ∷ rest) before x h = never_lite_to rest before x h.1
 
-  -- a path that the peer nominates is nominated
-  asking : (mid : AgentRecord H P) (call : Call P) (entry : Entry) (at : ℕ) (by : Path) (m : Message) → Brings call entry at by m → m.attributes.use_candidate ≡ true
-      → (m.attributes.nomination ≡ Some 0 → ⊥) → (q : RequestRecord) → IsServing mid call entry q → nominates mid q ≡ true
-  asking mid (ReceivePacket now path bytes) entry at by m brings uses numbered q (at2, by2, m2, brings2, request, known, is) =
+  -- the request that is served is the one that was received
+  asking : (mid : AgentRecord H P) (call : Call P) (entry : Entry) (at : ℕ) (by : Path) (m : Message) → Brings call entry at by m → nominates mid (request_in at by m) ≡ true
+      → (q : RequestRecord) → IsServing mid call entry q → nominates mid q ≡ true
+  asking mid (ReceivePacket now path bytes) entry at by m brings asks q (at2, by2, m2, brings2, request, known, is) =
+      let time : at2 ≡ at = sym brings2.0 ∙ brings.0 in
+      let way : by2 ≡ by = sym brings2.1 ∙ brings.1 in
       let same : m2 ≡ m = brings2.2.spelled ∙ sym brings.2.spelled in
-      asks-taken (numbers mid) q (ap (λ (y : RequestRecord). y.use_candidate) is ∙ (ap (λ (n : Message). n.attributes.use_candidate) same ∙ uses))
-      (λ zero. numbered (sym (ap (λ (n : Message). n.attributes.nomination) same) ∙ (sym (ap (λ (y : RequestRecord). y.nomination) is) ∙ zero)))
-  asking mid _ entry at by m brings uses numbered q serving = absurd brings
+      let equal : q ≡ request_in at by m =
+      is ∙ (ap (λ (t : ℕ). request_in t by2 m2) time ∙ (ap (λ (v : Path). request_in at v m2) way ∙ ap (λ (n : Message). request_in at by n) same)) in
+      subst (λ (y : RequestRecord). nominates mid y ≡ true) (sym equal) asks
+  asking mid _ entry at by m brings asks q serving = absurd brings
 
   module _ (first : AgentRecord H P) (s : Stream) (is_fresh : IsFresh first) where
     pub holds : (log : List (Logged P)) (last : AgentRecord H P) (t : Stream) → Run mac answers first s log last t → Holds mac answers law first.provider log last
@@ -72,11 +74,11 @@ module _ {H P : Type 0} (mac : H → List ℕ → List ℕ → List ℕ) (answer
       never_lite_before : NeverLite log → NeverLite (x ∷ before)
       never_lite_before never_lite = never_lite_to point.rest before x (subst (λ (l : List (Logged P)). NeverLite l) point.split never_lite)
 
-      nominated : (at : ℕ) (by : Path) (m : Message) (issued : Issued) → Brings x.call x.entry at by m → m.attributes.use_candidate ≡ true → (m.attributes.nomination ≡ Some 0 → ⊥)
+      nominated : (at : ℕ) (by : Path) (m : Message) (issued : Issued) → Brings x.call x.entry at by m → nominates mid (request_in at by m) ≡ true
           → x.entry.emitted.issued ≡ Some issued → issued.class ≡ class.Success → after.controlling ≡ false → IsNominatedOn after issued.path
-      nominated at by m issued brings uses numbered is success controlled =
+      nominated at by m issued brings asks is success controlled =
           let k = effect.replied issued is success in
-          subst (λ (i : Issued). IsNominatedOn after i.path) (sym k.2) (k.3 (asking mid x.call x.entry at by m brings uses numbered k.0 k.1) controlled)
+          subst (λ (i : Issued). IsNominatedOn after i.path) (sym k.2) (k.3 (asking mid x.call x.entry at by m brings asks k.0 k.1) controlled)
 
   -- ---- the theorems
 
@@ -105,8 +107,8 @@ module _ {H P : Type 0} (mac : H → List ℕ → List ℕ → List ℕ) (answer
       (effect first s is_fresh log before mid after x point).taken at by m brings success
 
   pub asked_are_nominated : AskedAreNominated {H = H} mac answers
-  asked_are_nominated first s log is_fresh before mid after x point at by m issued brings uses numbered is success controlled =
-      nominated first s is_fresh log before mid after x point at by m issued brings uses numbered is success controlled
+  asked_are_nominated first s log is_fresh before mid after x point at by m issued brings asks is success controlled =
+      nominated first s is_fresh log before mid after x point at by m issued brings asks is success controlled
 
   pub replies_among : RepliesAreAmong {H = H} mac answers
   replies_among first last s t log is_fresh run =

@@ -1,5 +1,5 @@
--- Events are appended, in the order in which they happen.
-use Rattle.std.proofs.Common.{is_some, ◌≡◌, ℕ, ◌==◌, Bool, true, false, List, [], ◌∷◌, ◌++◌, length, Option, Some, None, Result, Ok, Err, inl, inr, ◌⊎◌, refl, ap, sym, ◌∙◌, subst, append_assoc, if◌then◌else◌, not}
+-- Events are appended, in the order in which they happen. What mutants/specifications changes is read by tactics.
+use Rattle.std.proofs.Common.{is_some, ◌≡◌, ℕ, ◌==◌, Bool, true, false, List, [], ◌∷◌, ◌++◌, length, Option, Some, None, Result, Ok, Err, inl, inr, refl, ap, sym, ◌∙◌, subst, append_assoc, if◌then◌else◌, not}
 use Rattle.std.specs.Prelude.{MatchBool, MatchOption, ◌&&◌}
 use Rattle.std.specs.List.{list_any}
 use Rattle.std.proofs.lemmas.List.{append-nil}
@@ -9,10 +9,13 @@ use Rattle.is_proto.specs.declared.error.IceError.{IceError}
 use Rattle.is_candidate.specs.Candidates.{CandidateRecord, candidate_at}
 use Rattle.is_pair.specs.Pairs.{PairRecord}
 use Rattle.is_stun.specs.Message.{Message}
-use Rattle.is_stun.specs.Timing.{is_modern}
+use Rattle.is_stun.specs.Timing.{is_modern_profile}
+use Rattle.is_stun.specs.declared.timing.Profile.{Profile}
+use Rattle.is_stun.specs.declared.timing.Profile.TheVariants.{Original, Modern}
 use Rattle.is_stun.specs.declared.header.Class.{Class}
 use Rattle.is_stun.specs.declared.header.Class.TheVariants as class
 use Rattle.is_rules.specs.declared.credentials.IceCreds.{IceCreds}
+use Rattle.is_rules.specs.declared.event.IceAgentEvent.{IceAgentEvent}
 use Rattle.is_rules.specs.declared.event.IceAgentEvent.TheVariants.{IceRestart, IceConnectionStateChange}
 use Rattle.is_rules.specs.declared.event.IceConnectionState.{IceConnectionState}
 use Rattle.is_rules.specs.declared.event.IceConnectionState.TheVariants.{New, Checking}
@@ -34,7 +37,7 @@ use Rattle.is_rules.specs.Settings.{with_retransmits, with_rtos, numbers_skipped
 use Rattle.is_rules.specs.Discarding.{InvalidatesAt, local_to_discard, remote_to_discard, local_discarded}
 use Rattle.is_rules.specs.Local.{AddsLocal, appended, enabled_again}
 use Rattle.is_rules.specs.Remote.{AddsRemote, as_remote, with_remote}
-use Rattle.is_rules.specs.Restarting.{events_kept, restarted, emptied, unpaired}
+use Rattle.is_rules.specs.Restarting.{events_kept, restarted}
 use Rattle.is_rules.specs.States.{same_state, with_state, evaluated}
 use Rattle.is_rules.specs.Nominating.{with_selection, nominated_emitted, Nominates, NominatesWhere}
 use Rattle.is_rules.specs.Serving.{trigger_time, selects_at_requests, pair_served, request_counted, with_sender, with_sender_at, is_misled, names_another, RecordsAndResponds, FindsOrAddsPair, AddsUnknownSender, CountsAndServes, ResolvesRoleConflictBy, ResolvesRoleConflict, Drops, Serves}
@@ -44,8 +47,8 @@ use Rattle.is_rules.specs.Accepting.{Takes, discovered_emitted, is_passed_over, 
 use Rattle.is_rules.specs.Checking.{all_asked, MayCheck, ChecksTop}
 use Rattle.is_rules.specs.Settling.{settled, loses_selected, Reselects}
 use Rattle.is_rules.specs.Timeouts.{at_request, timeout_begun, start_emitted, at_timeout, is_expired, expired_gone, RemovesExpired, MaintainsPairs, ServesQueued, TimesOut}
-use Rattle.is_rules.specs.Steps.{Call, SetMtu, SetControlTieBreaker, SetMaxCandidatePairs, SetMaxDiscovered, SetIceLite, SetRenomination, SetConsent, SetProfile, SetTimingAdvance, SetInitialStunRto, SetMaxStunRto, SetMaxStunRetransmits, SetLiteTimeout, SetLocalPreference, SetControlling, SetLocalCredentials, SetRemoteCredentials, SkipPairIds, AddLocalCandidate, AddRemoteCandidate, InvalidateCandidate, RestartIce, RecreateCandidatePairs, ReceivePacket, HandleTimeout, PollTransmit, PollTimeout, PollEvent, Done, NotCalled, Entry, quiet, Becomes, Receives, Step}
-use Rattle.is_theorems.specs.Reporting.{Extends, Begins, Reports, QueuesTheorem}
+use Rattle.is_rules.specs.Steps.{Call, SetMtu, SetControlTieBreaker, SetMaxCandidatePairs, SetMaxDiscovered, SetIceLite, SetRenomination, SetConsent, SetProfile, SetTimingAdvance, SetInitialStunRto, SetMaxStunRto, SetMaxStunRetransmits, SetLiteTimeout, SetLocalPreference, SetControlling, SetLocalCredentials, SetRemoteCredentials, SkipPairIds, AddLocalCandidate, AddRemoteCandidate, InvalidateCandidate, RestartIce, RecreateCandidatePairs, ReceivePacket, HandleTimeout, PollTransmit, PollTimeout, PollEvent, Done, Rejected, NotCalled, Entry, quiet, Becomes, Receives, Step}
+use Rattle.is_theorems.specs.Reporting.{Extends, Begins, FormsAgain, Reports, QueuesTheorem}
 use Rattle.is_theorems.proofs.RuleEffects.Reselection.{by-reselecting}
 use Rattle.is_theorems.proofs.RuleEffects.UnchangedSettings.{either}
 use Rattle.is_theorems.proofs.CallEffects.FailedCallsAndNewAgents.{mtu_kept, controlling_kept, local_kept, remote_kept, restart_kept, recreation_kept, enrolment_kept, storing_kept}
@@ -69,6 +72,20 @@ one_where false old x = kept old old refl
 
 twice : {X : Type 0} (a b c : List X) → Extends a b → Extends b c → Extends a c
 twice a b c (more, is) (further, after) = (more ++ further, after ∙ (ap (λ xs. xs ++ further) is ∙ append_assoc a more further))
+
+-- ---- pairs that are formed again
+
+formed_again : (same : Bool) (profile : Profile) (old new : List IceAgentEvent)
+    → new ≡ (if same then events_kept (is_modern_profile profile) old else events_kept (is_modern_profile profile) old ++ IceConnectionStateChange Checking ∷ [])
+    → FormsAgain profile Done old new
+formed_again true Modern old new is = inl (search is)
+formed_again false Modern old new is = inr (search is)
+formed_again true Original old new is = search (kept old new is)
+formed_again false Original old new is = (IceConnectionStateChange Checking ∷ [], search is)
+
+formed_never : (profile : Profile) (error : IceError) (old new : List IceAgentEvent) → new ≡ old → FormsAgain profile (Rejected error) old new
+formed_never Modern error old new is = search is
+formed_never Original error old new is = search (kept old new is)
 
 module _ {H P : Type 0} where
   -- events are appended
@@ -277,7 +294,7 @@ module _ {H P : Type 0} where
     selects : (mid : AgentRecord H P) (path : Option Path) → Reselects (loses_selected old mid) mid path new → Grows old mid → Grows old new
     selects mid path h k = both old mid new k (reselects_grows (loses_selected old mid) mid new path h)
 
-    reports : (call : Call P) → Step mac answers old s call e new t → Reports call e old.events new.events
+    reports : (call : Call P) → Step mac answers old s call e new t → Reports old.timing.profile call e old.events new.events
     reports (SetMtu target warn) (Ok _, is, h, drawn) = same_events old new (ap (λ (a : AgentRecord H P). a.events) h.1)
     reports (SetMtu target warn) (Err error, is, h, drawn) = stays old new (mtu_kept old new target warn error h)
     reports (SetControlTieBreaker tie) h = becomes _ refl h
@@ -315,11 +332,11 @@ module _ {H P : Type 0} where
     reports (RestartIce creds keep) (Err error, is, h, drawn) =
         subst (λ (x : Entry). Begins x.answer creds old.events new.events) (sym is) (ap (λ (a : AgentRecord H P). a.events) (restart_kept old new creds keep error h))
     reports RecreateCandidatePairs (Ok _, is, h, drawn) =
-        recreates (is_modern old.timing) (both (unpaired old) (emptied old) new (state_grows Checking (unpaired old)) (forms_grows (emptied old) new _ h.1)) where
-          recreates : (modern : Bool) → Extends (events_kept modern old.events) new.events → Extends old.events new.events ⊎ Extends (events_kept true old.events) new.events
-          recreates true more = inr more
-          recreates false more = inl more
-    reports RecreateCandidatePairs (Err error, is, h, drawn) = inl (stays old new (recreation_kept old new error h))
+        subst (λ (x : Entry). FormsAgain old.timing.profile x.answer old.events new.events) (sym is)
+        (formed_again (same_state old.state Checking) old.timing.profile old.events new.events (ap (λ (a : AgentRecord H P). a.events) h.1.2))
+    reports RecreateCandidatePairs (Err error, is, h, drawn) =
+        subst (λ (x : Entry). FormsAgain old.timing.profile x.answer old.events new.events) (sym is)
+        (formed_never old.timing.profile error old.events new.events (ap (λ (a : AgentRecord H P). a.events) (recreation_kept old new error h)))
     reports (ReceivePacket now via bytes) (h, drawn) = receives now via bytes h
     reports (HandleTimeout now) (r, emitted, is, h) = times_out_grows mac now old new s t r emitted h
     reports PollTransmit (given, is, (polled, made), drawn) = same_events old new (ap (λ (a : AgentRecord H P). a.events) made)

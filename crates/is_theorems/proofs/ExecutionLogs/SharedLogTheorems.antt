@@ -31,12 +31,12 @@ emitted_apart : {A : Type 0} (b : Bool) → (b ≡ true → A) → (b ≡ false 
 emitted_apart true f g = f refl
 emitted_apart false f g = g refl
 
-true_false : {A : Type 0} (b : Bool) → b ≡ true → b ≡ false → A
+pub true_false : {A : Type 0} (b : Bool) → b ≡ true → b ≡ false → A
 true_false b h k = let wrong : true ≡ false = sym h ∙ k in absurd (cc)
 
 -- ---- whether nominations have numbers, by the calls
 
-abbrev numbering-in : {P : Type 0} → SettingsRecord P → Bool × Bool
+abbrev pub numbering-in : {P : Type 0} → SettingsRecord P → Bool × Bool
 numbering-in s = (s.settings.renomination, is_modern_profile s.settings.profile)
 
 pub numbering_set : {P : Type 0} (call : Call P) (answer : Answer) (s : SettingsRecord P)
@@ -68,7 +68,7 @@ module _ {H P : Type 0} where
         based = s.based;
       })
 
-  numbering-next : (call : Call P) (answer : Answer) (old new : AgentRecord H P) → all_settings_of new ≡ settings_after call answer (all_settings_of old)
+  pub numbering-next : (call : Call P) (answer : Answer) (old new : AgentRecord H P) → all_settings_of new ≡ settings_after call answer (all_settings_of old)
       → (new.renominates, is_modern new.timing) ≡ numbering_set_by call (old.renominates, is_modern old.timing)
   numbering-next call answer old new is = ap (λ (s : SettingsRecord P). numbering-in s) is ∙ numbering_set call answer (all_settings_of old)
 
@@ -157,7 +157,7 @@ module _ {H P : Type 0} (mac : H → List ℕ → List ℕ → List ℕ) (answer
 
   -- ---- executions
 
-  no_paths : (path : Path) → Has (None ∷ None ∷ []) (Some path) → ⊥
+  pub no_paths : (path : Path) → Has (None ∷ None ∷ []) (Some path) → ⊥
   no_paths path (inl is) = let no : None ≡ Some path = is in cc
   no_paths path (inr (inl is)) = let no : None ≡ Some path = is in cc
   no_paths path (inr (inr h)) = absurd h
@@ -170,7 +170,7 @@ module _ {H P : Type 0} (mac : H → List ℕ → List ℕ → List ℕ) (answer
         let k = law mid last s t x.call x.entry h.sound based step in
         holds_next first.provider x before mid last h k.0 (settings-are-set mac answers mid last s t x.call x.entry step) k.1
 
-    now_controlled : (log : List (Logged P)) (a : AgentRecord H P) (r : SharedRun mac answers first log a) → IsControlledSince mac answers first log a r → a.controlling ≡ false
+    pub now_controlled : (log : List (Logged P)) (a : AgentRecord H P) (r : SharedRun mac answers first log a) → IsControlledSince mac answers first log a r → a.controlling ≡ false
     now_controlled [] a r c = c
     now_controlled (y ∷ ys) a r c = c.0
 

@@ -10,6 +10,7 @@ use Rattle.is_candidate.specs.Candidates.{CandidateRecord}
 use Rattle.is_stun.specs.declared.header.Class.{Class}
 use Rattle.is_stun.specs.declared.header.Class.TheVariants as class
 use Rattle.is_stun.specs.Message.{Message}
+use Rattle.is_stun.specs.Timing.{is_modern}
 use Rattle.is_rules.specs.declared.credentials.IceCreds.{IceCreds}
 use Rattle.is_rules.specs.declared.emitted.Emitted.{Emitted}
 use Rattle.is_rules.specs.declared.emitted.Path.{Path}
@@ -35,7 +36,9 @@ use Rattle.is_rules.specs.Settling.{loses_selected, Reselects}
 use Rattle.is_rules.specs.Steps.{Call, SetMtu, SetControlTieBreaker, SetMaxCandidatePairs, SetMaxDiscovered, SetIceLite, SetRenomination, SetConsent, SetProfile, SetTimingAdvance, SetInitialStunRto, SetMaxStunRto, SetMaxStunRetransmits, SetLiteTimeout, SetLocalPreference, SetControlling, SetLocalCredentials, SetRemoteCredentials, SkipPairIds, AddLocalCandidate, AddRemoteCandidate, InvalidateCandidate, RestartIce, RecreateCandidatePairs, ReceivePacket, HandleTimeout, PollTransmit, PollTimeout, PollEvent, Answer, Flag, Entry, Receives, Step, MayDo, Polled, Happened, answer_by, added, done, quiet}
 use Rattle.is_rules.specs.Timeouts.{at_request, MaintainsPairs, TimesOut, timeout_begun}
 use Rattle.is_theorems.proofs.CallEffects.AddedCandidates.{by_adding_local, by_adding_remote, by_waking}
-use Rattle.is_theorems.proofs.RuleEffects.Reselection.{reselects-none}
+use Rattle.is_theorems.proofs.RuleEffects.Reselection.{reselects-none, reselects-original}
+use Rattle.is_theorems.proofs.CallEffects.PathAndTradeEffects.{path_theorem}
+use Rattle.is_theorems.proofs.ExecutionLogs.SharedLogTheorems as shared
 use Rattle.is_theorems.proofs.RuleEffects.UnchangedSettings.{either}
 use Rattle.is_theorems.proofs.CallEffects.FailedCallsAndNewAgents.{mtu_kept, controlling_kept, local_kept, remote_kept, restart_kept, recreation_kept, enrolment_kept, storing_kept}
 use Rattle.is_theorems.specs.Limited.{DiscoveriesStayFew}
@@ -135,7 +138,7 @@ module _ {H P : Type 0} where
     }
 
     received : (now : ℕ) (old new : AgentRecord H P) (via : Path) (bytes : List ℕ) (e : Entry) → Receives mac answers now old via bytes e new
-        → Receiving (packets_of {P = P} (ReceivePacket now via bytes)) (events_of {P = P} (ReceivePacket now via bytes)) e old new
+        → Receiving (packets_of {P = P} (ReceivePacket now via bytes)) (events_of {P = P} (is_modern old.timing) (ReceivePacket now via bytes)) e old new
     received now old new via bytes e (inl (fault, has, is, made)) = unmoved _ _ e old new made
     received now old new via bytes e (inr (m, reads, (Ok false, emitted, is, (rejected, none, made)))) = unmoved _ _ e old new made
     received now old new via bytes e (inr (m, reads, (Err error, emitted, is, (may, none, made)))) = unmoved _ _ e old new made
@@ -143,9 +146,9 @@ module _ {H P : Type 0} where
         let g : Adds 1 2 old mid = class_adds m.class now old mid via m emitted takes in
         let d : Discovers mid (discovered_emitted m.class emitted via mid) = discovers m.class emitted via mid in
         let one : 1 ≤ packets_of {P = P} (ReceivePacket now via bytes) = omega arith in
-        let two : 2 ≤ events_of {P = P} (ReceivePacket now via bytes) = omega arith in
-        subst (λ (a : AgentRecord H P). Receiving (packets_of {P = P} (ReceivePacket now via bytes)) (events_of {P = P} (ReceivePacket now via bytes)) e old a) (sym made) (record {
-          waits = λ i j w. subst (λ (b : Bool). Waits (after b (packets_of {P = P} (ReceivePacket now via bytes)) false i) (after b (events_of {P = P} (ReceivePacket now via bytes)) false j) (lines_of (discovered_emitted m.class emitted via mid)))
+        let two : 2 ≤ events_of {P = P} (is_modern old.timing) (ReceivePacket now via bytes) = omega arith in
+        subst (λ (a : AgentRecord H P). Receiving (packets_of {P = P} (ReceivePacket now via bytes)) (events_of {P = P} (is_modern old.timing) (ReceivePacket now via bytes)) e old a) (sym made) (record {
+          waits = λ i j w. subst (λ (b : Bool). Waits (after b (packets_of {P = P} (ReceivePacket now via bytes)) false i) (after b (events_of {P = P} (is_modern old.timing) (ReceivePacket now via bytes)) false j) (lines_of (discovered_emitted m.class emitted via mid)))
               (sym (ap (λ (x : Entry). is_taken x.answer) is)) (
               let a1 = g.packets in let a2 = g.others in let b1 = d.packets in let b2 = d.others in let c1 = w.packets in let c2 = w.others in
               record { packets = omega (arith, one, a1, b1, c1); others = omega (arith, two, a2, b2, c2) });
@@ -196,7 +199,7 @@ module _ {H P : Type 0} where
       abbrev Moves : Call P → Type 0
       Moves call =
           ((m n : ℕ) → Waits m n (lines_of old)
-          → Waits (after (is_taken e.answer) (packets_of call) (leaves_no_packet call e.answer) m) (after (is_taken e.answer) (events_of call) (leaves_no_event call e.answer) n) (lines_of new))
+          → Waits (after (is_taken e.answer) (packets_of call) (leaves_no_packet call e.answer) m) (after (is_taken e.answer) (events_of (is_modern old.timing) call) (leaves_no_event call e.answer) n) (lines_of new))
           × ((limit : ℕ) → (may_serve call ≡ true → IsWithin limit old.max_discovered) → Holds limit old new)
 
       -- a call that neither fills nor empties a queue
@@ -216,19 +219,34 @@ module _ {H P : Type 0} where
       may Does done failed (Err error, is, h, drawn) = kept old new (failed error h)
 
       -- a candidate that takes the selected pair away, or leaves all
-      selects : {X : ℕ → Type 0} (mid : AgentRecord H P) (path : Option Path) → Reselects (loses_selected old mid) mid path new → Adds 0 0 old mid
+      reselecting : {X : ℕ → Type 0} (mid : AgentRecord H P) (path : Option Path) → Reselects (loses_selected old mid) mid path new → Adds 0 0 old mid
           → (is_taken e.answer ≡ true) ⊎ (mid ≡ old)
           → ((m n : ℕ) → Waits m n (lines_of old) → Waits (after (is_taken e.answer) 0 false m) (after (is_taken e.answer) 2 false n) (lines_of new))
           × ((limit : ℕ) → X limit → Holds limit old new)
-      selects mid path h adds (inl goes) =
+      reselecting mid path h adds (inl goes) =
           let g : Adds 0 2 old new = more 0 0 0 2 old mid new adds (reselects_adds (loses_selected old mid) mid new path h) in (
             λ m n w. subst (λ (b : Bool). Waits (after b 0 false m) (after b 2 false n) (lines_of new)) (sym goes)
                 (grown 0 2 0 2 m n (lines_of old) (lines_of new) (omega arith) (omega arith) g w),
             λ limit limited. holds limit 0 2 old new g,
           )
-      selects mid path h adds (inr same) =
+      reselecting mid path h adds (inr same) =
           let g : Adds 0 0 old new = kept old new ((reselects-none old mid new path same h).1 ∙ same) in
           (λ m n w. rests g (if is_taken e.answer then 0 else 0) (if is_taken e.answer then 2 else 0) m n w, λ limit limited. holds limit 0 0 old new g)
+
+      -- with `Original` it takes no selected pair away
+      selects : {X : ℕ → Type 0} (mid : AgentRecord H P) (path : Option Path) → Reselects (loses_selected old mid) mid path new → Adds 0 0 old mid
+          → (is_taken e.answer ≡ true) ⊎ (mid ≡ old)
+          → ((m n : ℕ) → Waits m n (lines_of old)
+          → Waits (after (is_taken e.answer) 0 false m) (after (is_taken e.answer) (if is_modern old.timing then 2 else 0) false n) (lines_of new))
+          × ((limit : ℕ) → X limit → Holds limit old new)
+      selects {X = X} mid path h adds which = by (is_modern old.timing) refl where
+        by : (b : Bool) → is_modern old.timing ≡ b
+            → ((m n : ℕ) → Waits m n (lines_of old) → Waits (after (is_taken e.answer) 0 false m) (after (is_taken e.answer) (if b then 2 else 0) false n) (lines_of new))
+            × ((limit : ℕ) → X limit → Holds limit old new)
+        by true rule = reselecting mid path h adds which
+        by false rule =
+            let g : Adds 0 0 old new = subst (λ (a : AgentRecord H P). Adds 0 0 old a) (sym (reselects-original old mid new path rule h).1) adds in
+            (λ m n w. rests g (if is_taken e.answer then 0 else 0) (if is_taken e.answer then 0 else 0) m n w, λ limit limited. holds limit 0 0 old new g)
 
       taken : (answer : Answer) (emitted : Emitted) (mid : AgentRecord H P) → e ≡ record { answer = answer; emitted = emitted }
           → (is_taken answer ≡ true) ⊎ (mid ≡ old)
@@ -240,13 +258,13 @@ module _ {H P : Type 0} where
       restarts : (creds : IceCreds) (keep : Bool) → MayDo (Restarts old creds keep) s e new t → Moves (RestartIce creds keep)
       restarts creds keep (Err error, is, h, drawn) =
           let g : Adds 0 0 old new = kept old new (restart_kept old new creds keep error h) in (
-            λ m n w. subst (λ (x : Entry). Waits (after (is_taken x.answer) 0 (leaves_no_packet {P = P} (RestartIce creds keep) x.answer) m) (after (is_taken x.answer) (events_of {P = P} (RestartIce creds keep)) (leaves_no_event {P = P} (RestartIce creds keep) x.answer) n) (lines_of new))
+            λ m n w. subst (λ (x : Entry). Waits (after (is_taken x.answer) 0 (leaves_no_packet {P = P} (RestartIce creds keep) x.answer) m) (after (is_taken x.answer) (events_of {P = P} (is_modern old.timing) (RestartIce creds keep)) (leaves_no_event {P = P} (RestartIce creds keep) x.answer) n) (lines_of new))
                 (sym is) (rests g 0 0 m n w),
             λ limit limited. holds limit 0 0 old new g,
           )
       restarts creds keep (Ok _, is, (fits, made), drawn) =
           let g = state_adds Checking (record (cleared creds keep old) { events = (cleared creds keep old).events ++ IceRestart creds ∷ [] }) in (
-            λ m n w. subst (λ (x : Entry). Waits (after (is_taken x.answer) 0 (leaves_no_packet {P = P} (RestartIce creds keep) x.answer) m) (after (is_taken x.answer) (events_of {P = P} (RestartIce creds keep)) (leaves_no_event {P = P} (RestartIce creds keep) x.answer) n) (lines_of new))
+            λ m n w. subst (λ (x : Entry). Waits (after (is_taken x.answer) 0 (leaves_no_packet {P = P} (RestartIce creds keep) x.answer) m) (after (is_taken x.answer) (events_of {P = P} (is_modern old.timing) (RestartIce creds keep)) (leaves_no_event {P = P} (RestartIce creds keep) x.answer) n) (lines_of new))
                 (sym is) (subst (λ (a : AgentRecord H P). Waits 0 2 (lines_of a)) (sym made)
                 (let b = g.others in let one : other_count (IceRestart creds ∷ []) ≡ 1 = refl in record { packets = omega arith; others = omega (arith, b, one) })),
             λ limit limited was. subst (λ (a : AgentRecord H P). discovery_count a.events ≤ limit) (sym made)
@@ -256,23 +274,23 @@ module _ {H P : Type 0} where
       recreates : MayDo (Recreates old) s e new t → Moves RecreateCandidatePairs
       recreates (Err error, is, h, drawn) =
           let g : Adds 0 0 old new = kept old new (recreation_kept old new error h) in
-          (λ m n w. rests g (if is_taken e.answer then 0 else 0) (if is_taken e.answer then events_of {P = P} RecreateCandidatePairs else 0) m n w, λ limit limited. holds limit 0 0 old new g)
+          (λ m n w. rests g (if is_taken e.answer then 0 else 0) (if is_taken e.answer then events_of {P = P} (is_modern old.timing) RecreateCandidatePairs else 0) m n w, λ limit limited. holds limit 0 0 old new g)
       recreates (Ok _, is, (enough, f), drawn) =
           let g : Adds 0 1 old new = more 0 0 0 1 old (unpaired old) new (unpaired_adds old)
           (more 0 1 0 0 (unpaired old) (emptied old) new (state_adds Checking (unpaired old)) (forms_adds (emptied old) new _ f)) in (
-            λ m n w. subst (λ (x : Entry). Waits (after (is_taken x.answer) 0 false m) (after (is_taken x.answer) (events_of {P = P} RecreateCandidatePairs) false n) (lines_of new)) (sym is)
-                (grown 0 1 0 (events_of {P = P} RecreateCandidatePairs) m n (lines_of old) (lines_of new) (omega arith) (omega arith) g w),
+            λ m n w. subst (λ (x : Entry). Waits (after (is_taken x.answer) 0 false m) (after (is_taken x.answer) (events_of {P = P} (is_modern old.timing) RecreateCandidatePairs) false n) (lines_of new)) (sym is)
+                (grown 0 1 0 (events_of {P = P} (is_modern old.timing) RecreateCandidatePairs) m n (lines_of old) (lines_of new) (omega arith) (omega arith) g w),
             λ limit limited. holds limit 0 1 old new g,
           )
 
       times_out : (now : ℕ) (r : Result (Unit {0}) IceError) (emitted : Emitted) → TimesOut mac now old s r emitted new t → is_taken e.answer ≡ is_taken (answer_by done r) → Moves (HandleTimeout now)
       times_out now (Err error) emitted (may, none, made, drawn) taken =
           let g : Adds 0 0 old new = kept old new made in
-          (λ m n w. rests g (if is_taken e.answer then packets_of {P = P} (HandleTimeout now) else 0) (if is_taken e.answer then events_of {P = P} (HandleTimeout now) else 0) m n w, λ limit limited. holds limit 0 0 old new g)
+          (λ m n w. rests g (if is_taken e.answer then packets_of {P = P} (HandleTimeout now) else 0) (if is_taken e.answer then events_of {P = P} (is_modern old.timing) (HandleTimeout now) else 0) m n w, λ limit limited. holds limit 0 0 old new g)
       times_out now (Ok _) emitted h taken =
           let g : Adds 1 5 old new = by (request_at now old) h in (
-            λ m n w. subst (λ (b : Bool). Waits (after b (packets_of {P = P} (HandleTimeout now)) false m) (after b (events_of {P = P} (HandleTimeout now)) false n) (lines_of new)) (sym taken)
-                (grown 1 5 (packets_of {P = P} (HandleTimeout now)) (events_of {P = P} (HandleTimeout now)) m n (lines_of old) (lines_of new) (omega arith) (omega arith) g w),
+            λ m n w. subst (λ (b : Bool). Waits (after b (packets_of {P = P} (HandleTimeout now)) false m) (after b (events_of {P = P} (is_modern old.timing) (HandleTimeout now)) false n) (lines_of new)) (sym taken)
+                (grown 1 5 (packets_of {P = P} (HandleTimeout now)) (events_of {P = P} (is_modern old.timing) (HandleTimeout now)) m n (lines_of old) (lines_of new) (omega arith) (omega arith) g w),
             λ limit limited. holds limit 1 5 old new g,
           ) where
             by : (q : Option RequestRecord) → MatchOption q (MaintainsPairs mac now (timeout_begun now old) s emitted new t) (λ q. Serves mac q (first_taken (at_request now (timeout_begun now old))) emitted new × (t ≡ s)) → Adds 1 5 old new
@@ -372,7 +390,9 @@ module _ {H P : Type 0} where
     waited first last [] (creds, tie, role, is) run =
         subst (λ (a : AgentRecord H P). Waits 0 0 (lines_of a)) (sym (run ∙ is)) (record { packets = omega arith; others = omega arith })
     waited first last (x ∷ before) new (mid, s, t, run, based, step) =
-        (moves mid last s t x.entry x.call step).0 (most_packets before) (most_events before) (waited first mid before new run)
+        subst (λ (b : Bool). Waits (most_packets (x ∷ before)) (after (is_taken x.entry.answer) (events_of b x.call) (leaves_no_event x.call x.entry.answer) (most_events before)) (lines_of last))
+        (ap (λ (set : Bool × Bool). set.1) (shared.holds mac answers (path_theorem mac answers) first new before mid run).numbering_is)
+        ((moves mid last s t x.entry x.call step).0 (most_packets before) (most_events before) (waited first mid before new run))
 
     pub queues_are_short : QueuesAreShort {H = H} mac answers
     queues_are_short first last log new run =

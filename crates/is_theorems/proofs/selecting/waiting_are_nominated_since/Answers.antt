@@ -1,0 +1,6 @@
+use Rattle.is_theorems.proofs.CallEffects.PathAndTradeEffects.{path_theorem}
+use Rattle.is_theorems.proofs.ExecutionLogs.PolledSelections.{waiting_are_nominated_since}
+use Rattle.is_theorems.proofs.selecting.waiting_are_nominated_since.Goals as goal
+
+pub returns : goal.returns
+returns g c = waiting_are_nominated_since _ _ (path_theorem _ _)
