@@ -43,7 +43,7 @@ pub fn name_own(agent: &mut Agent, alloc: Global, ufrag: &str, pass: &str) -> Ou
 }
 
 pub fn lead(agent: &mut Agent) -> Outcome {
-    agent.set_controlling(true)?;
+    agent.set_controlling(true);
     Ok("ok")
 }
 

@@ -115,7 +115,7 @@ fn make_lite(agent: &mut Agent) -> &'static str {
 fn on_kept(agent: &mut Agent, step: Step, kept: &Option<Candidate>) -> Outcome {
     match (kept, step) {
         (Some(candidate), Step::CopyPair) => calls::copy_pair(agent, candidate),
-        (Some(candidate), _) => Ok(calls::truth(agent.invalidate_candidate(candidate)?)),
+        (Some(candidate), _) => Ok(calls::truth(agent.invalidate_candidate(candidate))),
         (None, _) => Ok("no candidate"),
     }
 }

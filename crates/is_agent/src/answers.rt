@@ -12,13 +12,14 @@ ghost use Rattle.is_stun.specs.Integrity.{IsSignedBy};
 ghost use Rattle.is_stun.specs.MessageView.{message_view};
 ghost use Rattle.is_rules.specs.Emitted.{nothing_emitted};
 ghost use Rattle.is_agent.specs.View.{record_of};
-ghost use Rattle.is_agent.specs.Room.{HasEventRoom, HasNewsRoom, UsesNews};
+ghost use Rattle.is_agent.specs.Room.{HasEventRoom, HasCandidateRoom, HasNewsRoom, UsesNews};
 ghost use Rattle.is_rules.specs.Due.{KeepsCheckOn, IsRecorded, IsSentUnder};
 ghost use Rattle.is_rules.specs.Accepting.{IsAwaited};
 ghost use Rattle.is_rules.specs.Answers.{is_left_out, is_role_conflict, keeps_check_on, joined_by, local_with, mapped_candidate};
 ghost use Rattle.is_rules.specs.Answers.{error_noted, success_counted, Concludes, LeavesRole, TakesSuccess, TakesFailure};
 
 use crate::agent::{Agent, sides};
+use crate::room::reserve_events;
 use is_candidate::candidate::making::peer_reflexive;
 use is_candidate::{Candidate, LocalPreference};
 use is_proto::{Instant, Sha1HmacProvider, reserve_one};
@@ -127,11 +128,13 @@ impl<H: Sha1HmacProvider + Drop, P: LocalPreference> Agent<H, P> {
     fn take_success_room(&mut self) -> Result<(), AllocError>
         ensures record { record_of self.new ≡ record_of self.old }
         ensures local { OnOk result (vec_len self.new.local < vec_capacity self.new.local) }
+        ensures candidate { OnOk result (HasCandidateRoom self.new) }
         ensures news { OnOk result (HasNewsRoom 3 self.new) }
     {
+        self.keep_room()?;
         reserve_one(&mut self.local)?;
         reserve_one(&mut self.discovered_sources)?;
-        self.events.reserve(3)?;
+        reserve_events(&mut self.events, self.kept_room, 3)?;
         Ok(())
     }
 
@@ -140,6 +143,7 @@ impl<H: Sha1HmacProvider + Drop, P: LocalPreference> Agent<H, P> {
         requires kept { keeps id.0 number (record_of self.old).pairs ≡ true }
         requires low { IfSome mapped (λ c. candidate_priority c < TOO_HIGH) }
         requires local { vec_len self.old.local < vec_capacity self.old.local }
+        requires candidate { HasCandidateRoom self.old }
         ensures records { IsRecorded number now.0 id.0 (joined_by mapped self.old.local.items) (record_of self.old) (record_of self.new) }
         ensures news { UsesNews 0 self.old self.new }
     {

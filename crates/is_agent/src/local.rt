@@ -99,6 +99,7 @@ impl<H: Sha1HmacProvider + Drop, P: LocalPreference> Agent<H, P> {
         ensures room { OnOk result (HasLocalRoom pairs self.new) }
         ensures selection { OnOk result (HasSelectionRoom (record_of self.old) self.new) }
     {
+        self.keep_room()?;
         self.take_selection_room()?;
         self.pairs.reserve(pairs)?;
         reserve_one(&mut self.local)?;

@@ -92,6 +92,7 @@ impl<H: Sha1HmacProvider + Drop, P: LocalPreference> Agent<H, P> {
         ensures selection { OnOk result (HasSelectionRoom (record_of self.old) self.new) }
         ensures rejected { IsOkUnless result IceError.OutOfMemory }
     {
+        self.keep_room()?;
         self.take_selection_room()?;
         self.pairs.reserve(pairs)?;
         reserve_one(&mut self.remote)?;

@@ -9,6 +9,7 @@ ghost use Rattle.is_agent.specs.View.{record_of};
 ghost use Rattle.is_rules.specs.Restarting.{kept_local, restarted, unpaired, Restarts, HasNumbersForAll, Recreates};
 
 use crate::agent::Agent;
+use crate::room::reserve_events;
 use is_candidate::{Candidate, LocalPreference};
 use is_proto::{HmacKey, IceError, Sha1HmacProvider};
 use is_rules::credentials::{IceCreds, are_too_long};
@@ -41,7 +42,7 @@ impl<H: Sha1HmacProvider + Drop, P: LocalPreference> Agent<H, P> {
         ensures record { record_of self.new ≡ record_of self.old }
         ensures room { OnOk result (HasEventRoom events self.new) }
     {
-        self.events.reserve(events)
+        reserve_events(&mut self.events, self.kept_room, events)
     }
 
     /// Restarts the session.
@@ -120,7 +121,7 @@ impl<H: Sha1HmacProvider + Drop, P: LocalPreference> Agent<H, P> {
         ensures room { OnOk result (HasPairRoom pairs self.new × HasEventRoom 1 self.new) }
     {
         self.pairs.reserve(pairs)?;
-        self.events.reserve(1)?;
+        reserve_events(&mut self.events, self.kept_room, 1)?;
         Ok(())
     }
 

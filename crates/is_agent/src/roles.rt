@@ -25,8 +25,9 @@ impl<H: Sha1HmacProvider + Drop, P: LocalPreference> Agent<H, P> {
         }
     }
 
-    /// The agent never changes its role: it is lite, and its profile is `Modern`.
-    pub(crate) fn keeps_role(&self) -> bool
+    /// Whether the agent keeps its role: it is lite, and its profile is `Modern`. No conflict changes it then, and
+    /// [`set_controlling`](Self::set_controlling) does not make the agent controlling.
+    pub fn keeps_role(&self) -> bool
         ensures { result ≡ keeps_role (record_of self.now) }
     {
         self.lite && self.timing.is_modern()

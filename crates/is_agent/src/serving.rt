@@ -25,6 +25,7 @@ ghost use Rattle.is_rules.specs.Serving.{AddsPairAndResponds, FindsOrAddsPair, A
 ghost use Rattle.is_rules.specs.Serving.{selects_at_requests, trigger_time, needs_pair_at, needs_pair, lacks_number, MayFailAtRequest};
 
 use crate::agent::{Agent, sides};
+use crate::room::reserve_events;
 use is_candidate::candidate::equality::TEMPORARY_FOUNDATION;
 use is_candidate::candidate::making::peer_reflexive;
 use is_candidate::{Candidate, LocalPreference};
@@ -92,7 +93,7 @@ impl<H: Sha1HmacProvider + Drop, P: LocalPreference> Agent<H, P> {
         ensures rejected { IsOkUnless result errors.OutOfMemory }
     {
         reserve_one(&mut self.discovered_sources)?;
-        self.events.reserve(1)?;
+        reserve_events(&mut self.events, self.kept_room, 1)?;
         Ok(())
     }
 
@@ -101,11 +102,12 @@ impl<H: Sha1HmacProvider + Drop, P: LocalPreference> Agent<H, P> {
         ensures record { record_of self.new ≡ record_of self.old }
         ensures room { OnOk result (HasServingRoom self.new × HasNewsRoom events self.new) }
     {
+        self.keep_room()?;
         reserve_one(&mut self.remote)?;
         self.pairs.reserve(1)?;
         reserve_one_in(&mut self.packets)?;
         reserve_one(&mut self.discovered_sources)?;
-        self.events.reserve(events)?;
+        reserve_events(&mut self.events, self.kept_room, events)?;
         Ok(())
     }
 

@@ -2,7 +2,7 @@
 
 ghost use Rattle.std.specs.Prelude.{◌≡◌, ℕ, ◌&&◌, true, not, Option, unwrap_or, OnOk};
 ghost use Rattle.is_agent.specs.View.{record_of, emitted_of};
-ghost use Rattle.is_agent.specs.Room.{HasEventRoom, HasSelectionRoom, HasPacketRoom, HasServingRoom, HasCheckRoomAt, UsesNews};
+ghost use Rattle.is_agent.specs.Room.{HasEventRoom, HasCandidateRoom, HasSelectionRoom, HasPacketRoom, HasServingRoom, HasCheckRoomAt, UsesNews};
 ghost use Rattle.is_rules.specs.Agent.{AgentRecord};
 ghost use Rattle.is_rules.specs.Emitted.{nothing_emitted, selected_only};
 ghost use Rattle.is_rules.specs.Nominating.{Nominates};
@@ -11,6 +11,7 @@ ghost use Rattle.is_rules.specs.declared.emitted.Path.{Path};
 ghost use Rattle.is_rules.specs.Settling.{settles, started, settled, has_selected, Reselects};
 
 use crate::agent::Agent;
+use crate::room::reserve_events;
 use is_candidate::LocalPreference;
 use is_proto::{Instant, Sha1HmacProvider};
 use is_rules::emitted::Emitted;
@@ -67,9 +68,10 @@ impl<H: Sha1HmacProvider + Drop, P: LocalPreference> Agent<H, P> {
     pub(crate) fn take_selection_room(&mut self) -> Result<(), AllocError>
         ensures record { record_of self.new ≡ record_of self.old }
         ensures room { OnOk result (HasSelectionRoom (record_of self.old) self.new) }
+        ensures candidate { HasCandidateRoom self.old → HasCandidateRoom self.new }
     {
         if self.keeps_selected() {
-            self.events.reserve(2)?;
+            reserve_events(&mut self.events, self.kept_room, 2)?;
         }
         Ok(())
     }

@@ -27,6 +27,7 @@ ghost use Rattle.is_rules.specs.TimeoutStart.{outdated};
 ghost use Rattle.is_rules.specs.Timeouts.{at_request, timeout_begun, MayFailAtTimeout, ServesQueued, MaintainsPairs, TimesOut};
 
 use crate::agent::Agent;
+use crate::room::reserve_events;
 use crate::settings::CHECK_ROOM;
 use is_candidate::LocalPreference;
 use is_proto::{IceError, Instant, Sha1HmacProvider, Transmit, reserve_one_in};
@@ -243,7 +244,7 @@ impl<H: Sha1HmacProvider + Drop, P: LocalPreference> Agent<H, P> {
         ensures checks { OnOk result (HasCheckRoomAt now.0 self.new) }
     {
         self.take_check_room(now)?;
-        self.events.reserve(5)
+        reserve_events(&mut self.events, self.kept_room, 5)
     }
 }
 

@@ -122,7 +122,7 @@ module _ {H P : Type 0} (mac : H → List ℕ → List ℕ → List ℕ) where
     abbrev issues : Entry → Bool
     issues e = issues_check e.emitted.issued
 
-    selects : {A : Type 0} (to_answer : A → agent.Answer) (Does : Result A IceError → AgentRecord H P → Type 0) (old new : AgentRecord H P) (s t : Stream) (e : Entry)
+    selects : {A : Type 0} (to_answer : A → agent.Answer) (Does : A → AgentRecord H P → Type 0) (old new : AgentRecord H P) (s t : Stream) (e : Entry)
         → MaySelect to_answer Does old s e new t → issues e ≡ false
     selects to_answer Does old new s t e (r, emitted, is, (path, mid, does, reselects, selected), drawn) =
         ap (λ (x : Entry). issues x) is ∙ ap (λ (x : Emitted). issues_check x.issued) selected
@@ -130,7 +130,6 @@ module _ {H P : Type 0} (mac : H → List ℕ → List ℕ → List ℕ) where
     pub unless_timeout : (call : Call P) (old new : AgentRecord H P) (s t : Stream) (e : Entry) → Step mac answers old s call e new t → is_timeout call ≡ false
         → issues e ≡ false
     unless_timeout (agent.SetMtu n w) old new s t e k none = ap (λ (x : Entry). issues x) k.1
-    unless_timeout (agent.SetControlling role) old new s t e k none = ap (λ (x : Entry). issues x) k.1
     unless_timeout (agent.SetLocalCredentials creds) old new s t e k none = ap (λ (x : Entry). issues x) k.1
     unless_timeout (agent.SetRemoteCredentials creds) old new s t e k none = ap (λ (x : Entry). issues x) k.1
     unless_timeout (agent.RestartIce creds keep) old new s t e k none = ap (λ (x : Entry). issues x) k.1

@@ -1,6 +1,6 @@
 -- Both of two agents select a path in rounds in which the network delivers. The preconditions that mutants/specifications
 -- changes are read by tactics.
-use Rattle.std.proofs.Common.{◌≡◌, ℕ, suc, ◌+◌, ◌<◌, ◌≤◌, Bool, true, false, List, [], ◌∷◌, ◌++◌, ◌&&◌, cond, length, Option, Some, None, inl, inr, ◌⊎◌, refl, ap, sym, ◌∙◌, subst, arith, if◌then◌else◌, Ok}
+use Rattle.std.proofs.Common.{◌≡◌, ℕ, suc, ◌+◌, ◌<◌, ◌≤◌, Bool, true, false, List, [], ◌∷◌, ◌++◌, ◌&&◌, cond, length, Option, Some, None, inl, inr, ◌⊎◌, refl, ap, sym, ◌∙◌, subst, arith, if◌then◌else◌}
 use Rattle.std.specs.Prelude.{slice_get}
 use Rattle.std.proofs.lemmas.List.Sums.{sum_by-append, sum_by-cons}
 use Rattle.is_proto.specs.Lists.{Has}
@@ -219,7 +219,7 @@ module _ {H P : Type 0} (mac : H → List ℕ → List ℕ → List ℕ) (answer
       let many = as_many side later in
       let second : state_after r.timeout.following r.following ≡ c.0 = state_is mac answers r.following r.timeout.following c.0 c.1 in
       let agent_first : AgentRecord H P = fresh (at side first).provider n.0 n.1 in
-      let to : Course mac answers ((agent.SetControlling n.2, quiet Done) ∷ xs) agent_first (at side r.timeout.before) = (at side first, source_of side s, source_of side s, tt, (Ok _, refl, (refl, n.3), refl), led) in
+      let to : Course mac answers ((agent.SetControlling n.2, quiet Done) ∷ xs) agent_first (at side r.timeout.before) = (at side first, source_of side s, source_of side s, tt, (refl, n.3, refl), led) in
       let pass : PassRounds mac answers (rounds_of side (r ∷ later)) (at side r.timeout.before) (at side last) = (at side r.timeout.following, at side c.0, source_of side u, moves.0, moves.1, o.0, k.0) in
       let found : IsReached mac answers (rounds_of side (r ∷ later)) (at side r.timeout.before) (at side last) pass path = elim enough [
         | inl suffices ↦
@@ -270,7 +270,7 @@ module _ {H P : Type 0} (mac : H → List ℕ → List ℕ → List ℕ) (answer
       let many = as_many side later in
       let second : state_after r.timeout.following r.following ≡ c.0 = state_is mac answers r.following r.timeout.following c.0 c.1 in
       let agent_first : AgentRecord H P = fresh (at side first).provider n.0 n.1 in
-      let to : Course mac answers ((agent.SetControlling n.2, quiet Done) ∷ xs) agent_first (at side r.timeout.before) = (at side first, source_of side s, source_of side s, tt, (Ok _, refl, (refl, n.3), refl), led) in
+      let to : Course mac answers ((agent.SetControlling n.2, quiet Done) ∷ xs) agent_first (at side r.timeout.before) = (at side first, source_of side s, source_of side s, tt, (refl, n.3, refl), led) in
       let pass : PassRounds mac answers (rounds_of side (r ∷ later)) (at side r.timeout.before) (at side last) = (at side r.timeout.following, at side c.0, source_of side u, moves.0, moves.1, o.0, k.0) in
       let found : ((x : CourseRound P) × Has (rounds_of side (r ∷ later)) x × ((y : agent.Call P × Entry) × Has x.following y × AcceptsSuccess y.0 y.1))
       ⊎ IsReached mac answers (rounds_of side (r ∷ later)) (at side r.timeout.before) (at side last) pass path = elim enough [

@@ -1,7 +1,7 @@
 -- A path of the controlled one of two agents that was nominated by the peer and answered is selected by its next
 -- `handle_timeout` call. The preconditions that mutants/specifications changes are read by tactics where they are used: if one
 -- of them is weaker, that goal stays unproved.
-use Rattle.std.proofs.Common.{◌≡◌, ℕ, true, false, not, List, [], ◌∷◌, ◌++◌, Option, Some, None, is_some, inl, inr, ◌⊎◌, refl, ap, sym, ◌∙◌, subst, append_assoc, Ok}
+use Rattle.std.proofs.Common.{◌≡◌, ℕ, true, false, not, List, [], ◌∷◌, ◌++◌, Option, Some, None, is_some, inl, inr, ◌⊎◌, refl, ap, sym, ◌∙◌, subst, append_assoc}
 use Rattle.is_proto.specs.Lists.{Has}
 use Rattle.is_proto.specs.Packets.{Packet}
 use Rattle.is_candidate.specs.Candidates.{CandidateRecord}
@@ -198,7 +198,7 @@ module _ {H P : Type 0} (mac : H → List ℕ → List ℕ → List ℕ) (answer
       elim h.1 [
         | inl replied ↦ elim (announce (fresh (at side first).provider n.0 n.1) (at side start) (at side timeout.before) (at side timeout.following) ((agent.SetControlling n.2, quiet Done) ∷ own mac answers side before)
             (own mac answers side part) (source_of side m.s) turn.left now timeout.entry.outcome.entry path (n.0, n.1, refl)
-            (at side first, source_of side s, source_of side s, tt, (Ok _, refl, (refl, n.3), refl), own_course mac answers side before first start led.1)
+            (at side first, source_of side s, source_of side s, tt, (refl, n.3, refl), own_course mac answers side before first start led.1)
             g.0 (turn_step mac answers timeout.before timeout.following m.s m.t side (agent.HandleTimeout now) timeout.entry.outcome turn) done none g.2 replied only_pair) [
               | inl emitted ↦ inl (record {
                 selects = emitted_back side before part timeout first start timeout.before (agent.SetControlling n.2) (agent.HandleTimeout now) led.1 m.led turn.side_is emitted.0;

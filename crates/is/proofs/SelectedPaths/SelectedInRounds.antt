@@ -1,7 +1,7 @@
 -- In rounds that suffice for one of its pairs, a controlling side sends a check on the pair's path, or selects a path, unless a
 -- candidate that it adds may remove the pair. If a check is answered while it is pending, it selects one. The preconditions that mutants/specifications changes are read by tactics where they are used:
 -- if one of them is weaker, that goal stays unproved.
-use Rattle.std.proofs.Common.{◌≡◌, ℕ, ◌⊎◌, Bool, true, false, not, List, [], ◌∷◌, ◌++◌, is_some, inl, inr, refl, ap, sym, ◌∙◌, subst, arith, append_assoc, Ok}
+use Rattle.std.proofs.Common.{◌≡◌, ℕ, ◌⊎◌, Bool, true, false, not, List, [], ◌∷◌, ◌++◌, is_some, inl, inr, refl, ap, sym, ◌∙◌, subst, arith, append_assoc}
 use Rattle.is_proto.specs.Lists.{Has}
 use Rattle.is_proto.specs.Packets.{Packet}
 use Rattle.is_candidate.specs.Candidates.{CandidateRecord}
@@ -129,7 +129,7 @@ module _ {H P : Type 0} (mac : H → List ℕ → List ℕ → List ℕ) (answer
             let n = new in
             let said = selects (fresh (at side first).provider n.0 n.1) (at side start) (at side again.before) (at side again.following)
             ((agent.SetControlling n.2, quiet Done) ∷ own mac answers side before) (own mac answers side ahead) (source_of side u) turn.left now via reply.contents again.entry.outcome.entry m (n.0, n.1, refl)
-            (at side first, source_of side s, source_of side s, tt, (Ok _, refl, (refl, n.3), refl), own_course mac answers side before first start led) invalid (own_course mac answers side ahead start again.before on)
+            (at side first, source_of side s, source_of side s, tt, (refl, n.3, refl), own_course mac answers side before first start led) invalid (own_course mac answers side ahead start again.before on)
             (turn_step mac answers again.before again.following u v side call again.entry.outcome turn) brings success (roles again (subst (λ xs. Has xs again) (sym split) (middle ahead rest again))) in
             let y = said.0 in
             elim (either_has (own mac answers side ahead) ((call, again.entry.outcome.entry) ∷ []) y.0 y.1) [
@@ -207,7 +207,7 @@ module _ {H P : Type 0} (mac : H → List ℕ → List ℕ → List ℕ) (answer
         (subst (λ (w : WorldRecord H P). SufficeForDue by r.now (at side r.timeout.before) (at side w) (times_in rounds)) second (search each.few)) in
         elim (checks (fresh (at side first).provider n.0 n.1) (at side r.timeout.before) (at side last) ((agent.SetControlling n.2, quiet Done) ∷ own mac answers side before)
         (round_of mac answers side r) (rounds_of mac answers side rounds) p by (n.0, n.1, refl)
-        (at side first, source_of side s, source_of side s, tt, (Ok _, refl, (refl, n.3), refl), own_course mac answers side before first r.timeout.before led)
+        (at side first, source_of side s, source_of side s, tt, (refl, n.3, refl), own_course mac answers side before first r.timeout.before led)
         role waits unanswered (let from = kept.from in omega (arith, from)) own_first.done own_first.early (only_polls mac answers side by r rounds each) (
           at side r.timeout.following,
           at side c.0,

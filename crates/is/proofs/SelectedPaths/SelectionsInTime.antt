@@ -1,6 +1,6 @@
 -- A controlling side of two agents selects its first path in time, if its caller is punctual and a check is answered within a round trip.
 -- What mutants/specifications changes is read by tactics.
-use Rattle.std.proofs.Common.{◌≡◌, ℕ, ◌+◌, ◌*◌, ◌≤◌, ◌⊎◌, true, List, [], ◌∷◌, ◌++◌, length, inl, inr, refl, ap, sym, ◌∙◌, subst, arith, append_assoc, Ok}
+use Rattle.std.proofs.Common.{◌≡◌, ℕ, ◌+◌, ◌*◌, ◌≤◌, ◌⊎◌, true, List, [], ◌∷◌, ◌++◌, length, inl, inr, refl, ap, sym, ◌∙◌, subst, arith, append_assoc}
 use Rattle.is_proto.specs.Lists.{Has}
 use Rattle.is_candidate.specs.Candidates.{CandidateRecord}
 use Rattle.is_rules.specs.declared.emitted.Path.{Path}
@@ -230,7 +230,7 @@ module _ {H P : Type 0} (mac : H → List ℕ → List ℕ → List ℕ) (answer
         let m = moved mac answers side k.first u v own_first.comes happens in
         elim (reach (fresh (at side first).provider n.0 n.1) (at side start) (at side front.0) (at side on.0) ((agent.SetControlling n.2, quiet agent.Done) ∷ own mac answers side k.before) (round_of mac answers side k.first)
         (rounds_of mac answers side k.later) (rounds_of mac answers side k.more) k.pair k.by pace delay trip (n.0, n.1, refl)
-        (at side first, source_of side s, source_of side s, tt, (Ok _, refl, (refl, n.3), refl), own_course mac answers side k.before first start to)
+        (at side first, source_of side s, source_of side s, tt, (refl, n.3, refl), own_course mac answers side k.before first start to)
         role waits unanswered (let from = k.kept.from in omega (arith, from)) own_first.done own_first.early (is_open mac answers side k.first own_first)
         (at side k.first.timeout.following, at side c.0, source_of side u, m.0, m.1, steady_first k.first.timeout (inl refl), g.0, g.1, l.0) o.0
         (are_open mac answers side k.by k.first k.later k.kept)

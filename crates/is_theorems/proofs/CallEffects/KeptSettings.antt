@@ -38,7 +38,7 @@ use Rattle.is_rules.specs.Queue.{request_at}
 use Rattle.is_theorems.proofs.CallEffects.AddedCandidates.{by_adding_local, by_adding_remote, by_waking}
 use Rattle.is_theorems.proofs.RuleEffects.UnchangedSettings.{either}
 use Rattle.is_theorems.proofs.RuleEffects.NominatedPairs.{SelectsPath, selects_path}
-use Rattle.is_theorems.proofs.CallEffects.FailedCallsAndNewAgents.{mtu_kept, controlling_kept, local_kept, remote_kept, restart_kept, recreation_kept, enrolment_kept, storing_kept}
+use Rattle.is_theorems.proofs.CallEffects.FailedCallsAndNewAgents.{mtu_kept, local_kept, remote_kept, restart_kept, recreation_kept, enrolment_kept, storing_kept}
 use Rattle.is_theorems.specs.Settings.{SettingsRecord, all_settings_of, SettingsAreSet}
 use Rattle.is_theorems.proofs.RuleEffects.NotedErrors.{recoded, by_failure}
 use Rattle.is_rules.specs.Leaving.{path_left}
@@ -214,8 +214,7 @@ module _ {H P : Type 0} where
     settings-are-set old new s t (SetMaxStunRetransmits n) e h = search (retransmits (n == 0) n old new s t e h)
     settings-are-set old new s t (SetLiteTimeout by) e h = search (made-of _ new h.1)
     settings-are-set old new s t (SetLocalPreference object) e h = search (made-of _ new h.1)
-    settings-are-set old new s t (SetControlling controlling) e (Ok _, reported, h, drawn) = made-of _ new h.1
-    settings-are-set old new s t (SetControlling controlling) e (Err error, reported, h, drawn) = kept-of old new (controlling_kept old new controlling error h)
+    settings-are-set old new s t (SetControlling controlling) e h = made-of _ new h.1
     settings-are-set old new s t (SetLocalCredentials creds) e (Ok _, reported, h, drawn) = made-of _ new h.1
     settings-are-set old new s t (SetLocalCredentials creds) e (Err error, reported, h, drawn) = kept-of old new (local_kept old new creds error h)
     settings-are-set old new s t (SetRemoteCredentials creds) e (Ok _, reported, h, drawn) = made-of _ new h.1
@@ -231,10 +230,8 @@ module _ {H P : Type 0} where
         (λ made. kept-of old mid made) (λ f. forms _ mid _ f) (λ k _ addr f. forms _ mid _ f))
     settings-are-set old new s t (AddRemoteCandidate c) e (Err error, emitted, reported, (path, mid, h, again, is), drawn) =
         reselected old mid new path again (kept-of old mid (storing_kept old mid c error h))
-    settings-are-set old new s t (InvalidateCandidate c) e (Ok found, emitted, reported, (path, mid, h, again, is), drawn) =
+    settings-are-set old new s t (InvalidateCandidate c) e (found, emitted, reported, (path, mid, h, again, is), drawn) =
         reselected old mid new path again (invalidates old mid (local_to_discard c old) (remote_to_discard c old) found h)
-    settings-are-set old new s t (InvalidateCandidate c) e (Err error, emitted, reported, (path, mid, h, again, is), drawn) =
-        reselected old mid new path again (kept-of old mid h.1)
     settings-are-set old new s t (RestartIce creds keep) e (Ok _, reported, h, drawn) = made-of _ new h.1
     settings-are-set old new s t (RestartIce creds keep) e (Err error, reported, h, drawn) = kept-of old new (restart_kept old new creds keep error h)
     settings-are-set old new s t RecreateCandidatePairs e (Ok _, reported, (some, h), drawn) = forms _ new _ h

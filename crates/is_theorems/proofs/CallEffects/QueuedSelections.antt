@@ -1,7 +1,7 @@
 -- Each transition queues a `NominatedSend` only for a path that it selects. What mutants/specifications changes is read by tactics.
 use Rattle.is_stun.specs.declared.header.Class.TheVariants as class
 use Rattle.is_theorems.proofs.CallEffects.AddedCandidates.{by_adding_local, by_adding_remote, by_waking}
-use Rattle.is_theorems.proofs.CallEffects.FailedCallsAndNewAgents.{controlling_kept, enrolment_kept, local_kept, mtu_kept, recreation_kept, remote_kept, restart_kept, storing_kept}
+use Rattle.is_theorems.proofs.CallEffects.FailedCallsAndNewAgents.{enrolment_kept, local_kept, mtu_kept, recreation_kept, remote_kept, restart_kept, storing_kept}
 use Rattle.is_theorems.proofs.RuleEffects.EarlierAndNewPairs.{Has-filter}
 use Rattle.is_theorems.proofs.RuleEffects.UnchangedSettings.{either}
 use Rattle.is_theorems.specs.Reporting.{EventsAreSelected, selecting}
@@ -313,8 +313,7 @@ module _ {H P : Type 0} (In : Path → Type 0) where
     steps old new s t (SetMaxStunRetransmits n) e may h = retransmits (n == 0) n old new s t e h
     steps old new s t (SetLiteTimeout by) e may h = same old new (ap (λ (a : AgentRecord H P). a.events) h.1)
     steps old new s t (SetLocalPreference object) e may h = same old new (ap (λ (a : AgentRecord H P). a.events) h.1)
-    steps old new s t (SetControlling controlling) e may (Ok _, reported, h, drawn) = same old new (ap (λ (a : AgentRecord H P). a.events) h.1)
-    steps old new s t (SetControlling controlling) e may (Err error, reported, h, drawn) = kept old new (controlling_kept old new controlling error h)
+    steps old new s t (SetControlling controlling) e may h = same old new (ap (λ (a : AgentRecord H P). a.events) h.1)
     steps old new s t (SetLocalCredentials creds) e may (Ok _, reported, h, drawn) = same old new (ap (λ (a : AgentRecord H P). a.events) h.1)
     steps old new s t (SetLocalCredentials creds) e may (Err error, reported, h, drawn) = kept old new (local_kept old new creds error h)
     steps old new s t (SetRemoteCredentials creds) e may (Ok _, reported, h, drawn) = same old new (ap (λ (a : AgentRecord H P). a.events) h.1)
@@ -330,10 +329,8 @@ module _ {H P : Type 0} (In : Path → Type 0) where
         (λ made. kept old mid made) (λ f. forms_adds _ mid _ f) (λ k _ addr f. forms_adds _ mid _ f))
     steps old new s t (AddRemoteCandidate c) e may (Err error, emitted, reported, (path, mid, h, again, is), drawn) =
         reselected old mid new path e _ emitted reported is may again (kept old mid (storing_kept old mid c error h))
-    steps old new s t (InvalidateCandidate c) e may (Ok found, emitted, reported, (path, mid, h, again, is), drawn) =
+    steps old new s t (InvalidateCandidate c) e may (found, emitted, reported, (path, mid, h, again, is), drawn) =
         reselected old mid new path e _ emitted reported is may again (invalidates old mid (local_to_discard c old) (remote_to_discard c old) found h)
-    steps old new s t (InvalidateCandidate c) e may (Err error, emitted, reported, (path, mid, h, again, is), drawn) =
-        reselected old mid new path e _ emitted reported is may again (kept old mid h.1)
     steps old new s t (RestartIce creds keep) e may (Ok _, reported, h, drawn) = restarts creds keep old new h.1
     steps old new s t (RestartIce creds keep) e may (Err error, reported, h, drawn) = kept old new (restart_kept old new creds keep error h)
     steps old new s t RecreateCandidatePairs e may (Ok _, reported, (some, h), drawn) = more old (unpaired old) new (unpaired_adds old) (more (unpaired old) (emptied old) new (state_adds Checking (unpaired old)) (forms_adds (emptied old) new _ h))

@@ -13,14 +13,14 @@ use Rattle.is_rules.specs.Effects.{lite_set_by}
 use Rattle.is_rules.specs.Local.{AddsLocal}
 use Rattle.is_rules.specs.Remote.{AddsRemote}
 use Rattle.is_rules.specs.Restarting.{emptied, Recreates, Restarts}
-use Rattle.is_rules.specs.Settings.{SetsControlling, SetsMtu}
+use Rattle.is_rules.specs.Settings.{SetsMtu}
 use Rattle.is_rules.specs.Settling.{loses_selected}
-use Rattle.is_rules.specs.Steps.{Call, SetMtu, SetControlTieBreaker, SetMaxCandidatePairs, SetMaxDiscovered, SetIceLite, SetRenomination, SetConsent, SetProfile, SetTimingAdvance, SetInitialStunRto, SetMaxStunRto, SetMaxStunRetransmits, SetLiteTimeout, SetLocalPreference, SetControlling, SetLocalCredentials, SetRemoteCredentials, SkipPairIds, AddLocalCandidate, AddRemoteCandidate, InvalidateCandidate, RestartIce, RecreateCandidatePairs, ReceivePacket, HandleTimeout, PollTransmit, PollTimeout, PollEvent, Answer, Flag, added, done, Entry, Step, MayDo, MaySelect}
+use Rattle.is_rules.specs.Steps.{Call, SetMtu, SetControlTieBreaker, SetMaxCandidatePairs, SetMaxDiscovered, SetIceLite, SetRenomination, SetConsent, SetProfile, SetTimingAdvance, SetInitialStunRto, SetMaxStunRto, SetMaxStunRetransmits, SetLiteTimeout, SetLocalPreference, SetControlling, SetLocalCredentials, SetRemoteCredentials, SkipPairIds, AddLocalCandidate, AddRemoteCandidate, InvalidateCandidate, RestartIce, RecreateCandidatePairs, ReceivePacket, HandleTimeout, PollTransmit, PollTimeout, PollEvent, Answer, Flag, added, answer_by, done, Entry, Step, MayDo, MaySelect}
 use Rattle.is_theorems.specs.ConsentCourses.{AreNeverLite, ValidHaveConsented}
 use Rattle.is_theorems.specs.Exchange.{Course}
 use Rattle.is_theorems.specs.Runs.{IsFresh}
 use Rattle.is_theorems.proofs.CallEffects.AddedCandidates.{by_adding_local, by_adding_remote, by_waking}
-use Rattle.is_theorems.proofs.CallEffects.FailedCallsAndNewAgents.{mtu_kept, controlling_kept, local_kept, remote_kept, restart_kept, recreation_kept, enrolment_kept, storing_kept}
+use Rattle.is_theorems.proofs.CallEffects.FailedCallsAndNewAgents.{mtu_kept, local_kept, remote_kept, restart_kept, recreation_kept, enrolment_kept, storing_kept}
 use Rattle.is_theorems.proofs.ConnectedConsent.AnsweredPairs.{AreAnswered, answered-filter, answered-map, forms-firm, IsFirm, made-firm, received-firm, reselects-firm, timed-firm, unless-answered}
 use Rattle.is_theorems.proofs.RuleEffects.UnchangedSettings.{either}
 
@@ -35,9 +35,8 @@ module _ {H P : Type 0} (mac : H → List ℕ → List ℕ → List ℕ) (answer
       made-firm (remote_discarded place old) new made (f.0, answered-filter (λ p. not (is_remote_at place p)) old.pairs f.1)
   discards old new None None found (is, made) f = made-firm old new made f
 
-  invalidates : (old new : AgentRecord H P) (c : CandidateRecord) (r : Result Bool IceError) → Invalidates old c r new → IsFirm old → IsFirm new
-  invalidates old new c (Ok found) h f = discards old new (local_to_discard c old) (remote_to_discard c old) found h f
-  invalidates old new c (Err error) h f = made-firm old new h.1 f
+  invalidates : (old new : AgentRecord H P) (c : CandidateRecord) (found : Bool) → Invalidates old c found new → IsFirm old → IsFirm new
+  invalidates old new c found h f = discards old new (local_to_discard c old) (remote_to_discard c old) found h f
 
   signals : (old new : AgentRecord H P) (c : CandidateRecord) (r : Result (Unit {0}) IceError) → AddsRemote old c r new → IsFirm old → IsFirm new
   signals old new c (Ok _) h f = by_adding_remote old new c h
@@ -70,8 +69,8 @@ module _ {H P : Type 0} (mac : H → List ℕ → List ℕ → List ℕ) (answer
     recreates (Ok _, is, (enough, formed), drawn) = forms-firm (emptied old) new _ formed (f.0, λ p has. absurd has)
     recreates (Err error, is, h, drawn) = kept (recreation_kept old new error h)
 
-    selects : {A : Type 0} (to_answer : A → Answer) (Does : Result A IceError → AgentRecord H P → Type 0)
-        → ((mid : AgentRecord H P) (r : Result A IceError) → Does r mid → IsFirm mid) → MaySelect to_answer Does old s e new t → IsFirm new
+    selects : {A : Type 0} (to_answer : A → Answer) (Does : A → AgentRecord H P → Type 0)
+        → ((mid : AgentRecord H P) (r : A) → Does r mid → IsFirm mid) → MaySelect to_answer Does old s e new t → IsFirm new
     selects to_answer Does does (r, emitted, is, (path, mid, h, again, out), drawn) = reselects-firm (loses_selected old mid) mid new path again (does mid r h)
 
     asks : (at : ℕ) → AreAnswered (map (asked at old.timing) old.pairs)
@@ -94,12 +93,12 @@ module _ {H P : Type 0} (mac : H → List ℕ → List ℕ → List ℕ) (answer
     steps (SetMaxStunRetransmits k) full h = either (k == 0) h (λ _ x. kept x.1) (λ _ x. subst (λ (a : AgentRecord H P). IsFirm a) (sym x.1) f)
     steps (SetLiteTimeout timeout) full (is, made, drawn) = subst (λ (a : AgentRecord H P). IsFirm a) (sym made) f
     steps (SetLocalPreference object) full (is, made, drawn) = subst (λ (a : AgentRecord H P). IsFirm a) (sym made) f
-    steps (SetControlling controlling) full h = may (SetsControlling old controlling) (λ k. subst (λ (a : AgentRecord H P). IsFirm a) (sym k.1) f) (controlling_kept old new controlling) h
+    steps (SetControlling controlling) full (is, made, drawn) = subst (λ (a : AgentRecord H P). IsFirm a) (sym made) f
     steps (SetLocalCredentials creds) full h = may (SetsLocal old creds) (λ k. subst (λ (a : AgentRecord H P). IsFirm a) (sym k.1) f) (local_kept old new creds) h
     steps (SetRemoteCredentials creds) full h = may (SetsRemote old creds) (λ k. subst (λ (a : AgentRecord H P). IsFirm a) (sym k.1) f) (remote_kept old new creds) h
     steps (SkipPairIds k) full (is, made, drawn) = subst (λ (a : AgentRecord H P). IsFirm a) (sym made) f
-    steps (AddLocalCandidate c) full h = selects added (AddsLocal answers old c) (λ mid r k. adds-local old mid c r k f) h
-    steps (AddRemoteCandidate c) full h = selects done (AddsRemote old c) (λ mid r k. signals old mid c r k f) h
+    steps (AddLocalCandidate c) full h = selects (answer_by added) (AddsLocal answers old c) (λ mid r k. adds-local old mid c r k f) h
+    steps (AddRemoteCandidate c) full h = selects (answer_by done) (AddsRemote old c) (λ mid r k. signals old mid c r k f) h
     steps (InvalidateCandidate c) full h = selects Flag (Invalidates old c) (λ mid r k. invalidates old mid c r k f) h
     steps (RestartIce creds keep) full h = restarts creds keep h
     steps RecreateCandidatePairs full h = recreates h

@@ -33,7 +33,7 @@ use Rattle.is_theorems.proofs.BasicLemmas.EqualAddresses.{both}
 use Rattle.is_theorems.proofs.CallEffects.AddedCandidates.{by_adding_local, by_adding_remote, by_waking}
 use Rattle.is_theorems.proofs.CallEffects.ChangedCandidates.{discards_local, local_changes, remote_changes}
 use Rattle.is_theorems.proofs.CallEffects.ChecksAndResponses.{Has-get, Has-set, local_joins}
-use Rattle.is_theorems.proofs.CallEffects.FailedCallsAndNewAgents.{controlling_kept, enrolment_kept, local_kept, mtu_kept, storing_kept}
+use Rattle.is_theorems.proofs.CallEffects.FailedCallsAndNewAgents.{enrolment_kept, local_kept, mtu_kept, storing_kept}
 use Rattle.is_theorems.proofs.CallEffects.PathAndTradeEffects.{path_theorem}
 use Rattle.is_theorems.proofs.CallEffects.ServedRequests.{remote_joins}
 use Rattle.is_theorems.proofs.ConnectedConsent.SilentPairs.{Carried, carried-over, forms-over, Goes, IsOver, made-over, moved-over, over-as, PairsOver, parts, reselects-over}
@@ -170,8 +170,7 @@ module _ {H P : Type 0} (mac : H → List ℕ → List ℕ → List ℕ) (answer
   step-over (SetRenomination renominates) e old new s t is silent sound h o = subst (λ (a : AgentRecord H P). Over a) (sym h.1) o
   step-over (SetTimingAdvance by) e old new s t is silent sound h o = subst (λ (a : AgentRecord H P). Over a) (sym h.1) o
   step-over (SetLocalPreference object) e old new s t is silent sound h o = subst (λ (a : AgentRecord H P). Over a) (sym h.1) o
-  step-over (SetControlling controlling) e old new s t is silent sound (Ok _, reported, h, drawn) o = subst (λ (a : AgentRecord H P). Over a) (sym h.1) o
-  step-over (SetControlling controlling) e old new s t is silent sound (Err error, reported, h, drawn) o = made-of old new (controlling_kept old new controlling error h) o
+  step-over (SetControlling controlling) e old new s t is silent sound h o = subst (λ (a : AgentRecord H P). Over a) (sym h.1) o
   step-over _ e old new s t is silent sound h o = no-case is
 
   -- a `handle_timeout` call that serves no early request

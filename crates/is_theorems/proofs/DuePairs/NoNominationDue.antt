@@ -46,7 +46,7 @@ use Rattle.is_theorems.specs.Progress.{IsGone}
 use Rattle.is_theorems.specs.Reached.{is_in_round}
 use Rattle.is_theorems.proofs.CallEffects.AddedCandidates.{by_adding_local, by_adding_remote, by_waking}
 use Rattle.is_theorems.proofs.CallEffects.ChangedCandidates.{adds_local_goes, adds_remote_goes}
-use Rattle.is_theorems.proofs.CallEffects.FailedCallsAndNewAgents.{mtu_kept, controlling_kept, local_kept, enrolment_kept, storing_kept}
+use Rattle.is_theorems.proofs.CallEffects.FailedCallsAndNewAgents.{mtu_kept, local_kept, enrolment_kept, storing_kept}
 use Rattle.is_theorems.proofs.CallEffects.PathAndTradeEffects.{path_theorem}
 use Rattle.is_theorems.proofs.DuePairs.AfterPackets.{NoneValid, none-passes, and-false}
 use Rattle.is_theorems.proofs.DuePairs.FirstDuePair.{NoneAtOnce}
@@ -356,8 +356,7 @@ module _ {H P : Type 0} where
       calls-calmer (SetRenomination false) e old new s t is sound none h = inr (calmer-as old _ new (λ is. refl, λ is. is, refl) h.1)
       calls-calmer (SetTimingAdvance by) e old new s t is sound none h = inr (calmer-as old _ new (λ is. is, λ is. is, refl) h.1)
       calls-calmer (SetLocalPreference object) e old new s t is sound none h = inr (calmer-as old _ new (λ is. is, λ is. is, refl) h.1)
-      calls-calmer (SetControlling controlling) e old new s t is sound none (Ok _, reported, h, drawn) = inr (calmer-as old _ new (λ is. is, λ is. is, refl) h.1)
-      calls-calmer (SetControlling controlling) e old new s t is sound none (Err error, reported, h, drawn) = inr (calmer-same old new (controlling_kept old new controlling error h))
+      calls-calmer (SetControlling controlling) e old new s t is sound none h = inr (calmer-as old _ new (λ is. is, λ is. is, refl) h.1)
       calls-calmer _ e old new s t is sound none step = no-case is
 
       pub timeouts-calmer : (now : ℕ) (e : Entry) (old new : AgentRecord H P) (s t : Stream) → NoneValid old.pairs → Step mac answers old s (HandleTimeout now) e new t → Calmer old new

@@ -42,7 +42,7 @@ use Rattle.is_rules.proofs.PairLists.ChosenPair.{found-in}
 use Rattle.is_theorems.specs.Reached.{is_in_round, selects}
 use Rattle.is_theorems.proofs.BasicLemmas.PairsInTurn.{none-to-send}
 use Rattle.is_theorems.proofs.CallEffects.AddedCandidates.{by_adding_local, by_adding_remote, by_waking}
-use Rattle.is_theorems.proofs.CallEffects.FailedCallsAndNewAgents.{mtu_kept, controlling_kept, local_kept, enrolment_kept, storing_kept}
+use Rattle.is_theorems.proofs.CallEffects.FailedCallsAndNewAgents.{mtu_kept, local_kept, enrolment_kept, storing_kept}
 use Rattle.is_theorems.proofs.DuePairs.AfterNominationAndRemoval.{Base, gives-up-thins, names-thins, thins-on}
 use Rattle.is_theorems.proofs.DuePairs.ChecksAhead.{one-at-most}
 use Rattle.is_theorems.proofs.DuePairs.FirstDuePair.{next-check}
@@ -340,8 +340,7 @@ module _ {H P : Type 0} where
       calls-due (SetRenomination false) e old new s t is h = dues-as (selects e) old _ new (λ is. refl, λ is. inl is) h.1
       calls-due (SetTimingAdvance by) e old new s t is h = dues-as (selects e) old _ new (λ is. is, λ is. inl is) h.1
       calls-due (SetLocalPreference object) e old new s t is h = dues-as (selects e) old _ new (λ is. is, λ is. inl is) h.1
-      calls-due (SetControlling controlling) e old new s t is (Ok _, reported, h, drawn) = dues-as (selects e) old _ new (λ is. is, λ is. inl is) h.1
-      calls-due (SetControlling controlling) e old new s t is (Err error, reported, h, drawn) = dues-same (selects e) old new (controlling_kept old new controlling error h)
+      calls-due (SetControlling controlling) e old new s t is h = dues-as (selects e) old _ new (λ is. is, λ is. inl is) h.1
       calls-due _ e old new s t is step = no-case is
 
       pub timeouts-due : (now : ℕ) (e : Entry) (old new : AgentRecord H P) (s t : Stream) → Step mac answers old s (HandleTimeout now) e new t → Dues (selects e) old new

@@ -204,7 +204,7 @@ module _ {H P : Type 0} (mac : H → List ℕ → List ℕ → List ℕ) (answer
     by false (is, made, drawn) = (is, made, refl)
   recomputed (SetLiteTimeout by) e old new s t u (is, made, drawn) = (u, (is, made, refl))
   recomputed (SetLocalPreference object) e old new s t u (is, made, drawn) = (u, (is, made, refl))
-  recomputed (SetControlling controlling) e old new s t u (r, is, does, drawn) = (u, (r, is, does, refl))
+  recomputed (SetControlling controlling) e old new s t u (is, made, drawn) = (u, (is, made, refl))
   recomputed (SetLocalCredentials creds) e old new s t u (r, is, does, drawn) = (u, (r, is, does, refl))
   recomputed (SetRemoteCredentials creds) e old new s t u (r, is, does, drawn) = (u, (r, is, does, refl))
   recomputed (SkipPairIds n) e old new s t u (is, made, drawn) = (u, (is, made, refl))

@@ -51,7 +51,7 @@ use Rattle.is_rules.specs.Steps.{Call, SetMtu, SetControlTieBreaker, SetMaxCandi
 use Rattle.is_theorems.specs.Reporting.{Extends, Begins, FormsAgain, Reports, QueuesTheorem}
 use Rattle.is_theorems.proofs.RuleEffects.Reselection.{by-reselecting}
 use Rattle.is_theorems.proofs.RuleEffects.UnchangedSettings.{either}
-use Rattle.is_theorems.proofs.CallEffects.FailedCallsAndNewAgents.{mtu_kept, controlling_kept, local_kept, remote_kept, restart_kept, recreation_kept, enrolment_kept, storing_kept}
+use Rattle.is_theorems.proofs.CallEffects.FailedCallsAndNewAgents.{mtu_kept, local_kept, remote_kept, restart_kept, recreation_kept, enrolment_kept, storing_kept}
 use Rattle.is_theorems.proofs.CallEffects.SettingsRoleAndQueues.{FrameEffect, framed}
 use Rattle.is_theorems.proofs.CallEffects.AddedCandidates.{by_adding_local, by_adding_remote, by_waking}
 use Rattle.is_theorems.proofs.RuleEffects.NotedErrors.{recoded, by_failure}
@@ -310,8 +310,7 @@ module _ {H P : Type 0} where
     reports (SetMaxStunRetransmits n) h = retransmits (n == 0) n h
     reports (SetLiteTimeout by) h = becomes _ refl h
     reports (SetLocalPreference object) h = becomes _ refl h
-    reports (SetControlling controlling) (Ok _, is, h, drawn) = same_events old new (ap (λ (a : AgentRecord H P). a.events) h.1)
-    reports (SetControlling controlling) (Err error, is, h, drawn) = stays old new (controlling_kept old new controlling error h)
+    reports (SetControlling controlling) h = becomes _ refl h
     reports (SetLocalCredentials creds) (Ok _, is, h, drawn) = same_events old new (ap (λ (a : AgentRecord H P). a.events) h.1)
     reports (SetLocalCredentials creds) (Err error, is, h, drawn) = stays old new (local_kept old new creds error h)
     reports (SetRemoteCredentials creds) (Ok _, is, h, drawn) = same_events old new (ap (λ (a : AgentRecord H P). a.events) h.1)
@@ -323,9 +322,8 @@ module _ {H P : Type 0} where
     reports (AddRemoteCandidate c) (Ok _, emitted, is, (path, mid, h, again, emits), drawn) = selects mid path again (remote_grows old mid c h)
     reports (AddRemoteCandidate c) (Err error, emitted, is, (path, mid, h, again, emits), drawn) =
         selects mid path again (stays old mid (storing_kept old mid c error h))
-    reports (InvalidateCandidate c) (Ok found, emitted, is, (path, mid, h, again, emits), drawn) =
+    reports (InvalidateCandidate c) (found, emitted, is, (path, mid, h, again, emits), drawn) =
         selects mid path again (invalidates_grows old mid (local_to_discard c old) (remote_to_discard c old) found h)
-    reports (InvalidateCandidate c) (Err error, emitted, is, (path, mid, h, again, emits), drawn) = selects mid path again (stays old mid h.1)
     reports (RestartIce creds keep) (Ok _, is, h, drawn) =
         subst (λ (x : Entry). Begins x.answer creds old.events new.events) (sym is)
         (subst (λ (a : AgentRecord H P). Begins Done creds old.events a.events) (sym h.1) (begins creds keep old))

@@ -49,7 +49,7 @@ use Rattle.is_theorems.proofs.EarlierChecks.OneCheckFewer.{Ready, timeout-goes}
 use Rattle.is_rules.proofs.PairLists.RisingNumbers.{rising-each}
 use Rattle.is_theorems.proofs.CallEffects.ServedRequests.{Has-mapped}
 use Rattle.is_theorems.proofs.DuePairs.PollingCycles.{none-left, maintains_pairs-from, distinct-sound}
-use Rattle.is_theorems.proofs.CallEffects.FailedCallsAndNewAgents.{mtu_kept, controlling_kept, local_kept, enrolment_kept, storing_kept}
+use Rattle.is_theorems.proofs.CallEffects.FailedCallsAndNewAgents.{mtu_kept, local_kept, enrolment_kept, storing_kept}
 use Rattle.is_theorems.proofs.StoredPairs.PairsThatStay.{none-entered, pairs-stay}
 use Rattle.is_theorems.proofs.RuleEffects.SelectedPaths.{one_pair}
 use Rattle.is_theorems.proofs.DuePairs.AfterNominationAndRemoval.{Base, Kept, answered-if, answered-on, answered_at, kept_of, last_time_of, lasts-young}
@@ -255,8 +255,7 @@ module _ {H P : Type 0} where
         inr (inr (goes-to n by old _ new (refl, onward-same n by (last_time_of old) old.pairs old.next_number) made))
     between-goes at following early x (SetTimingAdvance advance) called old new s t known last p sound has number on is (reported, made, drawn) = inr (inr (goes-to n by old _ new (refl, onward-same n by (last_time_of old) old.pairs old.next_number) made))
     between-goes at following early x (SetLocalPreference object) called old new s t known last p sound has number on is (reported, made, drawn) = inr (inr (goes-to n by old _ new (refl, onward-same n by (last_time_of old) old.pairs old.next_number) made))
-    between-goes at following early x (SetControlling controlling) called old new s t known last p sound has number on is (Ok _, reported, h, drawn) = inr (inr (goes-to n by old _ new (refl, onward-same n by (last_time_of old) old.pairs old.next_number) h.1))
-    between-goes at following early x (SetControlling controlling) called old new s t known last p sound has number on is (Err error, reported, h, drawn) = inr (inr (goes-same n by old new (controlling_kept old new controlling error h)))
+    between-goes at following early x (SetControlling controlling) called old new s t known last p sound has number on is (reported, made, drawn) = inr (inr (goes-to n by old _ new (refl, onward-same n by (last_time_of old) old.pairs old.next_number) made))
     between-goes at following early x _ called old new s t known last p sound has number on is step = no-case is
 
     module _ (owing : (call : Call P) (e : Entry) (old new : AgentRecord H P) (s t : Stream) → is_in_round call ≡ true → Step mac answers old s call e new t → owes new ≤ owes old + pays e)

@@ -39,7 +39,7 @@ use Rattle.is_theorems.proofs.EarlierChecks.ChangedPairs.{Fixed}
 use Rattle.is_theorems.proofs.DuePairs.FirstDuePair.{due-at, timeout-follows}
 use Rattle.is_theorems.proofs.DuePairs.ChecksAhead.{times, none-suffices}
 use Rattle.is_theorems.proofs.DuePairs.NominationsAhead.{to_select, to_send}
-use Rattle.is_theorems.proofs.CallEffects.FailedCallsAndNewAgents.{mtu_kept, controlling_kept, local_kept, enrolment_kept, storing_kept}
+use Rattle.is_theorems.proofs.CallEffects.FailedCallsAndNewAgents.{mtu_kept, local_kept, enrolment_kept, storing_kept}
 use Rattle.is_rules.proofs.PairLists.RisingNumbers.{rising-each}
 use Rattle.is_theorems.proofs.CallEffects.ServedRequests.{Has-mapped}
 use Rattle.is_theorems.proofs.DuePairs.PollingCycles.{none-left, maintains_pairs-from, distinct-sound}
@@ -228,8 +228,7 @@ module _ {H P : Type 0} where
     between-keeps (SetRenomination false) e old new s t known last p sound has number on is (reported, made, drawn) = inr (inr (keeps-to n old _ new (refl, λ d cs le f. f) made))
     between-keeps (SetTimingAdvance advance) e old new s t known last p sound has number on is (reported, made, drawn) = inr (inr (keeps-to n old _ new (refl, λ d cs le f. f) made))
     between-keeps (SetLocalPreference object) e old new s t known last p sound has number on is (reported, made, drawn) = inr (inr (keeps-to n old _ new (refl, λ d cs le f. f) made))
-    between-keeps (SetControlling controlling) e old new s t known last p sound has number on is (Ok _, reported, h, drawn) = inr (inr (keeps-to n old _ new (refl, λ d cs le f. f) h.1))
-    between-keeps (SetControlling controlling) e old new s t known last p sound has number on is (Err error, reported, h, drawn) = inr (inr (keeps-same n old new (controlling_kept old new controlling error h)))
+    between-keeps (SetControlling controlling) e old new s t known last p sound has number on is (reported, made, drawn) = inr (inr (keeps-to n old _ new (refl, λ d cs le f. f) made))
     between-keeps _ e old new s t known last p sound has number on is step = no-case is
 
     -- ---- the first round

@@ -25,7 +25,7 @@ use Rattle.is_theorems.specs.InTime.{KeepsPace}
 use Rattle.is_theorems.specs.Reached.{is_in_round}
 use Rattle.is_rules.proofs.PollsAndResponses.NextTimeout.{pacing-short, timeouts-in-time}
 use Rattle.is_theorems.proofs.CallEffects.AddedCandidates.{by_adding_local, by_adding_remote, by_waking}
-use Rattle.is_theorems.proofs.CallEffects.FailedCallsAndNewAgents.{mtu_kept, controlling_kept, local_kept, enrolment_kept, storing_kept}
+use Rattle.is_theorems.proofs.CallEffects.FailedCallsAndNewAgents.{mtu_kept, local_kept, enrolment_kept, storing_kept}
 use Rattle.is_theorems.proofs.ExecutionLogs.LogSegments.{no-case}
 use Rattle.is_theorems.proofs.DuePairs.ConsentAfterTimeouts.{maintains-consents}
 use Rattle.is_theorems.proofs.PunctualTimeouts.ChecksInTime.{stays-slow}
@@ -70,8 +70,7 @@ module _ {H P : Type 0} where
     round-clock (SetRenomination renominates) e old new s t is h = clocked _ new h.1
     round-clock (SetTimingAdvance by) e old new s t is h = clocked _ new h.1
     round-clock (SetLocalPreference object) e old new s t is h = clocked _ new h.1
-    round-clock (SetControlling controlling) e old new s t is (Ok _, reported, h, drawn) = clocked _ new h.1
-    round-clock (SetControlling controlling) e old new s t is (Err error, reported, h, drawn) = clocked old new (controlling_kept old new controlling error h)
+    round-clock (SetControlling controlling) e old new s t is h = clocked _ new h.1
     round-clock _ e old new s t is h = no-case is
 
     -- ---- the time that `poll_timeout` returns

@@ -15,7 +15,7 @@ use Rattle.is_theorems.proofs.CallEffects.PathAndTradeEffects.{path_theorem}
 use Rattle.is_theorems.proofs.CallEffects.AddedCandidates.{by_waking}
 use Rattle.is_theorems.proofs.ExecutionLogs.LogTheorems.{runs_sound}
 use Rattle.is_theorems.proofs.ExecutionLogs.LogSegments.{no-case, run-on}
-use Rattle.is_theorems.proofs.CallEffects.FailedCallsAndNewAgents.{mtu_kept, controlling_kept, local_kept}
+use Rattle.is_theorems.proofs.CallEffects.FailedCallsAndNewAgents.{mtu_kept, local_kept}
 use Rattle.is_theorems.specs.NotStarved.{AreSteady, ConsentLastsIn, HaveConsent, RequestsAddFew, is_steady, is_timeout, timeout_count}
 use Rattle.is_theorems.proofs.RemainingChecks.RemainingAfterRules.{Held, Spends, spends-to, spends-none, spends-on, receives-spends, times-out-spends}
 use Rattle.is_theorems.proofs.RemainingChecks.RemainingOfPairs.{unspent-alike, unspents-map, unspents-most}
@@ -47,8 +47,7 @@ module _ {H P : Type 0} (mac : H → List ℕ → List ℕ → List ℕ) (answer
   call-spends (SetRenomination renominates) old new s t e sound full most is consents (reported, made, drawn) = kept old _ new (refl, omega arith, omega arith) made
   call-spends (SetTimingAdvance advance) old new s t e sound full most is consents (reported, made, drawn) = kept old _ new (refl, omega arith, omega arith) made
   call-spends (SetLocalPreference object) old new s t e sound full most is consents (reported, made, drawn) = kept old _ new (refl, omega arith, omega arith) made
-  call-spends (SetControlling controlling) old new s t e sound full most is consents (Ok _, reported, h, drawn) = kept old _ new (refl, omega arith, omega arith) h.1
-  call-spends (SetControlling controlling) old new s t e sound full most is consents (Err error, reported, h, drawn) = spends-none m old new (controlling_kept old new controlling error h)
+  call-spends (SetControlling controlling) old new s t e sound full most is consents (reported, made, drawn) = kept old _ new (refl, omega arith, omega arith) made
   call-spends _ old new s t e sound full most is consents step = no-case is
 
   module _ (first : AgentRecord H P) (s : Stream) (fresh : IsFresh first) (before : List (Logged P)) (start : AgentRecord H P) (u : Stream) (led : Run mac answers first s before start u)

@@ -280,9 +280,8 @@ module _ {H P : Type 0} where
       by None (Some place) h = ap (λ (a : AgentRecord H P). a.selected_pair) h.1
       by None None h = ap (λ (a : AgentRecord H P). a.selected_pair) h.1
 
-    invalidates : (c : CandidateRecord) (r : Result Bool IceError) (mid : AgentRecord H P) → Invalidates old c r mid → Leaves mid
-    invalidates c (Ok found) mid h = discards (local_to_discard c old) (remote_to_discard c old) found mid h
-    invalidates c (Err error) mid h = leaves-same mid h.1
+    invalidates : (c : CandidateRecord) (found : Bool) (mid : AgentRecord H P) → Invalidates old c found mid → Leaves mid
+    invalidates c found mid h = discards (local_to_discard c old) (remote_to_discard c old) found mid h
 
     selects-settles : (loses : Bool) (mid : AgentRecord H P) (path : Option Path) → Leaves mid → Reselects loses mid path new
         → Settles old (selected_only path) new
@@ -303,7 +302,7 @@ module _ {H P : Type 0} where
     settles (AddRemoteCandidate c) (r, emitted, is, (path, mid, h, again, emits), drawn) =
         candidate-settles (answer_by done r) emitted is path mid (adds-remote c r mid h) again emits
     settles (InvalidateCandidate c) (r, emitted, is, (path, mid, h, again, emits), drawn) =
-        candidate-settles (answer_by Flag r) emitted is path mid (invalidates c r mid h) again emits
+        candidate-settles (Flag r) emitted is path mid (invalidates c r mid h) again emits
     settles (ReceivePacket now via bytes) h = packet-settles now via bytes h.0
     settles (HandleTimeout now) (r, emitted, is, h) = by-entry (answer_by done r) emitted is (timeout-settles now r emitted h)
     settles call h = calm-settles call refl refl h

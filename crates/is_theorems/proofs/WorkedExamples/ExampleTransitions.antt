@@ -235,7 +235,7 @@ module _ {H P : Type 0} (mac : H → List ℕ → List ℕ → List ℕ) (answer
           (
             record (fresh provider creds_1 1) { controlling = true },
             s,
-            (fresh provider creds_1 1, s, (refl, refl), refl, tt, (Ok _, refl, (refl, refl), refl)),
+            (fresh provider creds_1 1, s, (refl, refl), refl, tt, (refl, refl, refl)),
             refl,
             tt,
             (Ok _, refl, (refl, refl), refl),
