@@ -687,13 +687,13 @@ IS_ICE_CALL int32_t is_ice_add_remote(is_ice_agent *agent, const uint8_t *line, 
  * first one that was not removed before; without `modern` of is_ice_set_settings it looks at the first one only.
  *
  * IS_ICE_OK: removed. IS_ICE_NOTHING: there is none, or it was removed before. IS_ICE_BAD_ADDRESS, IS_ICE_BAD_CANDIDATE: see
- * is_ice_add_local. IS_ICE_OUT_OF_MEMORY. */
+ * is_ice_add_local. IS_ICE_OUT_OF_MEMORY: in place of IS_ICE_BAD_CANDIDATE; a candidate that may be added needs no memory. */
 IS_ICE_CALL int32_t is_ice_invalidate_local(is_ice_agent *agent, const is_ice_candidate *candidate);
 
 /* is_ice_invalidate - removes a candidate in the same way, by its text.
  *
  * IS_ICE_OK, IS_ICE_NOTHING: see is_ice_invalidate_local. IS_ICE_NOT_UTF8, IS_ICE_BAD_CANDIDATE: see is_ice_add_remote.
- * IS_ICE_OUT_OF_MEMORY. */
+ * IS_ICE_OUT_OF_MEMORY: reading the text needs memory, removing the candidate does not. */
 IS_ICE_CALL int32_t is_ice_invalidate(is_ice_agent *agent, const uint8_t *line, size_t length);
 
 /* is_ice_local_candidate, is_ice_remote_candidate - return the text of a candidate, for signaling.

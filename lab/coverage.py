@@ -8,7 +8,7 @@ from dataclasses import dataclass, field, replace
 
 from .clauses import (
     both, both_become_connected, by_number, completed_nominations_are_selected, connect, connected_are_answered, connected_have_consent,
-    consent_ends_in_time, consent_holds, courses_reach_served, courses_select_in_time, due_rounds, in_time, leaves_in_time, meet,
+    consent_ends_in_time, consent_holds, executions_reach_served, executions_select_in_time, due_rounds, in_time, leaves_in_time, meet,
     nomination_accepted, nominations, none_starved_in_time, of_use, one_path, reached_in_kind, reached_in_turn, rounds, run_connected,
     run_connected_answered, run_in_time, run_selects_in_time, selects_in_time, served_are_checked_soon, served_in_time,
     served_select_in_time, states_agree, successes, urgent_are_reached, valid_have_consented, world_rounds)
@@ -41,9 +41,9 @@ THEOREMS: dict[str, Callable[[Execution], Verdict]] = {
     "valid_have_consented": valid_have_consented.find, "connected_have_consent": connected_have_consent.find,
     "connected_are_answered": connected_are_answered.find, "leaves_in_time": leaves_in_time.find,
     "completed_nominations_are_selected": completed_nominations_are_selected.find,
-    "courses_select_in_time": courses_select_in_time.find, "states_agree": states_agree.find, "reached_in_turn": reached_in_turn.find,
+    "executions_select_in_time": executions_select_in_time.find, "states_agree": states_agree.find, "reached_in_turn": reached_in_turn.find,
     "reached_in_kind": reached_in_kind.find, "urgent_are_reached": urgent_are_reached.find,
-    "served_are_checked_soon": served_are_checked_soon.find, "courses_reach_served": courses_reach_served.find}
+    "served_are_checked_soon": served_are_checked_soon.find, "executions_reach_served": executions_reach_served.find}
 CLAUSES = (*WORLD, *RUN, *THEOREMS)
 
 

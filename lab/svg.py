@@ -139,7 +139,7 @@ def _points(arrow: Arrow, scale: Scale, places: dict[str, float]) -> list[Point]
 
 def _line(arrow: Arrow, points: list[Point], places: dict[str, float]) -> list[str]:
     color, dash = COLORS[arrow.kind], ' stroke-dasharray="5 3"' if arrow.end else ""
-    path = f"M{points[0][0]:.1f} {points[0][1]:.1f}" + "".join(_course(a, b, places) for a, b in zip(points, points[1:]))
+    path = f"M{points[0][0]:.1f} {points[0][1]:.1f}" + "".join(_execution(a, b, places) for a, b in zip(points, points[1:]))
     line = f'<path d="{path}" fill="none" stroke="{color}" stroke-width="1.5"{dash}/>'
     if arrow.is_undelivered:
         x, y = points[-1]
@@ -153,7 +153,7 @@ def _passed_by(a: Point, b: Point, places: dict[str, float]) -> list[float]:
     return sorted(between, reverse=a[0] > b[0])
 
 
-def _course(a: Point, b: Point, places: dict[str, float]) -> str:
+def _execution(a: Point, b: Point, places: dict[str, float]) -> str:
     """Returns the line to b, with a bow over each lane that the packet does not pass."""
     step, slope = (BOW, (b[1] - a[1]) / (b[0] - a[0])) if b[0] > a[0] else (-BOW, (b[1] - a[1]) / ((b[0] - a[0]) or 1.0))
     path = ""

@@ -36,10 +36,10 @@ def run(*command, **more):
     return ran.stdout
 
 
-def build_in_c(library):
-    program = OUT / "scale"
+def build_in_c(library, name="scale"):
+    program = OUT / name
     include = library.parent.parent / "include"
-    run(os.environ.get("CC", "cc"), "-std=c11", "-O2", f"-I{include}", "-o", program, TOP / "measure" / "scale.c", library)
+    run(os.environ.get("CC", "cc"), "-std=c11", "-O2", f"-I{include}", "-o", program, TOP / "measure" / f"{name}.c", library)
     return program
 
 
@@ -123,6 +123,18 @@ def print_given_back(counts, hosts):
         print(f"{count:,} agents: {one:,.0f} bytes of one that began with a pair, {many:,.0f} with {hosts * hosts}", flush=True)
         if many > KEPT * one:
             stop(f"these are more than {KEPT} times as many")
+
+
+def forming():
+    """Prints what many pairs cost with either profile, and what invalidated candidates keep."""
+    program = build_in_c(install(), "forming")
+    for profile in ("original", "modern"):
+        added, slowest, last = run(program, profile, "add", 100, 20).split()
+        small, great = (run(program, profile, "recreate", hosts).strip() for hosts in (80, 100))
+        print(f"{profile}: {added} ms for 100 remote candidates beside 100 local ones, the slowest {slowest}, the last {last};"
+              f" formed again: {small} ms for 80 x 80, {great} for 100 x 100", flush=True)
+    first, local, both = run(program, "modern", "invalidate", 1000).split()
+    print(f"{first} bytes with a pair, {local} after 1,000 invalidated local candidates, {both} after as many remote ones", flush=True)
 
 
 def measure(counts, original, is_written, are_counted, hosts):

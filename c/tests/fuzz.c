@@ -155,7 +155,7 @@ static void restart(void)
 
 static void recreate(void)
 {
-    CALL(OK | NO_IDS | LISTS, is_ice_recreate_pairs(agents[on]));
+    CALL(OK | NO_IDS | COPES, is_ice_recreate_pairs(agents[on]));
 }
 
 /* ---- candidates of an agent */
@@ -164,7 +164,7 @@ static void add_local(void)
 {
     const is_ice_candidate *candidate = candidate_argument();
     size_t *index = argument(sizeof *index);
-    int32_t code = CALL(OK | NOTHING | TOO_MANY | BAD_ADDRESS | BAD_CANDIDATE | PRIORITY | NO_IDS | LISTS,
+    int32_t code = CALL(OK | NOTHING | TOO_MANY | BAD_ADDRESS | BAD_CANDIDATE | PRIORITY | NO_IDS | COPES,
         is_ice_add_local(agents[on], candidate, index));
     if (code < 0) filled(code, index, sizeof *index);
 }
@@ -173,7 +173,7 @@ static void add_remote(void)
 {
     struct bytes text = line();
     size_t *index = argument(sizeof *index);
-    int32_t code = CALL(OK | NOTHING | OTHER | TOO_MANY | NOT_UTF8 | BAD_CANDIDATE | NO_IDS | LISTS,
+    int32_t code = CALL(OK | NOTHING | OTHER | TOO_MANY | NOT_UTF8 | BAD_CANDIDATE | NO_IDS | COPES,
         is_ice_add_remote(agents[on], text.bytes, text.length, index));
     if (code < 0) filled(code, index, sizeof *index);
 }
@@ -182,7 +182,7 @@ static void add_local_line(void)
 {
     struct bytes text = line();
     size_t *index = argument(sizeof *index);
-    int32_t code = CALL(OK | NOTHING | TOO_MANY | NOT_UTF8 | BAD_CANDIDATE | PRIORITY | NO_IDS | LISTS,
+    int32_t code = CALL(OK | NOTHING | TOO_MANY | NOT_UTF8 | BAD_CANDIDATE | PRIORITY | NO_IDS | COPES,
         is_ice_add_local_line(agents[on], text.bytes, text.length, index));
     if (code < 0) filled(code, index, sizeof *index);
 }
@@ -191,10 +191,11 @@ static void invalidate(void)
 {
     if (one_in(2)) {
         const is_ice_candidate *candidate = candidate_argument();
-        CALL(OK | NOTHING | BAD_ADDRESS | BAD_CANDIDATE | LISTS, is_ice_invalidate_local(agents[on], candidate));
+        int32_t code = CALL(OK | NOTHING | BAD_ADDRESS | BAD_CANDIDATE, is_ice_invalidate_local(agents[on], candidate));
+        if ((code == IS_ICE_OK || code == IS_ICE_NOTHING) && asked != asked_before) stop("is_ice_invalidate_local allocated");
     } else {
         struct bytes text = line();
-        CALL(OK | NOTHING | NOT_UTF8 | BAD_CANDIDATE | LISTS, is_ice_invalidate(agents[on], text.bytes, text.length));
+        CALL(OK | NOTHING | NOT_UTF8 | BAD_CANDIDATE, is_ice_invalidate(agents[on], text.bytes, text.length));
     }
 }
 
@@ -335,7 +336,7 @@ static void line_fields(void)
         is_ice_line_fields(text.bytes, text.length, o.bytes, o.size, o.length, fields));
     written_fields(code, o, fields);
     on = agent;
-    int32_t added = CALL(OK | NOTHING | OTHER | TOO_MANY | NOT_UTF8 | BAD_CANDIDATE | NO_IDS | LISTS,
+    int32_t added = CALL(OK | NOTHING | OTHER | TOO_MANY | NOT_UTF8 | BAD_CANDIDATE | NO_IDS | COPES,
         is_ice_add_remote(agents[on], text.bytes, text.length, index));
     if (code == IS_ICE_OUT_OF_MEMORY || added == IS_ICE_OUT_OF_MEMORY || added == IS_ICE_NO_AGENT || added == IS_ICE_TOO_MANY_CANDIDATES)
         return;
@@ -470,7 +471,7 @@ static void timeout_of(size_t length)
 {
     uint8_t *random = argument(length);
     for (size_t i = 0; i < length; i++) random[i] = (uint8_t)((now >> (i % 8 * 8)) + on * 3 + i);
-    CALL((length < IS_ICE_TIMEOUT_RANDOM ? FEW_RANDOM : OK | NO_IDS | LISTS), is_ice_handle_timeout(agents[on], now, random, length));
+    CALL((length < IS_ICE_TIMEOUT_RANDOM ? FEW_RANDOM : OK | NO_IDS | COPES), is_ice_handle_timeout(agents[on], now, random, length));
 }
 
 static void handle_timeout(void)

@@ -173,7 +173,7 @@ enum {
     NO_RELAY = 1u << 28,
     BAD_URL = 1u << 29,
     NO_SERVERS = 1u << 30,
-    LISTS = 1u << 26  /* it lists the pairs that it removes, and leaves one out if that allocation fails */
+    COPES = 1u << 26  /* memory that only saves time or other memory may be missing: the call does without it */
 };
 
 /* No int holds it. */
@@ -200,8 +200,8 @@ static int32_t expect(const char *call, int32_t code, unsigned allowed)
     struct view after;
     end_arguments();
     saw(subject_of(call, which), bit_of(code));
-    bool is_unlisted = has_refused && code == IS_ICE_OK && (allowed & LISTS);
-    if (!is_unlisted && has_refused != (code == IS_ICE_OUT_OF_MEMORY)) wrong(call, code, has_refused ? "an allocation failed" : "no allocation failed");
+    bool has_coped = has_refused && code == IS_ICE_OK && (allowed & COPES);
+    if (!has_coped && has_refused != (code == IS_ICE_OUT_OF_MEMORY)) wrong(call, code, has_refused ? "an allocation failed" : "no allocation failed");
     if (on < AGENTS && (code == IS_ICE_NO_AGENT) == is_held[on])
         wrong(call, code, is_held[on] ? "there is an agent" : "there is no agent");
     bool is_general = code == IS_ICE_OUT_OF_MEMORY || (code == IS_ICE_NO_AGENT && on < AGENTS);

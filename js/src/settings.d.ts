@@ -12,7 +12,8 @@ export interface KindPreferences {
 /** The settings of an `IceAgent`: each can be set at any time. What those of `AgentSettings` are at first is in the table "Settings" of
  *  docs/API.md, and `modernSettings` returns it. */
 export class Settings {
-  /** Makes the agent controlling, as on the side that made the offer, or controlled. `LiteStaysControlled`: it is lite. */
+  /** Makes the agent controlling, as on the side that made the offer, or controlled.
+   *  `LiteStaysControlled`: a lite agent with `modern` is to be controlling; it stays as it is. */
   setControlling(controlling: boolean): void;
   /**
    * Makes the agent a lite agent, which takes only host candidates and sends no checks, or a full one (RFC 8445, section 2.5). It has to

@@ -1,9 +1,9 @@
-"""`run`, clause `selects_in_time` (`RoundsSelectInTime`): what the theorem `courses_select_in_time` says of one agent, in its log. The
+"""`run`, clause `selects_in_time` (`RoundsSelectInTime`): what the theorem `executions_select_in_time` says of one agent, in its log. The
 rounds are consecutive entries of the log, whatever the other agent is."""
 
 from __future__ import annotations
 
-from .courses_select_in_time import Choice, Search, earliest, limit, suffice_for_check, trip, verdict_of
+from .executions_select_in_time import Choice, Search, earliest, limit, suffice_for_check, trip, verdict_of
 from .execution import MAX, Execution, Lacks, lacks
 from .fair import is_new_agent
 from .in_time import delay

@@ -17,7 +17,7 @@ CLEARING = ("ice_restart", "recreate_candidate_pairs")
 
 
 def success_path(step: Step) -> Path:
-    """Returns the path of the check to which the response of this entry belongs: the reverse of its own (`goes_back`)."""
+    """Returns the path of the check to which the response of this entry belongs: the reverse of its own (`is_reverse`)."""
     _, source, destination, *_ = step.entry.given
     return destination, source
 

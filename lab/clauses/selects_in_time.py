@@ -10,7 +10,7 @@ from collections.abc import Callable, Iterator
 from ..pairs import Path
 from ..replay import other
 from .accepted_nominations import SUCCESS, Network
-from .courses_select_in_time import Choice, Search, by_first_call, first_call_that_holds, limit_of
+from .executions_select_in_time import Choice, Search, by_first_call, first_call_that_holds, limit_of
 from .execution import Execution, Lacks, Round, any_in, lacks
 from .fair import are_new_agents
 from .in_time import delay

@@ -6,7 +6,7 @@ from __future__ import annotations
 from collections.abc import Iterator
 
 from .accepted_nominations import Network
-from .courses_select_in_time import Choice, by_first_call, first_call_that_holds
+from .executions_select_in_time import Choice, by_first_call, first_call_that_holds
 from .execution import Lacks
 from .opening import Counts
 from .selects_in_time import NetworkSearch, lacking_with, verdict_of

@@ -1,4 +1,4 @@
-"""Which calls may remove a pair of a path (`Staying`, `Removing`, `AskedCourses`)."""
+"""Which calls may remove a pair of a path (`Staying`, `Removing`, `AskedExecutions`)."""
 
 from __future__ import annotations
 

@@ -73,7 +73,7 @@ class Labels(unittest.TestCase):
         self.assertEqual(re.findall(r">([\d.]+ ms)<", drawn), ["0.0 ms"])
 
 
-class Courses(unittest.TestCase):
+class Executions(unittest.TestCase):
     def bows(self, *arrows: Arrow) -> int:
         return len(re.findall(r"<path d=\"M[^\"]* A5", svg.draw(Picture("", ["A", "wifi", "mobile", "B"], list(arrows)))))
 

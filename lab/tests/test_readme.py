@@ -50,9 +50,10 @@ class Readme(unittest.TestCase):
         for path in ("meet", "world_rounds", "in_time", "nomination_accepted", "connect", "both", "one_path", "by_number", "of_use",
                      "successes", "nominations", "run_connected", "run_connected_answered", "rounds", "due_rounds", "run_in_time",
                      "consent_holds", "consent_ends_in_time", "valid_have_consented", "connected_have_consent", "connected_are_answered",
-                     "leaves_in_time", "completed_nominations_are_selected", "courses_select_in_time", "states_agree", "reached_in_turn",
+                     "leaves_in_time", "completed_nominations_are_selected", "executions_select_in_time", "states_agree", "reached_in_turn",
                      "run_selects_in_time", "none_starved_in_time", "selects_in_time", "urgent_are_reached", "reached_in_kind",
-                     "served_are_checked_soon", "courses_reach_served", "served_select_in_time", "served_in_time", "both_become_connected"):
+                     "served_are_checked_soon", "executions_reach_served", "served_select_in_time", "served_in_time",
+                     "both_become_connected"):
             self.assertIn(f"| `{path}.py` |", README)
             self.assertTrue(callable(importlib.import_module(f"lab.clauses.{path}").lacking))
 

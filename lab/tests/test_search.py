@@ -8,7 +8,7 @@ from typing import TypeVar
 
 from is_ice import Transmit
 from lab.clauses import (
-    both, connect, courses_select_in_time, due_rounds, in_time, meet, nomination_accepted, none_starved_in_time, rounds, run_in_time,
+    both, connect, executions_select_in_time, due_rounds, in_time, meet, nomination_accepted, none_starved_in_time, rounds, run_in_time,
     run_selects_in_time, selects_in_time, single, world_rounds)
 from lab.clauses.execution import Execution, Lacks
 from lab.clauses.accepted_nominations import Network
@@ -188,21 +188,22 @@ class Searches(unittest.TestCase):
         self.compare(clause, lambda n: find(n.x), found)
 
     def test_selection_in_time(self) -> None:
-        self.compare_selection_in_time(courses_select_in_time.find, courses_select_in_time.lacking)
+        self.compare_selection_in_time(executions_select_in_time.find, executions_select_in_time.lacking)
         self.compare_selection_in_time(run_selects_in_time.find, run_selects_in_time.lacking, True)
 
     def compare_selection_in_time(self, find: Callable[[Execution], Verdict],
-                                  lacking: Callable[[Execution, courses_select_in_time.Choice], Lacks], is_earliest: bool = False) -> None:
+                                  lacking: Callable[[Execution, executions_select_in_time.Choice], Lacks],
+                                  is_earliest: bool = False) -> None:
         held = 0
         for seed in self.SEEDS:
             n = random_story(seed).network()
-            every = (courses_select_in_time.Choice(side, pair, first, count, last + 1)
+            every = (executions_select_in_time.Choice(side, pair, first, count, last + 1)
                      for side in SIDES for first, pair, count in self.openings(n, side)
                      for last in sorted(n.x.timeouts[side] + n.x.successes(side)) if last >= first)
             good = [c for c in every if not lacking(n.x, c)]
             limits = []
             for c in good:
-                limit, selected = courses_select_in_time.limit(n.x, c), courses_select_in_time.selected_at(n.x, c)
+                limit, selected = executions_select_in_time.limit(n.x, c), executions_select_in_time.selected_at(n.x, c)
                 assert limit is not None and selected is not None
                 self.assertLessEqual(selected, limit, f"seed {seed}")
                 limits.append(limit)
@@ -230,7 +231,7 @@ class Searches(unittest.TestCase):
         held = 0
         for seed in self.SEEDS:
             n = random_story(seed).network()
-            every = (courses_select_in_time.Choice(side, pair, first, count, last + 1)
+            every = (executions_select_in_time.Choice(side, pair, first, count, last + 1)
                      for side in SIDES for first, pair, count in self.openings(n, side)
                      for last in sorted(n.x.timeouts[side] + n.x.successes(side)) if last >= first)
             good = [c for c in every if not selects_in_time.lacking(n, c)]

@@ -1,14 +1,14 @@
-"""Tests the checkers of the theorem `courses_select_in_time` and of `selects_in_time` of `run` and of `World::run`: for each precondition,
-a log that lacks exactly it; and logs in which the conclusion does not come true."""
+"""Tests the checkers of the theorem `executions_select_in_time` and of `selects_in_time` of `run` and of `World::run`: for each
+precondition, a log that lacks exactly it; and logs in which the conclusion does not come true."""
 
 import unittest
 from dataclasses import replace
 from typing import Any
 
 from is_ice import NominatedSend
-from lab.clauses import courses_select_in_time, run_selects_in_time, selects_in_time
+from lab.clauses import executions_select_in_time, run_selects_in_time, selects_in_time
 from lab.clauses.accepted_nominations import Network
-from lab.clauses.courses_select_in_time import Choice, limit, selected_at, trip
+from lab.clauses.executions_select_in_time import Choice, limit, selected_at, trip
 from lab.clauses.execution import MAX, Execution, Lacks
 from lab.clauses.verdict import Verdict
 from lab.clock import BEGINNING, MILLISECOND
@@ -56,9 +56,9 @@ def adding(line: str = HOST, limit: int | None = None) -> Story:
 
 
 class SelectsInTime(unittest.TestCase):
-    of: Any = courses_select_in_time
+    of: Any = executions_select_in_time
     controlling, controlling_on, late, first_early, early, answered, enough, ends = (
-        "controlling", "CourseRounds", "IsOpenRound.late", "first.early", "IsOpenRound.early", "IsAnsweredWithin", "SufficeForCheck",
+        "controlling", "ExecutionRounds", "IsOpenRound.late", "first.early", "IsOpenRound.early", "IsAnsweredWithin", "SufficeForCheck",
         "EndsAmong")
 
     found_with_a_candidate = Verdict("", at(0), at(5 * 50 + 150), at(200), 6)
@@ -104,7 +104,7 @@ class SelectsInTime(unittest.TestCase):
 
     def test_the_delay(self) -> None:
         x = selecting(third=102).network().x
-        self.assertEqual(courses_select_in_time.find(x), Verdict("", at(0), at(3 * 52 + 100), at(250), 4))
+        self.assertEqual(executions_select_in_time.find(x), Verdict("", at(0), at(3 * 52 + 100), at(250), 4))
         self.assertEqual(run_selects_in_time.find(x), Verdict("", at(150), at(150 + 100), at(250), 1))
 
     def test_a_new_agent(self) -> None:

@@ -1,16 +1,16 @@
-"""Tests the checkers of the theorems `served_are_checked_soon` and `courses_reach_served`, and that of `selects_in_time` for a pair on
+"""Tests the checkers of the theorems `served_are_checked_soon` and `executions_reach_served`, and that of `selects_in_time` for a pair on
 which a request was served: for each precondition, a log that lacks exactly it; and a log in which nothing is checked, or selected."""
 
 import unittest
 from dataclasses import replace
 from typing import Any
 
-from lab.clauses import courses_reach_served as reached
+from lab.clauses import executions_reach_served as reached
 from lab.clauses import served_are_checked_soon as checked
 from lab.clauses import served_in_time as soon
 from lab.clauses import served_select_in_time as selected
 from lab.clauses.accepted_nominations import Network
-from lab.clauses.courses_select_in_time import Choice as InTime
+from lab.clauses.executions_select_in_time import Choice as InTime
 from lab.clauses.execution import Execution
 from lab.clauses.in_time import Choice as OfPath
 from lab.clauses.reached_in_turn import Choice

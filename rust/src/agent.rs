@@ -275,7 +275,8 @@ impl IceAgent {
     ///
     /// # Panics
     ///
-    /// If out of memory. `try_invalidate_candidate` returns an error then.
+    /// If out of memory, while the text of the candidate is read: that of one that was gathered, and is removed, is not.
+    /// `try_invalidate_candidate` returns an error then.
     #[track_caller]
     pub fn invalidate_candidate(&mut self, c: &Candidate) -> bool {
         or_panic(self.try_invalidate_candidate(c))

@@ -133,7 +133,7 @@ fn meet<R: Rng>(alloc: Global, rng: &mut R) -> Result<Option<(SocketAddr, Socket
     let (mut a, told_by_a) = begin(alloc, at(1, 1000), rng)?;
     let (mut b, told_by_b) = begin(alloc, at(2, 2000), rng)?;
     // The side that made the offer.
-    a.agent.set_controlling(true)?;
+    a.agent.set_controlling(true);
     learn(alloc, &mut b.agent, told_by_a)?;
     learn(alloc, &mut a.agent, told_by_b)?;
     connect(&mut a, &mut b, rng)

@@ -103,7 +103,7 @@ pub fn renew_asked(agent: &mut Agent, alloc: Global) -> Result<(), Broken> {
 pub fn renew_lonely(agent: &mut Agent, alloc: Global) -> Result<(), Broken> {
     renew(agent, alloc, NEAR, NEAR_PASS)?;
     return_peer(agent, alloc, FAR, FAR_PASS)?;
-    take_role(agent, true);
+    agent.set_controlling(true);
     add_host(agent, alloc, at(1, 1000))
 }
 
@@ -115,11 +115,6 @@ pub fn renew_paired(agent: &mut Agent, alloc: Global) -> Result<(), Broken> {
     } else {
         Err(Broken)
     }
-}
-
-pub fn take_role(agent: &mut Agent, controlling: bool) {
-    // it fails only for a lite agent
-    let _ = agent.set_controlling(controlling);
 }
 
 /// Passes the bytes to the agent, as a UDP packet between the addresses.

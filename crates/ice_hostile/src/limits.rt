@@ -1,6 +1,6 @@
 //! Pair numbers, pair limits and priorities at their bounds.
 use crate::agents::{
-    Agent, FAR_LINE, NEAR_PASS, Taken, hear_of, ms, renew_lonely, signed, take_here, take_role,
+    Agent, FAR_LINE, NEAR_PASS, Taken, hear_of, ms, renew_lonely, signed, take_here,
 };
 use crate::broken::Broken;
 use is::Candidate;
@@ -145,7 +145,7 @@ fn write_no_pairs<W: Write>(
 /// The priority of a pair with a remote candidate of priority 0.
 fn least(agent: &mut Agent, alloc: Global, controlling: bool) -> Result<u64, Broken> {
     renew_lonely(agent, alloc)?;
-    take_role(agent, controlling);
+    agent.set_controlling(controlling);
     let _ = hear_of(agent, alloc, LEAST_LINE)?;
     match pair_prio(agent, alloc, LEAST_LINE)? {
         Some(prio) => Ok(prio),

@@ -1,6 +1,6 @@
 //! One random call of an agent, and whether the agent did it.
 use crate::agents::{
-    Agent, FAR_PASS, Taken, add_host, at, creds, ms, renew, return_peer, signed, take, take_role,
+    Agent, FAR_PASS, Taken, add_host, at, creds, ms, renew, return_peer, signed, take,
 };
 use crate::breeding::{below, breed};
 use crate::broken::Broken;
@@ -43,7 +43,7 @@ pub enum Did {
 /// A new agent that the observed request is for, in a random role, with the peer's credentials or without them.
 pub fn start(agent: &mut Agent, alloc: Global, random: &mut Pcg32) -> Result<(), Broken> {
     renew(agent, alloc, UFRAG, PASSWORD)?;
-    take_role(agent, below(random, 2) == 0);
+    agent.set_controlling(below(random, 2) == 0);
     add_host(agent, alloc, at(1, 1000))?;
     if below(random, 4) != 0 {
         return_peer(agent, alloc, PEER, FAR_PASS)?;
@@ -182,11 +182,11 @@ fn add_remote(agent: &mut Agent, candidate: Candidate) -> Result<Did, Broken> {
     what_became(agent.add_remote_candidate(candidate))
 }
 
-fn invalidate(agent: &mut Agent, candidate: &Candidate) -> Result<Did, Broken> {
-    match agent.invalidate_candidate(candidate) {
-        Ok(true) => Ok(Did::Done),
-        Ok(false) => Ok(Did::False),
-        Err(_) => Err(Broken),
+fn invalidate(agent: &mut Agent, candidate: &Candidate) -> Did {
+    if agent.invalidate_candidate(candidate) {
+        Did::Done
+    } else {
+        Did::False
     }
 }
 
@@ -198,7 +198,7 @@ fn candidate(agent: &mut Agent, alloc: Global, random: &mut Pcg32) -> Result<Did
     };
     let candidate = host(alloc, number, random)?;
     match below(random, 4) {
-        0 => invalidate(agent, &candidate),
+        0 => Ok(invalidate(agent, &candidate)),
         1 => add_local(agent, candidate),
         _ => add_remote(agent, candidate),
     }

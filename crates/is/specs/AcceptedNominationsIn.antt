@@ -6,8 +6,8 @@ use Rattle.is_proto.specs.Packets.{Packet}
 use Rattle.is_candidate.specs.Candidates.{CandidateRecord}
 use Rattle.is_stun.specs.declared.header.Class.TheVariants.{Request, Success}
 use Rattle.is_rules.specs.declared.emitted.Path.{Path}
-use Rattle.is_rules.specs.Answers.{goes_back}
-use Rattle.is_theorems.specs.AskedCourses.{Ends}
+use Rattle.is_rules.specs.Answers.{is_reverse}
+use Rattle.is_theorems.specs.AskedExecutions.{Ends}
 use Rattle.is_theorems.specs.Asking.{AreNominatedOn}
 use Rattle.is_theorems.specs.Delivery.{KnowEachOther, IsReachedBy, Sends}
 use Rattle.is_rules.specs.Issuing.{via_out}
@@ -93,7 +93,7 @@ module _ {H P : Type 0} where
   -- the check is pending. The side and the one that received the check still know each other.
   pub record IsReturned (mac : H → List ℕ → List ℕ → List ℕ) (side : Side) (path over : Path) (all : List (Occurrence H P)) (k : HandedCheck mac side path over all) (reply : Packet) : Type 0 where
     pub via : Path
-    pub back : goes_back via path ≡ true
+    pub back : is_reverse via path ≡ true
     pub comes : Arrival side via reply k.comes.rest
     pub know : KnowEachOther mac (at side comes.handed.before) (at (other side) k.comes.handed.before)
     pub pending : StaysPending side path (k.comes.between ++ k.comes.handed ∷ comes.between)

@@ -5,7 +5,7 @@ use Rattle.is_proto.specs.Lists.{Has}
 use Rattle.is_candidate.specs.Candidates.{CandidateRecord}
 use Rattle.is_pair.specs.Pairs.{PairRecord}
 use Rattle.is_rules.specs.declared.emitted.Path.{Path}
-use Rattle.is_theorems.specs.AskedCourses.{AcceptsSuccessOn}
+use Rattle.is_theorems.specs.AskedExecutions.{AcceptsSuccessOn}
 use Rattle.is_theorems.specs.FirstTimeouts.{Suffices}
 use Rattle.is_theorems.specs.Reached.{IsInLine, IsLasting, nominations_ahead, selects}
 use Rattle.is_theorems.specs.ServedSoon.{IsServed}

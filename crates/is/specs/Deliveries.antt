@@ -1,5 +1,5 @@
 -- Deliveries in the network model: an in-flight packet reaches a side, and what a side does and selects at an entry of the log.
-use Rattle.std.specs.Prelude.{◌≡◌, ℕ, true, false, Some, is_some, slice_get}
+use Rattle.std.specs.Prelude.{◌≡◌, ℕ, Bool, true, false, Some, is_some, slice_get}
 use Rattle.is_proto.specs.Packets.{Packet}
 use Rattle.is_rules.specs.declared.emitted.Path.{Path}
 use Rattle.is_rules.specs.Effects.{last_of}
@@ -16,9 +16,9 @@ MakesPolls side _ = Unit {0}
 
 -- The side makes only calls that may come between two `handle_timeout` calls of a round (`is_in_round`): polls, candidates that are
 -- added, and settings that change neither pairs nor the timing of their checks. Whatever it receives and whatever the other side does.
-abbrev pub MakesInRound : {P : Type 0} → Side → Event P → Type 0
-MakesInRound side (Call s c) = s ≡ side → is_in_round c ≡ true
-MakesInRound side _ = Unit {0}
+abbrev pub MakesInRound : {P : Type 0} → (modern : Bool) → Side → Event P → Type 0
+MakesInRound modern side (Call s c) = s ≡ side → is_in_round modern c ≡ true
+MakesInRound modern side _ = Unit {0}
 
 -- The side selected a path.
 abbrev pub SelectsPath : {P : Type 0} → Side → LoggedEvent P → Type 0

@@ -8,10 +8,10 @@ use Rattle.is.specs.declared.world_events.WorldEntry.{WorldEntry}
 use Rattle.is.specs.declared.traces.Mark.{Mark}
 use Rattle.is.specs.declared.traces.Mark.TheVariants.{Taken, Issued, Cleared}
 use Rattle.is.specs.declared.traces.Trace.{Trace}
-use Rattle.is.specs.Traces.{Issues, TakesMessage, SelectsPathAt, IsAt, IsNoLater}
+use Rattle.is.specs.Traces.{Issues, HandlesMessage, SelectsPathAt, IsAt, IsNoLater}
 
 abbrev pub IsMarked : Mark → WorldEntry → Type 0
-IsMarked (Taken side class id) e = TakesMessage side class id e
+IsMarked (Taken side class id) e = HandlesMessage side class id e
 IsMarked (Issued side class id) e = (path : Path) × Issues side path class id e
 IsMarked (Cleared side) e = (e.side ≡ Some side) × (e.clear ≡ true)
 

@@ -12,7 +12,7 @@ use Rattle.is.specs.declared.world_events.Side.{Side}
 use Rattle.is.specs.AcceptedNominationsIn.{Occurrence, occurrences_in}
 use Rattle.is.specs.Deliveries.{MakesInRound, SelectsPath}
 use Rattle.is.specs.Punctual.{IsTimed}
-use Rattle.is.specs.Selections.{SideRound, all_of, AreKept, MayEndInRounds, SufficeForPair, RoundChecks, IsAnsweredInTime}
+use Rattle.is.specs.Selections.{SideRound, all_of, begins_modern, AreKept, MayEndInRounds, SufficeForPair, RoundChecks, IsAnsweredInTime}
 use Rattle.is.specs.World.{WorldRecord, Streams, Call, LoggedEvent, WorldRun, at, other}
 use Rattle.is.specs.WorldRoles.{IsNewAgent}
 
@@ -61,7 +61,7 @@ module _ {H P : Type 0} where
     pub enough : SufficeForPair side by pair first later
     pub timed : IsTimed side pace delay first later
     pub calls : (r : SideRound H P) → Has more r → r.timeout.entry.event ≡ Call side (agent.HandleTimeout r.now)
-    pub between : (r : SideRound H P) → Has more r → (x : Occurrence H P) → Has r.following x → MakesInRound side x.entry.event
+    pub between : (r : SideRound H P) → Has more r → (x : Occurrence H P) → Has r.following x → MakesInRound (begins_modern side first) side x.entry.event
 
   -- all of the rounds
   abbrev pub rounds_in : {created : WorldRecord H P} {all : List (Occurrence H P)} {side : Side} {pace delay : ℕ} → OpensInTime created all side pace delay → List (SideRound H P)

@@ -1,12 +1,13 @@
 -- How the controlling one of two agents selects a path: rounds that suffice for one of its pairs, and a check that is answered while
 -- it is pending (RFC 8445, sections 6.1.4.2, 7.2.5.3 and 8.1.1).
-use Rattle.std.specs.Prelude.{◌≡◌, ℕ, suc, ◌*◌, ◌<◌, ◌≤◌, ◌⊎◌, true, false, List, [], ◌∷◌, ◌++◌, length, Some}
+use Rattle.std.specs.Prelude.{◌≡◌, ℕ, suc, ◌*◌, ◌<◌, ◌≤◌, ◌⊎◌, Bool, true, false, List, [], ◌∷◌, ◌++◌, length, Some}
 use Rattle.is_proto.specs.Lists.{Has}
 use Rattle.is_proto.specs.Times.{MAX}
 use Rattle.is_proto.specs.Packets.{Packet}
 use Rattle.is_candidate.specs.Candidates.{CandidateRecord}
 use Rattle.is_pair.specs.Pairs.{PairRecord}
 use Rattle.is_stun.specs.declared.header.Class.TheVariants.{Request, Success}
+use Rattle.is_stun.specs.Timing.{is_modern}
 use Rattle.is_rules.specs.declared.emitted.Path.{Path}
 use Rattle.is_theorems.specs.Delivery.{Sends}
 use Rattle.is_rules.specs.Emitted.{issued_as}
@@ -46,17 +47,21 @@ state_after w (x ∷ rest) = state_after x.following rest
 module _ {H P : Type 0} where
   -- The `handle_timeout` call returns Ok. After it the side makes only calls that may come in a round (`MakesInRound`), so it may add
   -- candidates, whatever it receives and whatever the other side does.
-  pub record IsKept (side : Side) (r : SideRound H P) : Type 0 where
+  pub record IsKept (modern : Bool) (side : Side) (r : SideRound H P) : Type 0 where
     pub comes : r.timeout.entry.event ≡ Call side (agent.HandleTimeout r.now)
     pub done : r.timeout.entry.outcome.entry.answer ≡ agent.Done
     pub early : r.now < MAX
-    pub between : (x : Occurrence H P) → Has r.following x → MakesInRound side x.entry.event
+    pub between : (x : Occurrence H P) → Has r.following x → MakesInRound modern side x.entry.event
+
+  -- The side has the profile `Modern` when its rounds begin.
+  abbrev pub begins_modern : Side → (first : SideRound H P) → Bool
+  begins_modern side first = is_modern (at side first.timeout.before).timing
 
   -- Such rounds. The first `handle_timeout` call is no earlier than `by`, and the others are later.
   pub record AreKept (side : Side) (by : ℕ) (first : SideRound H P) (later : List (SideRound H P)) : Type 0 where
     pub from : by ≤ first.now
     pub late : (r : SideRound H P) → Has later r → by < r.now
-    pub kept : (r : SideRound H P) → Has (first ∷ later) r → IsKept side r
+    pub kept : (r : SideRound H P) → Has (first ∷ later) r → IsKept (begins_modern side first) side r
 
   -- In the rounds the side makes only polls besides its `handle_timeout` calls.
   abbrev pub MakesPollsIn : Side → List (SideRound H P) → Type 0

@@ -1,7 +1,7 @@
 -- Which function of a run makes a call.
 use Rattle.std.specs.Prelude.{Bool, true, false}
 use Rattle.is_rules.specs.Steps.{Call, SetControlTieBreaker, SetMaxCandidatePairs, SetMaxDiscovered, SetIceLite, SetRenomination, SetConsent, SetProfile, SetTimingAdvance, AddLocalCandidate, AddRemoteCandidate, InvalidateCandidate}
-use Rattle.is_rules.specs.Steps.{SetInitialStunRto, SetMaxStunRto, SetLiteTimeout, SetLocalPreference, SkipPairIds, ReceivePacket, HandleTimeout}
+use Rattle.is_rules.specs.Steps.{SetInitialStunRto, SetMaxStunRto, SetLiteTimeout, SetLocalPreference, SetControlling, SkipPairIds, ReceivePacket, HandleTimeout}
 
 -- a setting that takes any value
 abbrev pub is_plain_setting : {P : Type 0} → Call P → Bool
@@ -17,6 +17,7 @@ is_plain_setting (SetInitialStunRto _) = true
 is_plain_setting (SetMaxStunRto _) = true
 is_plain_setting (SetLiteTimeout _) = true
 is_plain_setting (SetLocalPreference _) = true
+is_plain_setting (SetControlling _) = true
 is_plain_setting (SkipPairIds _) = true
 is_plain_setting _ = false
 

@@ -19,8 +19,8 @@ abbrev pub Issues : Side → Path → Class → TransId → WorldEntry → Type 
 Issues side path class id e = (e.side ≡ Some side) × (e.issued ≡ Some record { path = path; class = class; id = id })
 
 -- A message of this class and ID was delivered to the side, and accepted.
-abbrev pub TakesMessage : Side → Class → TransId → WorldEntry → Type 0
-TakesMessage side class id e = (e.side ≡ Some side) × (e.answer ≡ answer.Flag true) × (e.moved ≡ Some (class, id))
+abbrev pub HandlesMessage : Side → Class → TransId → WorldEntry → Type 0
+HandlesMessage side class id e = (e.side ≡ Some side) × (e.answer ≡ answer.Flag true) × (e.moved ≡ Some (class, id))
 
 -- The side selected the path, the one at this index of the entry's paths.
 abbrev pub SelectsPathAt : Side → Path → ℕ → WorldEntry → Type 0
@@ -39,9 +39,9 @@ IsUncleared es side first end = (n : ℕ) (e : WorldEntry) → first ≤ n → n
 -- The check with this ID, which the side had sent, reached the other agent. That agent issued a success response, and the
 -- response was received and accepted; all of this before the entry `end`.
 pub record HasAnswer (es : List WorldEntry) (side : Side) (id : TransId) (end : ℕ) (t : Trace) : Type 0 where
-  pub delivery : IsAt es t.delivered (TakesMessage (other side) class.Request id)
+  pub delivery : IsAt es t.delivered (HandlesMessage (other side) class.Request id)
   pub reply : IsAt es t.replied (λ e. (reply_path : Path) × Issues (other side) reply_path class.Success id e)
-  pub answer : IsAt es t.answered (TakesMessage side class.Success id)
+  pub answer : IsAt es t.answered (HandlesMessage side class.Success id)
   pub in_order : (t.checked < t.delivered) × (t.delivered ≤ t.replied) × (t.replied < t.answered) × (t.answered < end)
 
 -- The side sent a check on the path, which got such a response, and the side did not clear its pairs since then.

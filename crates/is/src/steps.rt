@@ -123,7 +123,7 @@ fn accepts_bytes<H: Sha1HmacProvider + Drop, P: LocalPreference>(
 }
 
 /// Bytes that the other agent of a network model did not send. The agent receives them only if it does not accept them.
-pub(crate) fn take_stray<H: Sha1HmacProvider + Drop, P: LocalPreference>(
+pub(crate) fn handle_stray<H: Sha1HmacProvider + Drop, P: LocalPreference>(
     agent: &mut Agent<H, P>,
     number: usize,
     now: Instant,
@@ -193,6 +193,7 @@ fn take_setting<H: Sha1HmacProvider + Drop, P: LocalPreference>(
         AgentCall::SetMaxStunRto(rto) => agent.set_max_stun_rto(rto),
         AgentCall::SetLiteTimeout(timeout) => agent.set_lite_timeout(timeout),
         AgentCall::SetLocalPreference(object) => agent.set_local_preference(object),
+        AgentCall::SetControlling(role) => agent.set_controlling(role),
         AgentCall::SkipPairIds(least) => agent.skip_pair_ids(least),
         _ => unreachable!(),
     }
@@ -210,7 +211,6 @@ fn take_quiet<H: Sha1HmacProvider + Drop, P: LocalPreference>(
 {
     match call {
         AgentCall::SetMtu(mtu) => done_or_rejected(agent.set_mtu(mtu)),
-        AgentCall::SetControlling(role) => done_or_rejected(agent.set_controlling(role)),
         AgentCall::SetMaxStunRetransmits(limit) => take_limit(agent, limit),
         AgentCall::SetLocalCredentials(own) => done_or_rejected(agent.set_local_credentials(own)),
         AgentCall::SetRemoteCredentials(far) => done_or_rejected(agent.set_remote_credentials(far)),
@@ -265,8 +265,8 @@ fn take_lost<H: Sha1HmacProvider + Drop, P: LocalPreference>(
         (record_of agent.new) s }
     ensures numbered { result.number ≡ number }
 {
-    let answer = flag_or_rejected(agent.invalidate_candidate(candidate));
-    telling(agent, number, answer)
+    let found = agent.invalidate_candidate(candidate);
+    telling(agent, number, Answer::Flag(found))
 }
 
 /// One call, with its number.

@@ -68,7 +68,7 @@ fn member<H: Sha1HmacProvider + Drop, P: LocalPreference>(
     ensures { MakesMember spec (made result) }
 {
     let mut agent = Agent::with_hmac(alloc, spec.creds, spec.provider, spec.tie_breaker)?;
-    agent.set_controlling(spec.controlling)?;
+    agent.set_controlling(spec.controlling);
     Ok(agent)
 }
 

@@ -8,7 +8,7 @@ ghost use Rattle.is.specs.World as world;
 ghost use Rattle.is.specs.World.{Streams, sources, world_of, in_flight_of, event_view, outcome_of, roles_of, Happens, TakesTurn, PolledInto};
 
 use crate::calls::{AgentCall, Answer, Entry};
-use crate::steps::{quiet, step, take_packet, take_stray};
+use crate::steps::{handle_stray, quiet, step, take_packet};
 use crate::world::TwoAgents;
 use crate::world_events::{
     InFlight, Side, TwoAgentsEvent, WorldEntry, emitted_as, in_world, is_clearing, is_done, read_as,
@@ -182,11 +182,11 @@ impl<H: Sha1HmacProvider + Drop, P: LocalPreference> TwoAgents<H, P> {
     {
         match side {
             Side::A => {
-                let entry = take_stray(&mut self.a, number, now, path, bytes);
+                let entry = handle_stray(&mut self.a, number, now, path, bytes);
                 self.emitted(entry, Some(Side::A), false, None)
             }
             Side::B => {
-                let entry = take_stray(&mut self.b, number, now, path, bytes);
+                let entry = handle_stray(&mut self.b, number, now, path, bytes);
                 self.emitted(entry, Some(Side::B), false, None)
             }
         }

@@ -6,15 +6,17 @@ use is_candidate::LocalPreference;
 use is_proto::Sha1HmacProvider;
 use is_theorems::exchanging::{checks_ask, exchanges_succeed_later};
 use is_theorems::reaching::{
-    courses_check_from_due, courses_reach_from_due, courses_reach_served, courses_reach_unanswered,
-    served_courses_reach,
+    executions_check_from_due, executions_reach_from_due, executions_reach_served,
+    executions_reach_unanswered, served_executions_reach,
 };
 use is_theorems::renominating::{
     greatest_are_last, last_accepted_nominations_are_last, nominated_are_last,
 };
 use is_theorems::roles::conflicts_settle;
 use is_theorems::selecting::{accepted_nominations_are_selected, successes_select};
-use is_theorems::timing::{courses_reach_in_time, courses_select_in_time, served_reach_in_time};
+use is_theorems::timing::{
+    executions_reach_in_time, executions_select_in_time, served_reach_in_time,
+};
 use is_theorems::transitions::{fresh_is_sound, path_effect, role_effect};
 
 /// Of two agents over any network, the one with the greater tie-breaker keeps its role.
@@ -64,9 +66,9 @@ pub(crate) fn delivered_rounds_select<H: Sha1HmacProvider, P: LocalPreference>()
     path_effect::<H, P>();
     fresh_is_sound::<H, P>();
     exchanges_succeed_later::<H, P>();
-    courses_check_from_due::<H, P>();
-    courses_reach_unanswered::<H, P>();
-    courses_reach_served::<H, P>();
+    executions_check_from_due::<H, P>();
+    executions_reach_unanswered::<H, P>();
+    executions_reach_served::<H, P>();
     successes_select::<H, P>();
 }
 
@@ -93,8 +95,8 @@ pub(crate) fn both_connect<H: Sha1HmacProvider, P: LocalPreference>()
     exchanges_succeed_later::<H, P>();
     checks_ask::<H, P>();
     accepted_nominations_are_selected::<H, P>();
-    courses_reach_from_due::<H, P>();
-    served_courses_reach::<H, P>();
+    executions_reach_from_due::<H, P>();
+    served_executions_reach::<H, P>();
 }
 
 /// If the caller of one of two agents is punctual, and k rounds after the first suffice for a pair on the path, it checks the path at most
@@ -102,7 +104,7 @@ pub(crate) fn both_connect<H: Sha1HmacProvider, P: LocalPreference>()
 pub(crate) fn checks_come_in_time<H: Sha1HmacProvider, P: LocalPreference>()
     ensures { InTimeTheorem H.mac P.answers }
 {
-    courses_reach_in_time::<H, P>();
+    executions_reach_in_time::<H, P>();
     served_reach_in_time::<H, P>();
 }
 
@@ -116,7 +118,7 @@ pub(crate) fn selections_come_in_time<H: Sha1HmacProvider, P: LocalPreference>()
     fresh_is_sound::<H, P>();
     exchanges_succeed_later::<H, P>();
     successes_select::<H, P>();
-    courses_select_in_time::<H, P>();
+    executions_select_in_time::<H, P>();
 }
 
 /// In whatever roles two new agents begin, if the network delivers on one path of each: the controlling one selects a path once its
@@ -131,11 +133,11 @@ pub(crate) fn both_select<H: Sha1HmacProvider, P: LocalPreference>()
     checks_ask::<H, P>();
     exchanges_succeed_later::<H, P>();
     accepted_nominations_are_selected::<H, P>();
-    courses_check_from_due::<H, P>();
-    courses_reach_from_due::<H, P>();
-    served_courses_reach::<H, P>();
-    courses_reach_unanswered::<H, P>();
-    courses_reach_served::<H, P>();
+    executions_check_from_due::<H, P>();
+    executions_reach_from_due::<H, P>();
+    served_executions_reach::<H, P>();
+    executions_reach_unanswered::<H, P>();
+    executions_reach_served::<H, P>();
     successes_select::<H, P>();
 }
 

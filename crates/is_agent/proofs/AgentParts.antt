@@ -7,4 +7,5 @@ pub mod ReceivedResponses
 pub mod UsernameLength
 pub mod PairsInLists
 pub mod SelectedAgain
+pub mod LiveCandidates
 pub mod RequestsWithoutResponse

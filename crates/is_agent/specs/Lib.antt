@@ -6,6 +6,7 @@ pub mod Listed
 pub mod Ready
 pub mod Room
 pub mod Keys
+pub mod Live
 pub mod Removed
 pub mod Polls
 pub mod Rejecting

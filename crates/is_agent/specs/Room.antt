@@ -9,24 +9,30 @@ use Rattle.is_rules.specs.Checking.{username_between}
 use Rattle.is_rules.specs.Due.{may_fall_due}
 use Rattle.is_rules.specs.Agent.{AgentRecord}
 use Rattle.is_rules.specs.Settling.{settles, has_selected}
+use Rattle.is_agent.specs.Live.{needed_room}
 use Rattle.is_agent.specs.View.{record_of}
 
 module _ {H P : Type 0} where
-  -- this many events more
+  -- this many events more, beyond the room that is kept
   abbrev pub HasEventRoom : ℕ → Agent H P → Type 0
-  HasEventRoom n a = deque_len a.events + n ≤ deque_capacity a.events
+  HasEventRoom n a = deque_len a.events + a.kept_room + n ≤ deque_capacity a.events
+
+  -- One more candidate can be invalidated.
+  abbrev pub HasCandidateRoom : Agent H P → Type 0
+  HasCandidateRoom a = needed_room a.local.items a.remote.items + 2 ≤ a.kept_room
 
   -- one more source, and this many events
-  abbrev pub HasNewsRoom : ℕ → Agent H P → Type 0
-  HasNewsRoom n a = (vec_len a.discovered_sources < vec_capacity a.discovered_sources) × HasEventRoom n a
+  abbrev pub HasDiscoveryRoom : ℕ → Agent H P → Type 0
+  HasDiscoveryRoom n a = (vec_len a.discovered_sources < vec_capacity a.discovered_sources) × HasEventRoom n a
 
   -- so many events at most took of the room: where so many and n more fitted before, n more fit
   abbrev pub UsesEvents : ℕ → Agent H P → Agent H P → Type 0
-  UsesEvents used old new = deque_len new.events + deque_capacity old.events ≤ deque_len old.events + deque_capacity new.events + used
+  UsesEvents used old new =
+      deque_len new.events + new.kept_room + deque_capacity old.events ≤ deque_len old.events + old.kept_room + deque_capacity new.events + used
 
   -- and no source did
-  abbrev pub UsesNews : ℕ → Agent H P → Agent H P → Type 0
-  UsesNews used old new = (vec_len new.discovered_sources + vec_capacity old.discovered_sources ≤ vec_len old.discovered_sources + vec_capacity new.discovered_sources) × UsesEvents used old new
+  abbrev pub UsesDiscoveryRoom : ℕ → Agent H P → Agent H P → Type 0
+  UsesDiscoveryRoom used old new = (vec_len new.discovered_sources + vec_capacity old.discovered_sources ≤ vec_len old.discovered_sources + vec_capacity new.discovered_sources) × UsesEvents used old new
 
   -- one more packet
   abbrev pub HasPacketRoom : Agent H P → Type 0
@@ -34,11 +40,11 @@ module _ {H P : Type 0} where
 
   -- one more candidate, pair and packet
   abbrev pub HasServingRoom : Agent H P → Type 0
-  HasServingRoom a = (vec_len a.remote < vec_capacity a.remote) × HasRoom 1 a.pairs × HasPacketRoom a
+  HasServingRoom a = (vec_len a.remote < vec_capacity a.remote) × HasRoom 1 a.pairs × HasPacketRoom a × HasCandidateRoom a
 
   -- one more local candidate, and this many pairs
   abbrev pub HasLocalRoom : ℕ → Agent H P → Type 0
-  HasLocalRoom pairs a = (vec_len a.local < vec_capacity a.local) × HasRoom pairs a.pairs
+  HasLocalRoom pairs a = (vec_len a.local < vec_capacity a.local) × HasRoom pairs a.pairs × HasCandidateRoom a
 
   -- this many pairs more
   abbrev pub HasPairRoom : ℕ → Agent H P → Type 0
@@ -50,7 +56,7 @@ module _ {H P : Type 0} where
 
   -- one more remote candidate, and this many pairs
   abbrev pub HasFormingRoom : ℕ → Agent H P → Type 0
-  HasFormingRoom pairs a = (vec_len a.remote < vec_capacity a.remote) × HasRoom pairs a.pairs
+  HasFormingRoom pairs a = (vec_len a.remote < vec_capacity a.remote) × HasRoom pairs a.pairs × HasCandidateRoom a
 
   -- if the peer is known, the USERNAME of a check
   abbrev pub HasUsername : Agent H P → Type 0

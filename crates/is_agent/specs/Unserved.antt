@@ -15,7 +15,7 @@ use Rattle.is_rules.specs.Agent.{AgentRecord}
 use Rattle.is_rules.specs.Places.{local_place}
 use Rattle.is_rules.specs.Request.{RequestRecord, request_in}
 use Rattle.is_rules.specs.Roles.{conflict_of}
-use Rattle.is_rules.specs.Serving.{Chooses, TakesRequest, is_misled}
+use Rattle.is_rules.specs.Serving.{Chooses, HandlesRequest, is_misled}
 use Rattle.is_agent.specs.declared.unserved.Unserved.{Unserved}
 use Rattle.is_agent.specs.declared.unserved.Unserved.TheVariants.{Early, OtherDestination, UseCandidate, SenderInvalidated, SendersAtLimit, LocalInvalidated}
 
@@ -66,7 +66,7 @@ module _ {H P : Type 0} where
   -- a response to the request is issued if and only if there is no such reason
   abbrev pub ReportsResponse : (H → List ℕ → List ℕ → List ℕ) → AgentRecord H P → RequestRecord → Option Unserved → Type 0
   ReportsResponse mac a q why =
-      HasOneReason a q → (emitted : Emitted) → (new : AgentRecord H P) → TakesRequest mac q a emitted new → is_some emitted.issued ≡ not (is_some why)
+      HasOneReason a q → (emitted : Emitted) → (new : AgentRecord H P) → HandlesRequest mac q a emitted new → is_some emitted.issued ≡ not (is_some why)
 
   abbrev pub IsAcceptedRequest : (H → List ℕ → List ℕ → List ℕ) → AgentRecord H P → Path → Message → Type 0
   IsAcceptedRequest mac a path m = (m.class ≡ Request) × IsAcceptedOn mac a path m

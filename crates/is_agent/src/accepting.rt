@@ -6,10 +6,10 @@ ghost use Rattle.is_stun.specs.Integrity.{IsSignedBy};
 ghost use Rattle.is_stun.specs.MessageView.{message_view};
 ghost use Rattle.is_agent.specs.View.{record_of, emitted_of};
 ghost use Rattle.is_rules.specs.RequestView.{request_view, packet_path};
-ghost use Rattle.is_rules.specs.Serving.{TakesRequest, MayFailAtArrival};
+ghost use Rattle.is_rules.specs.Serving.{HandlesRequest, MayFailAtArrival};
 ghost use Rattle.is_rules.specs.Answers.{keeps_check_on};
 ghost use Rattle.is_agent.specs.Ready.{NamesPeer};
-ghost use Rattle.is_agent.specs.Room.{HasNewsRoom};
+ghost use Rattle.is_agent.specs.Room.{HasDiscoveryRoom};
 ghost use Rattle.is_rules.specs.Limit.{is_crowded};
 ghost use Rattle.is_rules.specs.Accepting.{IsAddressed, IsAcceptedAs, IsAccepted, IsAcceptedOn, Arrives, reports_none, discovered_emitted, HandlesPacket};
 
@@ -106,7 +106,7 @@ impl<H: Sha1HmacProvider + Drop, P: LocalPreference> Agent<H, P> {
     /// Emits `DiscoveredRecv` for the source of a packet of this class, if it was not emitted for it since the last ICE restart.
     /// With a limit on discovered candidates, it is emitted only while fewer events wait to be polled.
     fn emit_discovered(&mut self, class: Class, emitted: &Emitted, path: &Path)
-        requires { HasNewsRoom 1 self.old }
+        requires { HasDiscoveryRoom 1 self.old }
         ensures { record_of self.new ≡ discovered_emitted class emitted.now path.now (record_of self.old) }
     {
         if is_discovered(&self.discovered_sources, path)
@@ -165,15 +165,15 @@ impl<H: Sha1HmacProvider + Drop, P: LocalPreference> Agent<H, P> {
         ensures arrives { Arrives (IsAcceptedOn H.mac (record_of self.old) (packet_path packet.now) (message_view packet.now.message)) H.mac
             (message_view packet.now.message).class now.0 (record_of self.old) (packet_path packet.now) (message_view packet.now.message) result
             (record_of self.new) }
-        ensures room { IfOk result (λ taken. IfSome taken (λ _. HasNewsRoom 1 self.new)) }
+        ensures room { IfOk result (λ taken. IfSome taken (λ _. HasDiscoveryRoom 1 self.new)) }
     {
         if packet.message.method() != Method::Binding {
             return Ok(None);
         }
         match packet.message.class() {
             Class::Request => self.take_request_packet(now, packet),
-            Class::Success => self.take_success_packet(now, packet),
-            Class::Failure => self.take_failure_packet(packet),
+            Class::Success => self.handle_success_packet(now, packet),
+            Class::Failure => self.handle_failure_packet(packet),
             _ => Ok(None),
         }
     }
@@ -186,7 +186,7 @@ impl<H: Sha1HmacProvider + Drop, P: LocalPreference> Agent<H, P> {
         ensures arrives { Arrives (IsAcceptedAs H.mac classes.Request (keeps_check_on (record_of self.old) (packet_path packet.now)
             (message_view packet.now.message).id) (record_of self.old) (message_view packet.now.message)) H.mac classes.Request now.0
             (record_of self.old) (packet_path packet.now) (message_view packet.now.message) result (record_of self.new) }
-        ensures room { IfOk result (λ taken. IfSome taken (λ _. HasNewsRoom 1 self.new)) }
+        ensures room { IfOk result (λ taken. IfSome taken (λ _. HasDiscoveryRoom 1 self.new)) }
     {
         if !self.accepts_request(&packet.message) {
             return Ok(None);
@@ -198,8 +198,8 @@ impl<H: Sha1HmacProvider + Drop, P: LocalPreference> Agent<H, P> {
     /// Serves a request, or queues it until the remote credentials are known.
     fn take_request(&mut self, request: &Request<'_>) -> Result<Emitted, IceError>
         requires { NamesPeer (record_of self.old) (request_view request.now) }
-        ensures taken { IfOk result (λ emitted. TakesRequest H.mac (request_view request.now) (record_of self.old) emitted (record_of self.new)) }
-        ensures room { OnOk result (HasNewsRoom 1 self.new) }
+        ensures taken { IfOk result (λ emitted. HandlesRequest H.mac (request_view request.now) (record_of self.old) emitted (record_of self.new)) }
+        ensures room { OnOk result (HasDiscoveryRoom 1 self.new) }
         ensures rejected { IfErr result (λ error. MayFailAtArrival (record_of self.old) (request_view request.now) error
             × (record_of self.new ≡ record_of self.old)) }
     {
@@ -209,7 +209,7 @@ impl<H: Sha1HmacProvider + Drop, P: LocalPreference> Agent<H, P> {
         }
     }
 
-    fn take_success_packet(
+    fn handle_success_packet(
         &mut self,
         now: Instant,
         packet: &StunPacket<'_>,
@@ -217,28 +217,31 @@ impl<H: Sha1HmacProvider + Drop, P: LocalPreference> Agent<H, P> {
         ensures arrives { Arrives (IsAcceptedAs H.mac classes.Success (keeps_check_on (record_of self.old) (packet_path packet.now)
             (message_view packet.now.message).id) (record_of self.old) (message_view packet.now.message)) H.mac classes.Success now.0
             (record_of self.old) (packet_path packet.now) (message_view packet.now.message) result (record_of self.new) }
-        ensures room { IfOk result (λ taken. IfSome taken (λ _. HasNewsRoom 1 self.new)) }
+        ensures room { IfOk result (λ taken. IfSome taken (λ _. HasDiscoveryRoom 1 self.new)) }
     {
         let path = packet_path(packet);
         let Some(number) = self.awaited_pair(&path, &packet.message) else {
             return Ok(None);
         };
-        let emitted = self.take_success(number, now, &path, &packet.message)?;
+        let emitted = self.handle_success(number, now, &path, &packet.message)?;
         Ok(Some(emitted))
     }
 
-    fn take_failure_packet(&mut self, packet: &StunPacket<'_>) -> Result<Option<Emitted>, IceError>
+    fn handle_failure_packet(
+        &mut self,
+        packet: &StunPacket<'_>,
+    ) -> Result<Option<Emitted>, IceError>
         ensures arrives { (now : ℕ) → Arrives (IsAcceptedAs H.mac classes.Failure (keeps_check_on (record_of self.old) (packet_path packet.now)
             (message_view packet.now.message).id) (record_of self.old) (message_view packet.now.message)) H.mac classes.Failure now
             (record_of self.old) (packet_path packet.now) (message_view packet.now.message) result (record_of self.new) }
-        ensures room { IfOk result (λ taken. IfSome taken (λ _. HasNewsRoom 1 self.new)) }
+        ensures room { IfOk result (λ taken. IfSome taken (λ _. HasDiscoveryRoom 1 self.new)) }
     {
         let path = packet_path(packet);
         let Some(number) = self.awaited_pair(&path, &packet.message) else {
             return Ok(None);
         };
-        self.take_source_room()?;
-        self.take_failure(number, &path, &packet.message);
+        self.reserve_source_room()?;
+        self.handle_failure(number, &path, &packet.message);
         Ok(Some(Emitted::nothing()))
     }
 }

@@ -1,12 +1,14 @@
 //! The agent, and its constructors.
 
-ghost use Rattle.std.specs.Prelude.{◌≡◌, ◌<◌, None, true, false, IfOk};
+ghost use Rattle.std.specs.Prelude.{◌≡◌, ◌+◌, ◌<◌, ◌≤◌, None, true, false, IfOk};
+ghost use Rattle.std.specs.VecDeque.{deque_len, deque_capacity};
 ghost use Rattle.is_rules.specs.Fitting.{are_too_long};
 ghost use Rattle.is_rules.specs.Kept.{NoneTooHigh, are_placed};
 ghost use Rattle.is_stun.specs.Timing.{consent_of};
 ghost use Rattle.is_pair.specs.Multiset.{are_below};
 ghost use Rattle.is_pair.specs.Checklists.{multiset_of};
 ghost use Rattle.is_agent.specs.Keys.{IsKeyOf, peer_pass};
+ghost use Rattle.is_agent.specs.Live.{needed_room};
 
 use is_candidate::{Candidate, LocalPreference};
 use is_pair::checklist::Checklist;
@@ -109,6 +111,8 @@ pub struct Agent<H, P> {
     pub(crate) last_time: Option<Instant>,
     pub(crate) packets: VecDeque<Transmit>,
     pub(crate) events: VecDeque<IceAgentEvent>,
+    /// For so many events room is kept beyond those that wait: invalidating candidates emits them, which takes no memory.
+    pub(crate) kept_room: usize,
     /// The sources for which `DiscoveredRecv` was emitted.
     pub(crate) discovered_sources: Vec<Source>,
     pub(crate) stats: IceAgentStats,
@@ -127,6 +131,10 @@ pub struct Agent<H, P> {
     ghost numbered: { are_below next_number (multiset_of pairs) ≡ true },
     // the indices of each pair are in the lists
     ghost placed: { are_placed local.items remote.items (multiset_of pairs) ≡ true },
+    // there is that room
+    ghost room_kept: { deque_len events + kept_room ≤ deque_capacity events },
+    // each candidate that is not discarded can be invalidated
+    ghost room_suffices: { needed_room local.items remote.items ≤ kept_room },
 }
 
 impl<P: LocalPreference> Agent<DefaultSha1HmacProvider, P> {
@@ -213,6 +221,7 @@ impl<H: Sha1HmacProvider + Drop, P: LocalPreference> Agent<H, P> {
             last_time: None,
             packets: VecDeque::new(alloc),
             events: VecDeque::new(alloc),
+            kept_room: 0,
             discovered_sources: Vec::new(alloc),
             stats: IceAgentStats::default(),
             emitted: Emitted::nothing(),

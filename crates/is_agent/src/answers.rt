@@ -12,13 +12,14 @@ ghost use Rattle.is_stun.specs.Integrity.{IsSignedBy};
 ghost use Rattle.is_stun.specs.MessageView.{message_view};
 ghost use Rattle.is_rules.specs.Emitted.{nothing_emitted};
 ghost use Rattle.is_agent.specs.View.{record_of};
-ghost use Rattle.is_agent.specs.Room.{HasEventRoom, HasNewsRoom, UsesNews};
+ghost use Rattle.is_agent.specs.Room.{HasEventRoom, HasCandidateRoom, HasDiscoveryRoom, UsesDiscoveryRoom};
 ghost use Rattle.is_rules.specs.Due.{KeepsCheckOn, IsRecorded, IsSentUnder};
 ghost use Rattle.is_rules.specs.Accepting.{IsAwaited};
 ghost use Rattle.is_rules.specs.Answers.{is_left_out, is_role_conflict, keeps_check_on, joined_by, local_with, mapped_candidate};
-ghost use Rattle.is_rules.specs.Answers.{error_noted, success_counted, Concludes, LeavesRole, TakesSuccess, TakesFailure};
+ghost use Rattle.is_rules.specs.Answers.{error_noted, success_counted, Concludes, LeavesRole, HandlesSuccess, HandlesFailure};
 
 use crate::agent::{Agent, sides};
+use crate::room::{reserve_candidate, reserve_events};
 use is_candidate::candidate::making::peer_reflexive;
 use is_candidate::{Candidate, LocalPreference};
 use is_proto::{Instant, Sha1HmacProvider, reserve_one};
@@ -124,14 +125,16 @@ impl<H: Sha1HmacProvider + Drop, P: LocalPreference> Agent<H, P> {
     }
 
     /// Reserves capacity for what a success response can add: a local candidate, a source, and three events.
-    fn take_success_room(&mut self) -> Result<(), AllocError>
+    fn reserve_success_room(&mut self) -> Result<(), AllocError>
         ensures record { record_of self.new ≡ record_of self.old }
         ensures local { OnOk result (vec_len self.new.local < vec_capacity self.new.local) }
-        ensures news { OnOk result (HasNewsRoom 3 self.new) }
+        ensures candidate { OnOk result (HasCandidateRoom self.new) }
+        ensures discovery { OnOk result (HasDiscoveryRoom 3 self.new) }
     {
-        reserve_one(&mut self.local)?;
+        self.keep_room()?;
+        reserve_candidate(&mut self.local)?;
         reserve_one(&mut self.discovered_sources)?;
-        self.events.reserve(3)?;
+        reserve_events(&mut self.events, self.kept_room, 3)?;
         Ok(())
     }
 
@@ -140,8 +143,9 @@ impl<H: Sha1HmacProvider + Drop, P: LocalPreference> Agent<H, P> {
         requires kept { keeps id.0 number (record_of self.old).pairs ≡ true }
         requires low { IfSome mapped (λ c. candidate_priority c < TOO_HIGH) }
         requires local { vec_len self.old.local < vec_capacity self.old.local }
+        requires candidate { HasCandidateRoom self.old }
         ensures records { IsRecorded number now.0 id.0 (joined_by mapped self.old.local.items) (record_of self.old) (record_of self.new) }
-        ensures news { UsesNews 0 self.old self.new }
+        ensures discovery { UsesDiscoveryRoom 0 self.old self.new }
     {
         self.pairs.record_binding_response(number, now, id);
         join(&mut self.local, mapped);
@@ -152,7 +156,7 @@ impl<H: Sha1HmacProvider + Drop, P: LocalPreference> Agent<H, P> {
     fn conclude(&mut self, now: Instant) -> Emitted
         requires room { HasEventRoom 2 self.old }
         ensures concludes { Concludes now.0 (record_of self.old) result (record_of self.new) }
-        ensures news { UsesNews 2 self.old self.new }
+        ensures discovery { UsesDiscoveryRoom 2 self.old self.new }
     {
         let path = self.evaluate_nomination();
         self.evaluate_state(now);
@@ -161,7 +165,7 @@ impl<H: Sha1HmacProvider + Drop, P: LocalPreference> Agent<H, P> {
 
     /// The pair with this number records the success response, the mapped address is added as a candidate if it is unknown
     /// and the limit allows it, and nomination and state are evaluated.
-    pub(crate) fn take_success(
+    pub(crate) fn handle_success(
         &mut self,
         number: u64,
         now: Instant,
@@ -169,14 +173,14 @@ impl<H: Sha1HmacProvider + Drop, P: LocalPreference> Agent<H, P> {
         message: &StunMessage<'_>,
     ) -> Result<Emitted, AllocError>
         requires kept { KeepsCheckOn (record_of self.old) path.now (message_view message.now).id number }
-        ensures taken { IfOk result (λ emitted. TakesSuccess now.0 (record_of self.old) path.now (message_view message.now) emitted (record_of self.new)) }
-        ensures room { OnOk result (HasNewsRoom 1 self.new) }
+        ensures taken { IfOk result (λ emitted. HandlesSuccess now.0 (record_of self.old) path.now (message_view message.now) emitted (record_of self.new)) }
+        ensures room { OnOk result (HasDiscoveryRoom 1 self.new) }
         ensures rejected { IfErr result (λ _. record_of self.new ≡ record_of self.old) }
     {
         self.pairs.numbers_rise();
         let l = self.local_place_of(number);
         let mapped = self.new_mapped_candidate(l, message.mapped_address())?;
-        self.take_success_room()?;
+        self.reserve_success_room()?;
         self.record(number, now, message.trans_id(), mapped);
         Ok(self.conclude(now))
     }
@@ -202,7 +206,7 @@ impl<H: Sha1HmacProvider + Drop, P: LocalPreference> Agent<H, P> {
         requires kept { IfSome (pair_numbered number (record_of self.old).pairs) (λ p. IsTrue (is_kept (message_view message.now).id p.checks)) }
         ensures leaves { IfSome (pair_numbered number (record_of self.old).pairs) (λ p. LeavesRole p (message_view message.now)
             (record_of self.old) nothing_emitted (record_of self.new)) }
-        ensures news { UsesNews 0 self.old self.new }
+        ensures discovery { UsesDiscoveryRoom 0 self.old self.new }
     {
         let present = self.is_of_present_role(number, message.trans_id());
         let keeps = self.keeps_role();
@@ -214,7 +218,7 @@ impl<H: Sha1HmacProvider + Drop, P: LocalPreference> Agent<H, P> {
     /// The pair with this number keeps the code of the error response.
     fn note_error(&mut self, number: u64, message: &StunMessage<'_>)
         ensures noted { record_of self.new ≡ error_noted number (message_view message.now) (record_of self.old) }
-        ensures news { UsesNews 0 self.old self.new }
+        ensures discovery { UsesDiscoveryRoom 0 self.old self.new }
     {
         if let Some((code, _)) = message.error_code() {
             self.pairs.note_error(number, code);
@@ -222,10 +226,10 @@ impl<H: Sha1HmacProvider + Drop, P: LocalPreference> Agent<H, P> {
     }
 
     /// The pair with this number, on the reverse of whose path the error response arrived, keeps its code. Code 487 may switch the role.
-    pub(crate) fn take_failure(&mut self, number: u64, path: &Path, message: &StunMessage<'_>)
+    pub(crate) fn handle_failure(&mut self, number: u64, path: &Path, message: &StunMessage<'_>)
         requires kept { KeepsCheckOn (record_of self.old) path.now (message_view message.now).id number }
-        ensures taken { TakesFailure (record_of self.old) path.now (message_view message.now) nothing_emitted (record_of self.new) }
-        ensures news { UsesNews 0 self.old self.new }
+        ensures taken { HandlesFailure (record_of self.old) path.now (message_view message.now) nothing_emitted (record_of self.new) }
+        ensures discovery { UsesDiscoveryRoom 0 self.old self.new }
     {
         self.note_error(number, message);
         if is_role_conflict(message) {

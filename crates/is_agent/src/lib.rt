@@ -28,6 +28,7 @@ pub mod remote;
 pub mod removed;
 pub mod restarting;
 pub mod roles;
+mod room;
 pub mod serving;
 mod settings;
 mod settling;

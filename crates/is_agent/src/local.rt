@@ -16,10 +16,11 @@ ghost use Rattle.is_rules.specs.Local.{Prefers, comes_again, preferred, as_own, 
 ghost use Rattle.is_rules.specs.Local.{EntersNew, Enrols, EnrolsPreferred, AddsLocal, BorrowsLocal, error_of, widened};
 
 use crate::agent::Agent;
+use crate::room::reserve_candidate;
 use is_candidate::candidate::equality::is_same_place;
 use is_candidate::candidate::kind::same_kind;
 use is_candidate::{Candidate, CandidateKind, LocalPreference};
-use is_proto::{IceError, Sha1HmacProvider, reserve_one};
+use is_proto::{IceError, Sha1HmacProvider};
 use is_rules::emitted::Emitted;
 use is_rules::forming::{has_numbers_for, local_combinations};
 use is_rules::local::{
@@ -31,7 +32,7 @@ use std::alloc::AllocError;
 
 /// A local candidate that can be stored, and its combinations.
 #[derive(Drop)]
-struct Newcomer {
+struct PreparedLocal {
     own: Candidate,
     all: Vec<(usize, usize)>,
 }
@@ -94,19 +95,20 @@ impl<H: Sha1HmacProvider + Drop, P: LocalPreference> Agent<H, P> {
 
 impl<H: Sha1HmacProvider + Drop, P: LocalPreference> Agent<H, P> {
     /// Reserves capacity for one more local candidate and this many pairs.
-    fn take_local_room(&mut self, pairs: usize) -> Result<(), AllocError>
+    fn reserve_local_room(&mut self, pairs: usize) -> Result<(), AllocError>
         ensures record { record_of self.new ≡ record_of self.old }
         ensures room { OnOk result (HasLocalRoom pairs self.new) }
         ensures selection { OnOk result (HasSelectionRoom (record_of self.old) self.new) }
     {
-        self.take_selection_room()?;
+        self.keep_room()?;
+        self.reserve_selection_room()?;
         self.pairs.reserve(pairs)?;
-        reserve_one(&mut self.local)?;
+        reserve_candidate(&mut self.local)?;
         Ok(())
     }
 
     /// Allocates and reserves what is needed to store the candidate. Numbers are checked before memory.
-    fn newcomer(&mut self, candidate: Candidate) -> Result<Newcomer, Rejection>
+    fn prepared_local(&mut self, candidate: Candidate) -> Result<PreparedLocal, Rejection>
         requires low { candidate_priority candidate < TOO_HIGH }
         ensures record { record_of self.new ≡ record_of self.old }
         ensures own { IfOk result (λ n. n.own ≡ as_own (record_of self.old) candidate) }
@@ -125,8 +127,8 @@ impl<H: Sha1HmacProvider + Drop, P: LocalPreference> Agent<H, P> {
         let alloc = *self.local.allocator();
         let all = local_combinations(alloc, &candidate, self.local.len(), &self.remote)?;
         let own = as_own(candidate, &self.local_creds.ufrag, alloc)?;
-        self.take_local_room(all.len())?;
-        Ok(Newcomer { own, all })
+        self.reserve_local_room(all.len())?;
+        Ok(PreparedLocal { own, all })
     }
 
     /// The combinations of the discarded candidate at the index.
@@ -166,7 +168,7 @@ impl<H: Sha1HmacProvider + Drop, P: LocalPreference> Agent<H, P> {
         ensures entered { EntersNew (record_of self.old) candidate (record_of self.old) (widened result) (record_of self.new) }
         ensures selection { OnOk result (HasSelectionRoom (record_of self.old) self.new) }
     {
-        let Newcomer { own, all } = self.newcomer(candidate)?;
+        let PreparedLocal { own, all } = self.prepared_local(candidate)?;
         Ok(Some(self.store_local(own, &all)))
     }
 
@@ -177,7 +179,7 @@ impl<H: Sha1HmacProvider + Drop, P: LocalPreference> Agent<H, P> {
         ensures entered { EntersNew (record_of self.old) candidate (local_discarded place (record_of self.old)) (widened result) (record_of self.new) }
         ensures selection { OnOk result (HasSelectionRoom (record_of self.old) self.new) }
     {
-        let Newcomer { own, all } = self.newcomer(candidate)?;
+        let PreparedLocal { own, all } = self.prepared_local(candidate)?;
         self.discard_local(place);
         Ok(Some(self.store_local(own, &all)))
     }
@@ -192,7 +194,7 @@ impl<H: Sha1HmacProvider + Drop, P: LocalPreference> Agent<H, P> {
             return Err(Rejection::PairIdsExhausted);
         }
         let all = self.combinations_again(place)?;
-        self.take_local_room(all.len())?;
+        self.reserve_local_room(all.len())?;
         enable_at(&mut self.local, place);
         self.form(&all);
         Ok(Some(place))

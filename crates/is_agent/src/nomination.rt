@@ -5,7 +5,7 @@
 
 ghost use Rattle.std.specs.Prelude.{◌≡◌, ℕ, is_some};
 ghost use Rattle.is_agent.specs.View.{record_of};
-ghost use Rattle.is_agent.specs.Room.{HasEventRoom, HasPacketRoom, HasCheckRoomAt, UsesNews};
+ghost use Rattle.is_agent.specs.Room.{HasEventRoom, HasPacketRoom, HasCheckRoomAt, UsesDiscoveryRoom};
 ghost use Rattle.is_rules.specs.Nominating.{nominates_at_once, followed, is_pressing, nomination_of, numbers, nominated_emitted, pair_selected, stays_nominated};
 ghost use Rattle.is_rules.specs.Nominating.{Nominates, NominatesWhere};
 ghost use Rattle.is_pair.specs.Pairs.{PairRecord};
@@ -26,7 +26,7 @@ impl<H: Sha1HmacProvider + Drop, P: LocalPreference> Agent<H, P> {
     pub(crate) fn emit_nominated(&mut self, path: Option<Path>)
         requires room { HasEventRoom 1 self.old }
         ensures emitted { record_of self.new ≡ nominated_emitted path (record_of self.old) }
-        ensures news { UsesNews 1 self.old self.new }
+        ensures discovery { UsesDiscoveryRoom 1 self.old self.new }
         ensures packets { HasPacketRoom self.old → HasPacketRoom self.new }
         ensures checks { (now : ℕ) → HasCheckRoomAt now self.old → HasCheckRoomAt now self.new }
     {
@@ -119,7 +119,7 @@ impl<H: Sha1HmacProvider + Drop, P: LocalPreference> Agent<H, P> {
     pub(crate) fn evaluate_nomination(&mut self) -> Option<Path>
         requires room { HasEventRoom 1 self.old }
         ensures nominates { Nominates (record_of self.old) result (record_of self.new) }
-        ensures news { UsesNews 1 self.old self.new }
+        ensures discovery { UsesDiscoveryRoom 1 self.old self.new }
         ensures packets { HasPacketRoom self.old → HasPacketRoom self.new }
         ensures checks { (now : ℕ) → HasCheckRoomAt now self.old → HasCheckRoomAt now self.new }
     {
@@ -138,7 +138,7 @@ impl<H: Sha1HmacProvider + Drop, P: LocalPreference> Agent<H, P> {
     pub(crate) fn nominate_where(&mut self, evaluates: bool) -> Option<Path>
         requires room { HasEventRoom 1 self.old }
         ensures nominates { NominatesWhere evaluates (record_of self.old) result (record_of self.new) }
-        ensures news { UsesNews 1 self.old self.new }
+        ensures discovery { UsesDiscoveryRoom 1 self.old self.new }
         ensures packets { HasPacketRoom self.old → HasPacketRoom self.new }
     {
         if evaluates {

@@ -11,9 +11,10 @@ ghost use Rattle.is_rules.specs.Remote.{has_other_ufrag, has_equivalent, is_plac
 ghost use Rattle.is_rules.specs.Remote.{JoinsRemote, AddsRemote};
 
 use crate::agent::{Agent, sides};
+use crate::room::reserve_candidate;
 use is_candidate::candidate::internals::component;
 use is_candidate::{Candidate, LocalPreference};
-use is_proto::{IceError, Sha1HmacProvider, reserve_one};
+use is_proto::{IceError, Sha1HmacProvider};
 use is_rules::emitted::Emitted;
 use is_rules::forming::{form_each, has_numbers_for, remote_combinations};
 use is_rules::remote::{Equivalent, as_remote, place_of_placeholder, place_or_end, store};
@@ -86,15 +87,16 @@ impl<H: Sha1HmacProvider + Drop, P: LocalPreference> Agent<H, P> {
     }
 
     /// Reserves capacity for one more candidate and this many pairs.
-    fn take_forming_room(&mut self, pairs: usize) -> Result<(), IceError>
+    fn reserve_forming_room(&mut self, pairs: usize) -> Result<(), IceError>
         ensures record { record_of self.new ≡ record_of self.old }
         ensures room { OnOk result (HasFormingRoom pairs self.new) }
         ensures selection { OnOk result (HasSelectionRoom (record_of self.old) self.new) }
         ensures rejected { IsOkUnless result IceError.OutOfMemory }
     {
-        self.take_selection_room()?;
+        self.keep_room()?;
+        self.reserve_selection_room()?;
         self.pairs.reserve(pairs)?;
-        reserve_one(&mut self.remote)?;
+        reserve_candidate(&mut self.remote)?;
         Ok(())
     }
 
@@ -112,7 +114,7 @@ impl<H: Sha1HmacProvider + Drop, P: LocalPreference> Agent<H, P> {
         let end = place_or_end(place, &self.remote);
         let alloc = *self.remote.allocator();
         let all = remote_combinations(alloc, &candidate, end, &self.local)?;
-        self.take_forming_room(all.len())?;
+        self.reserve_forming_room(all.len())?;
         self.store_at(candidate, place, &all);
         Ok(())
     }

@@ -9,6 +9,7 @@ ghost use Rattle.is_agent.specs.View.{record_of};
 ghost use Rattle.is_rules.specs.Restarting.{kept_local, restarted, unpaired, Restarts, HasNumbersForAll, Recreates};
 
 use crate::agent::Agent;
+use crate::room::reserve_events;
 use is_candidate::{Candidate, LocalPreference};
 use is_proto::{HmacKey, IceError, Sha1HmacProvider};
 use is_rules::credentials::{IceCreds, are_too_long};
@@ -20,43 +21,43 @@ use std::alloc::AllocError;
 
 /// What an ICE restart needs.
 #[derive(Drop)]
-struct Beginning {
+struct RestartParts {
     local: Vec<Candidate>,
     creds: IceCreds,
 }
 
 impl<H: Sha1HmacProvider + Drop, P: LocalPreference> Agent<H, P> {
-    fn beginning(&self, creds: &IceCreds, keep: bool) -> Result<Beginning, AllocError>
+    fn restart_parts(&self, creds: &IceCreds, keep: bool) -> Result<RestartParts, AllocError>
         ensures local { IfOk result (λ b. b.local.items ≡ kept_local keep creds.now.ufrag (record_of self.now).local) }
         ensures low { IfOk result (λ b. NoneTooHigh b.local.items) }
         ensures creds { IfOk result (λ b. b.creds ≡ creds.now) }
     {
         let local = kept_local(*self.local.allocator(), keep, &creds.ufrag, &self.local)?;
         let creds = creds.clone()?;
-        Ok(Beginning { local, creds })
+        Ok(RestartParts { local, creds })
     }
 
     /// Reserves capacity for this many events.
-    pub(crate) fn take_event_room(&mut self, events: usize) -> Result<(), AllocError>
+    pub(crate) fn reserve_event_room(&mut self, events: usize) -> Result<(), AllocError>
         ensures record { record_of self.new ≡ record_of self.old }
         ensures room { OnOk result (HasEventRoom events self.new) }
     {
-        self.events.reserve(events)
+        reserve_events(&mut self.events, self.kept_room, events)
     }
 
     /// Restarts the session.
-    fn begin(&mut self, creds: IceCreds, keep: bool, beginning: Beginning)
+    fn begin(&mut self, creds: IceCreds, keep: bool, restart_parts: RestartParts)
         requires fit { are_too_long creds None ≡ false }
         requires room { HasEventRoom 2 self.old }
-        requires local { beginning.local.items ≡ kept_local keep creds.ufrag self.old.local.items }
-        requires low { NoneTooHigh beginning.local.items }
-        requires creds { beginning.creds ≡ creds }
+        requires local { restart_parts.local.items ≡ kept_local keep creds.ufrag self.old.local.items }
+        requires low { NoneTooHigh restart_parts.local.items }
+        requires creds { restart_parts.creds ≡ creds }
         ensures { record_of self.new ≡ restarted creds keep (record_of self.old) }
     {
-        let Beginning {
+        let RestartParts {
             local,
             creds: emitted,
-        } = beginning;
+        } = restart_parts;
         self.local_key = HmacKey::new(creds.pass.as_str().as_bytes());
         self.remote_key = HmacKey::new(&[]);
         self.local_creds = creds;
@@ -93,9 +94,9 @@ impl<H: Sha1HmacProvider + Drop, P: LocalPreference> Agent<H, P> {
         if are_too_long(&creds, &None) {
             return Err(IceError::CredentialsTooLong);
         }
-        let beginning = self.beginning(&creds, keep)?;
-        self.take_event_room(2)?;
-        self.begin(creds, keep, beginning);
+        let restart_parts = self.restart_parts(&creds, keep)?;
+        self.reserve_event_room(2)?;
+        self.begin(creds, keep, restart_parts);
         Ok(())
     }
 
@@ -115,12 +116,12 @@ impl<H: Sha1HmacProvider + Drop, P: LocalPreference> Agent<H, P> {
     }
 
     /// Reserves capacity for this many pairs and an event.
-    fn take_recreation_room(&mut self, pairs: usize) -> Result<(), AllocError>
+    fn reserve_recreation_room(&mut self, pairs: usize) -> Result<(), AllocError>
         ensures record { record_of self.new ≡ record_of self.old }
         ensures room { OnOk result (HasPairRoom pairs self.new × HasEventRoom 1 self.new) }
     {
         self.pairs.reserve(pairs)?;
-        self.events.reserve(1)?;
+        reserve_events(&mut self.events, self.kept_room, 1)?;
         Ok(())
     }
 
@@ -145,7 +146,7 @@ impl<H: Sha1HmacProvider + Drop, P: LocalPreference> Agent<H, P> {
             return Err(IceError::PairIdsExhausted);
         }
         let all = self.live_combinations()?;
-        self.take_recreation_room(all.len())?;
+        self.reserve_recreation_room(all.len())?;
         self.clear_pairs();
         emit_state(
             &mut self.state,

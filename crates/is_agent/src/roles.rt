@@ -3,7 +3,7 @@
 ghost use Rattle.std.specs.Prelude.{◌≡◌};
 ghost use Rattle.is_agent.specs.View.{record_of};
 ghost use Rattle.is_rules.specs.RequestView.{request_view};
-ghost use Rattle.is_agent.specs.Room.{HasServingRoom, UsesNews};
+ghost use Rattle.is_agent.specs.Room.{HasServingRoom, UsesDiscoveryRoom};
 ghost use Rattle.is_rules.specs.Roles.{conflict_by, conflict_of, keeps_role, rival, switched};
 
 use crate::agent::{Agent, sides};
@@ -25,8 +25,9 @@ impl<H: Sha1HmacProvider + Drop, P: LocalPreference> Agent<H, P> {
         }
     }
 
-    /// The agent never changes its role: it is lite, and its profile is `Modern`.
-    pub(crate) fn keeps_role(&self) -> bool
+    /// Whether the agent keeps its role: it is lite, and its profile is `Modern`. No conflict changes it then, and
+    /// [`set_controlling`](Self::set_controlling) does not make the agent controlling.
+    pub fn keeps_role(&self) -> bool
         ensures { result ≡ keeps_role (record_of self.now) }
     {
         self.lite && self.timing.is_modern()
@@ -42,7 +43,7 @@ impl<H: Sha1HmacProvider + Drop, P: LocalPreference> Agent<H, P> {
     pub(crate) fn switch_role(&mut self)
         ensures record { record_of self.new ≡ switched (record_of self.old) }
         ensures room { HasServingRoom self.old → HasServingRoom self.new }
-        ensures news { UsesNews 0 self.old self.new }
+        ensures discovery { UsesDiscoveryRoom 0 self.old self.new }
     {
         self.controlling = !self.controlling;
         reprioritize_all(&mut self.pairs, sides!(self));

@@ -9,7 +9,7 @@ ghost use Rattle.is_proto.specs.Times.{MAX};
 ghost use Rattle.is_proto.specs.declared.error.IceError.TheVariants as errors;
 ghost use Rattle.is_agent.specs.View.{record_of};
 ghost use Rattle.is_rules.specs.RequestView.{request_view};
-ghost use Rattle.is_agent.specs.Room.{HasEventRoom, HasServingRoom, HasPacketRoom, HasNewsRoom, UsesNews};
+ghost use Rattle.is_agent.specs.Room.{HasEventRoom, HasServingRoom, HasPacketRoom, HasDiscoveryRoom, UsesDiscoveryRoom};
 ghost use Rattle.is_pair.specs.Multiset.{is_valid_at};
 ghost use Rattle.is_pair.specs.Checklists.{HasRoom};
 ghost use Rattle.is_rules.specs.Forming.{formed, with_pair};
@@ -20,11 +20,12 @@ ghost use Rattle.is_stun.specs.Timing.{is_modern};
 ghost use Rattle.is_rules.specs.Sending.{carried, with_packet};
 ghost use Rattle.is_rules.specs.Roles.{switched};
 ghost use Rattle.is_agent.specs.Ready.{IsPlan, IsReady};
-ghost use Rattle.is_rules.specs.Serving.{names_another, is_misled, is_admitted, sender_at, nominated_last, pair_served, replied, sees_number, RecordsAndResponds};
+ghost use Rattle.is_rules.specs.Serving.{is_for_other_peer, is_misled, is_admitted, sender_at, nominated_last, pair_served, replied, sees_number, RecordsAndResponds};
 ghost use Rattle.is_rules.specs.Serving.{AddsPairAndResponds, FindsOrAddsPair, AddsUnknownSender, CountsAndServes, SendsRoleConflict, ResolvesRoleConflict, Serves, Chooses};
 ghost use Rattle.is_rules.specs.Serving.{selects_at_requests, trigger_time, needs_pair_at, needs_pair, lacks_number, MayFailAtRequest};
 
 use crate::agent::{Agent, sides};
+use crate::room::{reserve_candidate, reserve_events};
 use is_candidate::candidate::equality::TEMPORARY_FOUNDATION;
 use is_candidate::candidate::making::peer_reflexive;
 use is_candidate::{Candidate, LocalPreference};
@@ -48,7 +49,7 @@ use std::alloc::AllocError;
 impl<H: Sha1HmacProvider + Drop, P: LocalPreference> Agent<H, P> {
     /// The candidates and the pair at which the request can be served, if a local candidate received it.
     pub(crate) fn places_of(&self, request: &Request<'_>) -> Option<Places>
-        requires { names_another (record_of self.now) (request_view request.now) ≡ false }
+        requires { is_for_other_peer (record_of self.now) (request_view request.now) ≡ false }
         ensures chosen { Chooses (record_of self.now) (request_view request.now) result }
         ensures within { IfSome result (λ at. at.local < length self.now.local.items) }
     {
@@ -86,26 +87,27 @@ impl<H: Sha1HmacProvider + Drop, P: LocalPreference> Agent<H, P> {
 
 impl<H: Sha1HmacProvider + Drop, P: LocalPreference> Agent<H, P> {
     /// Reserves capacity for one more source and its event.
-    pub(crate) fn take_source_room(&mut self) -> Result<(), IceError>
+    pub(crate) fn reserve_source_room(&mut self) -> Result<(), IceError>
         ensures record { record_of self.new ≡ record_of self.old }
-        ensures room { OnOk result (HasNewsRoom 1 self.new) }
+        ensures room { OnOk result (HasDiscoveryRoom 1 self.new) }
         ensures rejected { IsOkUnless result errors.OutOfMemory }
     {
         reserve_one(&mut self.discovered_sources)?;
-        self.events.reserve(1)?;
+        reserve_events(&mut self.events, self.kept_room, 1)?;
         Ok(())
     }
 
     /// Reserves capacity for all that serving a request can add, and for this many events.
-    pub(crate) fn take_serving_room(&mut self, events: usize) -> Result<(), AllocError>
+    pub(crate) fn reserve_serving_room(&mut self, events: usize) -> Result<(), AllocError>
         ensures record { record_of self.new ≡ record_of self.old }
-        ensures room { OnOk result (HasServingRoom self.new × HasNewsRoom events self.new) }
+        ensures room { OnOk result (HasServingRoom self.new × HasDiscoveryRoom events self.new) }
     {
-        reserve_one(&mut self.remote)?;
+        self.keep_room()?;
+        reserve_candidate(&mut self.remote)?;
         self.pairs.reserve(1)?;
         reserve_one_in(&mut self.packets)?;
         reserve_one(&mut self.discovered_sources)?;
-        self.events.reserve(events)?;
+        reserve_events(&mut self.events, self.kept_room, events)?;
         Ok(())
     }
 
@@ -148,7 +150,7 @@ impl<H: Sha1HmacProvider + Drop, P: LocalPreference> Agent<H, P> {
     /// The places at which the request is served, and what that needs; None if no local candidate received it. Numbers are checked before
     /// memory.
     pub(crate) fn plan(&self, request: &Request<'_>) -> Result<Option<(Places, Supplies)>, IceError>
-        requires { names_another (record_of self.now) (request_view request.now) ≡ false }
+        requires { is_for_other_peer (record_of self.now) (request_view request.now) ≡ false }
         ensures planned { IfOk result (IsPlan (record_of self.now) (request_view request.now)) }
         ensures rejected { IfErr result (MayFailAtRequest (record_of self.now) (request_view request.now)) }
     {
@@ -170,7 +172,7 @@ impl<H: Sha1HmacProvider + Drop, P: LocalPreference> Agent<H, P> {
     fn send_reply(&mut self, path: Path, contents: Vec<u8>)
         requires packets { HasPacketRoom self.old }
         ensures sent { record_of self.new ≡ with_packet path contents.items (record_of self.old) }
-        ensures news { UsesNews 0 self.old self.new }
+        ensures discovery { UsesDiscoveryRoom 0 self.old self.new }
     {
         self.packets.push_back_reserved(Transmit {
             proto: path.proto,
@@ -188,7 +190,7 @@ impl<H: Sha1HmacProvider + Drop, P: LocalPreference> Agent<H, P> {
         ensures put { IsPut (written (H.mac self.old.provider) (Some self.old.local_creds.pass)
             (binding_reply request.now.id.0 request.now.path.source)) (binding_reply request.now.id.0 (carried request.now.path.source)) }
         ensures replied { record_of self.new ≡ replied H.mac (request_view request.now) path (record_of self.old) }
-        ensures news { UsesNews 0 self.old self.new }
+        ensures discovery { UsesDiscoveryRoom 0 self.old self.new }
     {
         let password = self.local_creds.pass.as_str();
         write_reply(
@@ -249,7 +251,7 @@ impl<H: Sha1HmacProvider + Drop, P: LocalPreference> Agent<H, P> {
         requires packets { HasPacketRoom self.old }
         ensures served { record_of self.new ≡ pair_served (request_view request.now) number (record_of self.old) }
         ensures packets { HasPacketRoom self.new }
-        ensures news { UsesNews 0 self.old self.new }
+        ensures discovery { UsesDiscoveryRoom 0 self.old self.new }
     {
         let role = ServingRole {
             controlling: self.controlling,
@@ -278,7 +280,7 @@ impl<H: Sha1HmacProvider + Drop, P: LocalPreference> Agent<H, P> {
         requires events { HasEventRoom 2 self.old }
         requires reply { length reply.items ≡ LONGEST_REPLY }
         ensures served { RecordsAndResponds H.mac (request_view request.now) l r number (record_of self.old) result (record_of self.new) }
-        ensures news { UsesNews 2 self.old self.new }
+        ensures discovery { UsesDiscoveryRoom 2 self.old self.new }
     {
         let path = self.path_between(l, r);
         let evaluates = self.evaluates_at(number);
@@ -310,7 +312,7 @@ impl<H: Sha1HmacProvider + Drop, P: LocalPreference> Agent<H, P> {
         requires number { self.old.next_number < MAX }
         ensures added { record_of self.new ≡ with_pair (formed (record_of self.old) l r) (record_of self.old) }
         ensures packets { HasPacketRoom self.new }
-        ensures news { UsesNews 0 self.old self.new }
+        ensures discovery { UsesDiscoveryRoom 0 self.old self.new }
     {
         let pair = self.formed(l, r);
         self.pairs.add(pair);
@@ -333,7 +335,7 @@ impl<H: Sha1HmacProvider + Drop, P: LocalPreference> Agent<H, P> {
         requires reply { length reply.items ≡ LONGEST_REPLY }
         requires number { self.old.next_number < MAX }
         ensures served { AddsPairAndResponds H.mac (request_view request.now) l r (record_of self.old) result (record_of self.new) }
-        ensures news { UsesNews 2 self.old self.new }
+        ensures discovery { UsesDiscoveryRoom 2 self.old self.new }
     {
         let number = self.next_number;
         self.add_pair(l, r);
@@ -358,7 +360,7 @@ impl<H: Sha1HmacProvider + Drop, P: LocalPreference> Agent<H, P> {
         requires reply { length reply.items ≡ LONGEST_REPLY }
         requires number { pair ≡ None → (candidate_at self.old.local.items l).discarded ≡ false → self.old.next_number < MAX }
         ensures served { FindsOrAddsPair H.mac (request_view request.now) l r pair (record_of self.old) result (record_of self.new) }
-        ensures news { UsesNews 2 self.old self.new }
+        ensures discovery { UsesDiscoveryRoom 2 self.old self.new }
     {
         match pair {
             Some(number) => self.record_and_respond(request, l, r, number, reply),
@@ -383,7 +385,7 @@ impl<H: Sha1HmacProvider + Drop, P: LocalPreference> Agent<H, P> {
         requires { IsReady (needs_pair_at at.remote at.pair (candidate_at self.old.local.items at.local).discarded) self.old
             (request_view request.now) at supplies }
         ensures served { AddsUnknownSender H.mac (request_view request.now) at.local at.remote (record_of self.old) result (record_of self.new) }
-        ensures news { UsesNews 2 self.old self.new }
+        ensures discovery { UsesDiscoveryRoom 2 self.old self.new }
     {
         let Supplies { reply, sender } = supplies;
         match (at.remote, sender) {
@@ -410,7 +412,7 @@ impl<H: Sha1HmacProvider + Drop, P: LocalPreference> Agent<H, P> {
         requires { IsReady (not (is_misled self.old.controlling (request_view request.now)) && needs_pair_at at.remote at.pair
             (candidate_at self.old.local.items at.local).discarded) self.old (request_view request.now) at supplies }
         ensures served { CountsAndServes H.mac (request_view request.now) at.local (record_of self.old) result (record_of self.new) }
-        ensures news { UsesNews 2 self.old self.new }
+        ensures discovery { UsesDiscoveryRoom 2 self.old self.new }
     {
         if is_misled(self.controlling, request) {
             return Emitted::nothing();
@@ -424,7 +426,7 @@ impl<H: Sha1HmacProvider + Drop, P: LocalPreference> Agent<H, P> {
         requires packets { HasPacketRoom self.old }
         requires reply { length supplies.reply.items ≡ LONGEST_REPLY }
         ensures conflict_sent { SendsRoleConflict H.mac (request_view request.now) (record_of self.old) result (record_of self.new) }
-        ensures news { UsesNews 0 self.old self.new }
+        ensures discovery { UsesDiscoveryRoom 0 self.old self.new }
     {
         let Supplies { mut reply, .. } = supplies;
         let password = self.local_creds.pass.as_str();
@@ -444,7 +446,7 @@ impl<H: Sha1HmacProvider + Drop, P: LocalPreference> Agent<H, P> {
         requires { IsReady (not (is_misled (not self.old.controlling) (request_view request.now)) && needs_pair_at at.remote at.pair
             (candidate_at self.old.local.items at.local).discarded) self.old (request_view request.now) at supplies }
         ensures served { CountsAndServes H.mac (request_view request.now) at.local (switched (record_of self.old)) result (record_of self.new) }
-        ensures news { UsesNews 2 self.old self.new }
+        ensures discovery { UsesDiscoveryRoom 2 self.old self.new }
     {
         self.switch_role();
         self.count_and_serve(request, at, supplies)
@@ -459,7 +461,7 @@ impl<H: Sha1HmacProvider + Drop, P: LocalPreference> Agent<H, P> {
     ) -> Emitted
         requires { IsReady (needs_pair (record_of self.old) (request_view request.now) at) self.old (request_view request.now) at supplies }
         ensures served { ResolvesRoleConflict H.mac (request_view request.now) at.local (record_of self.old) result (record_of self.new) }
-        ensures news { UsesNews 2 self.old self.new }
+        ensures discovery { UsesDiscoveryRoom 2 self.old self.new }
     {
         match self.conflict(request) {
             Conflict::Absent => self.count_and_serve(request, at, supplies),
@@ -471,17 +473,17 @@ impl<H: Sha1HmacProvider + Drop, P: LocalPreference> Agent<H, P> {
     /// Serves a request (RFC 8445, section 7.3), or drops it, and returns what was emitted. Numbers are checked before
     /// memory.
     pub(crate) fn serve(&mut self, request: &Request<'_>) -> Result<Emitted, IceError>
-        requires { names_another (record_of self.old) (request_view request.now) ≡ false }
+        requires { is_for_other_peer (record_of self.old) (request_view request.now) ≡ false }
         ensures served { IfOk result (λ emitted. Serves H.mac (request_view request.now) (record_of self.old) emitted (record_of self.new)) }
-        ensures room { OnOk result (HasNewsRoom 1 self.new) }
+        ensures room { OnOk result (HasDiscoveryRoom 1 self.new) }
         ensures rejected { IfErr result (λ error. MayFailAtRequest (record_of self.old) (request_view request.now) error
             × (record_of self.new ≡ record_of self.old)) }
     {
         let Some((at, supplies)) = self.plan(request)? else {
-            self.take_source_room()?;
+            self.reserve_source_room()?;
             return Ok(Emitted::nothing());
         };
-        self.take_serving_room(3)?;
+        self.reserve_serving_room(3)?;
         Ok(self.resolve_role_conflict(request, at, supplies))
     }
 }

@@ -3,7 +3,7 @@
 ghost use Rattle.std.specs.Prelude.{◌≡◌, ◌<◌, Some};
 ghost use Rattle.std.specs.Range.{range_inclusive_start, range_inclusive_end};
 ghost use Rattle.is_agent.specs.View.{record_of};
-ghost use Rattle.is_rules.specs.Settings.{SetsControlling, SetsMtu, with_rtos, with_consent, with_profile, with_retransmits, with_lite_timeout, numbers_skipped, settings_of, with_settings};
+ghost use Rattle.is_rules.specs.Settings.{controlling_set, SetsMtu, with_rtos, with_consent, with_profile, with_retransmits, with_lite_timeout, numbers_skipped, settings_of, with_settings};
 ghost use Rattle.is_rules.specs.Questions.{ice_timeout};
 
 use crate::agent::Agent;
@@ -268,15 +268,14 @@ impl<H: Sha1HmacProvider + Drop, P: LocalPreference> Agent<H, P> {
 
     /// Gives the agent the controlling or the controlled role. Existing pairs keep their priorities.
     ///
-    /// Fails with `LiteStaysControlled` if a lite agent with the profile `Modern` is to be controlling.
-    pub fn set_controlling(&mut self, controlling: bool) -> Result<(), IceError>
-        ensures { SetsControlling (record_of self.old) controlling result (record_of self.new) }
+    /// With the profile `Modern` a lite agent is not made controlling: it stays as it is.
+    pub fn set_controlling(&mut self, controlling: bool)
+        ensures { record_of self.new ≡ controlling_set controlling (record_of self.old) }
     {
         if self.keeps_role() && controlling {
-            return Err(IceError::LiteStaysControlled);
+            return;
         }
         self.controlling = controlling;
-        Ok(())
     }
 
     /// Makes the number of the next pair at least this one.

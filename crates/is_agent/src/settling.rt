@@ -2,7 +2,7 @@
 
 ghost use Rattle.std.specs.Prelude.{◌≡◌, ℕ, ◌&&◌, true, not, Option, unwrap_or, OnOk};
 ghost use Rattle.is_agent.specs.View.{record_of, emitted_of};
-ghost use Rattle.is_agent.specs.Room.{HasEventRoom, HasSelectionRoom, HasPacketRoom, HasServingRoom, HasCheckRoomAt, UsesNews};
+ghost use Rattle.is_agent.specs.Room.{HasEventRoom, HasCandidateRoom, HasSelectionRoom, HasPacketRoom, HasServingRoom, HasCheckRoomAt, UsesDiscoveryRoom};
 ghost use Rattle.is_rules.specs.Agent.{AgentRecord};
 ghost use Rattle.is_rules.specs.Emitted.{nothing_emitted, selected_only};
 ghost use Rattle.is_rules.specs.Nominating.{Nominates};
@@ -11,6 +11,7 @@ ghost use Rattle.is_rules.specs.declared.emitted.Path.{Path};
 ghost use Rattle.is_rules.specs.Settling.{settles, started, settled, has_selected, Reselects};
 
 use crate::agent::Agent;
+use crate::room::reserve_events;
 use is_candidate::LocalPreference;
 use is_proto::{Instant, Sha1HmacProvider};
 use is_rules::emitted::Emitted;
@@ -31,7 +32,7 @@ impl<H: Sha1HmacProvider + Drop, P: LocalPreference> Agent<H, P> {
         requires room { HasEventRoom 1 self.old }
         ensures started { record_of self.new ≡ started now.0 (record_of self.old) }
         ensures serving { HasServingRoom self.old → HasServingRoom self.new }
-        ensures news { UsesNews 1 self.old self.new }
+        ensures discovery { UsesDiscoveryRoom 1 self.old self.new }
         ensures checks { (t : ℕ) → HasCheckRoomAt t self.old → HasCheckRoomAt t self.new }
     {
         if !self.settles() {
@@ -44,7 +45,7 @@ impl<H: Sha1HmacProvider + Drop, P: LocalPreference> Agent<H, P> {
         requires room { HasEventRoom 1 self.old }
         ensures settled { record_of self.new ≡ settled changes now.0 (record_of self.old) }
         ensures packets { HasPacketRoom self.old → HasPacketRoom self.new }
-        ensures news { UsesNews 1 self.old self.new }
+        ensures discovery { UsesDiscoveryRoom 1 self.old self.new }
         ensures checks { (t : ℕ) → HasCheckRoomAt t self.old → HasCheckRoomAt t self.new }
     {
         if changes && self.settles() {
@@ -64,12 +65,13 @@ impl<H: Sha1HmacProvider + Drop, P: LocalPreference> Agent<H, P> {
     }
 
     /// Reserves capacity for what that emits.
-    pub(crate) fn take_selection_room(&mut self) -> Result<(), AllocError>
+    pub(crate) fn reserve_selection_room(&mut self) -> Result<(), AllocError>
         ensures record { record_of self.new ≡ record_of self.old }
         ensures room { OnOk result (HasSelectionRoom (record_of self.old) self.new) }
+        ensures candidate { HasCandidateRoom self.old → HasCandidateRoom self.new }
     {
         if self.keeps_selected() {
-            self.events.reserve(2)?;
+            reserve_events(&mut self.events, self.kept_room, 2)?;
         }
         Ok(())
     }

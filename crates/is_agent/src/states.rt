@@ -3,19 +3,19 @@
 ghost use Rattle.std.specs.Prelude.{◌≡◌, ℕ, ◌<◌, ◌+◌};
 ghost use Rattle.is_agent.specs.View.{record_of};
 ghost use Rattle.is_rules.specs.States.{next_state, has_nominated, has_possible, evaluated};
-ghost use Rattle.is_agent.specs.Room.{HasPacketRoom, HasEventRoom, HasServingRoom, HasCheckRoomAt, UsesNews};
+ghost use Rattle.is_agent.specs.Room.{HasPacketRoom, HasEventRoom, HasServingRoom, HasCheckRoomAt, UsesDiscoveryRoom};
 
 use crate::agent::Agent;
 use is_candidate::LocalPreference;
 use is_proto::{Instant, Sha1HmacProvider};
 use is_rules::event::IceConnectionState;
-use is_rules::states::{OtherPossible, Selected, emit_state, next_state};
+use is_rules::states::{OtherPossible, Usable, emit_state, next_state};
 
 impl<H: Sha1HmacProvider + Drop, P: LocalPreference> Agent<H, P> {
     fn has_nominated(&self) -> bool
         ensures { result ≡ has_nominated (record_of self.now) }
     {
-        self.pairs.any(&Selected)
+        self.pairs.any(&Usable)
     }
 
     fn has_possible(&self, now: Instant) -> bool
@@ -46,7 +46,7 @@ impl<H: Sha1HmacProvider + Drop, P: LocalPreference> Agent<H, P> {
         ensures evaluated { record_of self.new ≡ evaluated now.0 (record_of self.old) }
         ensures packets { HasPacketRoom self.old → HasPacketRoom self.new }
         ensures serving { HasServingRoom self.old → HasServingRoom self.new }
-        ensures news { UsesNews 1 self.old self.new }
+        ensures discovery { UsesDiscoveryRoom 1 self.old self.new }
         ensures checks { (t : ℕ) → HasCheckRoomAt t self.old → HasCheckRoomAt t self.new }
     {
         let state = self.state_at(now);

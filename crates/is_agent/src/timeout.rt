@@ -27,6 +27,7 @@ ghost use Rattle.is_rules.specs.TimeoutStart.{outdated};
 ghost use Rattle.is_rules.specs.Timeouts.{at_request, timeout_begun, MayFailAtTimeout, ServesQueued, MaintainsPairs, TimesOut};
 
 use crate::agent::Agent;
+use crate::room::reserve_events;
 use crate::settings::CHECK_ROOM;
 use is_candidate::LocalPreference;
 use is_proto::{IceError, Instant, Sha1HmacProvider, Transmit, reserve_one_in};
@@ -224,7 +225,7 @@ impl<H: Sha1HmacProvider + Drop, P: LocalPreference> Agent<H, P> {
     }
 
     /// Does this if a check may be due at time `now`. If there is nothing to check, it only gives back what is not used.
-    fn take_check_room(&mut self, now: Instant) -> Result<(), AllocError>
+    fn reserve_check_room(&mut self, now: Instant) -> Result<(), AllocError>
         ensures record { record_of self.new ≡ record_of self.old }
         ensures room { OnOk result (HasCheckRoomAt now.0 self.new) }
     {
@@ -237,13 +238,13 @@ impl<H: Sha1HmacProvider + Drop, P: LocalPreference> Agent<H, P> {
 
     /// Reserves capacity for five events, and for a check if one may be due.
     #[inline(always)]
-    fn take_round_room(&mut self, now: Instant) -> Result<(), AllocError>
+    fn reserve_round_room(&mut self, now: Instant) -> Result<(), AllocError>
         ensures record { record_of self.new ≡ record_of self.old }
         ensures events { OnOk result (HasEventRoom 5 self.new) }
         ensures checks { OnOk result (HasCheckRoomAt now.0 self.new) }
     {
-        self.take_check_room(now)?;
-        self.events.reserve(5)
+        self.reserve_check_room(now)?;
+        reserve_events(&mut self.events, self.kept_room, 5)
     }
 }
 
@@ -278,7 +279,7 @@ impl<H: Sha1HmacProvider + Drop, P: LocalPreference> Agent<H, P> {
         ensures unchanged { IfErr result (λ _. (record_of self.new ≡ record_of self.old) × (R.stream rng.new ≡ R.stream rng.old)) }
     {
         let start = self.start_event()?;
-        self.take_round_room(now)?;
+        self.reserve_round_room(now)?;
         self.begin_timeout(now, start, expired);
         self.maintain_pairs(now, rng);
         Ok(())
@@ -299,7 +300,7 @@ impl<H: Sha1HmacProvider + Drop, P: LocalPreference> Agent<H, P> {
         if same_state(self.state, IceConnectionState::New) {
             return self.run_first_timeout(now, expired, rng);
         }
-        self.take_round_room(now)?;
+        self.reserve_round_room(now)?;
         self.begin_later_timeout(now, expired);
         self.maintain_pairs(now, rng);
         Ok(())

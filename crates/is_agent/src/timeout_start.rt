@@ -4,8 +4,8 @@ ghost use Rattle.std.specs.Prelude.{◌≡◌, ℕ, ◌<◌, false, Some, IfOk, 
 ghost use Rattle.std.specs.VecDeque.{deque_len};
 ghost use Rattle.is_rules.specs.RequestView.{request_view, waiting_view};
 ghost use Rattle.is_agent.specs.Ready.{IsPlan};
-ghost use Rattle.is_agent.specs.Room.{HasEventRoom, HasServingRoom, HasCheckRoomAt, UsesNews};
-ghost use Rattle.is_rules.specs.Serving.{names_another, Serves, MayFailAtRequest};
+ghost use Rattle.is_agent.specs.Room.{HasEventRoom, HasServingRoom, HasCheckRoomAt, UsesDiscoveryRoom};
+ghost use Rattle.is_rules.specs.Serving.{is_for_other_peer, Serves, MayFailAtRequest};
 ghost use Rattle.is_agent.specs.View.{record_of};
 ghost use Rattle.is_rules.specs.Queue.{first_taken};
 ghost use Rattle.is_rules.specs.States.{same_state};
@@ -49,7 +49,7 @@ impl<H: Sha1HmacProvider + Drop, P: LocalPreference> Agent<H, P> {
         requires room { HasEventRoom 2 self.old }
         ensures begun { record_of self.new ≡ timeout_begun now.0 (record_of self.old) }
         ensures serving { HasServingRoom self.old → HasServingRoom self.new }
-        ensures news { UsesNews 2 self.old self.new }
+        ensures discovery { UsesDiscoveryRoom 2 self.old self.new }
         ensures checks { (t : ℕ) → HasCheckRoomAt t self.old → HasCheckRoomAt t self.new }
     {
         emit_start(&mut self.events, start);
@@ -63,7 +63,7 @@ impl<H: Sha1HmacProvider + Drop, P: LocalPreference> Agent<H, P> {
         requires expired { expired ≡ outdated now.0 self.old.timing self.old.remote_creds (record_of self.old) }
         requires room { HasEventRoom 1 self.old }
         ensures begun { record_of self.new ≡ timeout_begun now.0 (record_of self.old) }
-        ensures news { UsesNews 1 self.old self.new }
+        ensures discovery { UsesDiscoveryRoom 1 self.old self.new }
         ensures checks { (t : ℕ) → HasCheckRoomAt t self.old → HasCheckRoomAt t self.new }
     {
         self.start_state(now);
@@ -74,8 +74,8 @@ impl<H: Sha1HmacProvider + Drop, P: LocalPreference> Agent<H, P> {
 
     /// The request names another peer than the known one. Only an early one can: of others the peer's username fragment is
     /// checked when they are received.
-    fn names_another(&self, request: &Request<'_>) -> bool
-        ensures { result ≡ names_another (record_of self.now) (request_view request.now) }
+    fn is_for_other_peer(&self, request: &Request<'_>) -> bool
+        ensures { result ≡ is_for_other_peer (record_of self.now) (request_view request.now) }
     {
         match &self.remote_creds {
             Some(peer) => request.ufrag != peer.ufrag.as_str(),
@@ -90,7 +90,7 @@ impl<H: Sha1HmacProvider + Drop, P: LocalPreference> Agent<H, P> {
         ensures rejected { IsSomeAnd (slice_get (record_of self.now).queue place) (λ q. IfErr result (MayFailAtRequest (record_of self.now) q)) }
     {
         let request = self.queue[place].request();
-        if self.names_another(&request) {
+        if self.is_for_other_peer(&request) {
             return Ok(None);
         }
         self.plan(&request)
@@ -100,7 +100,7 @@ impl<H: Sha1HmacProvider + Drop, P: LocalPreference> Agent<H, P> {
     fn note_request(&mut self, now: Instant)
         ensures noted { record_of self.new ≡ at_request now.0 (record_of self.old) }
         ensures serving { HasServingRoom self.old → HasServingRoom self.new }
-        ensures news { UsesNews 0 self.old self.new }
+        ensures discovery { UsesDiscoveryRoom 0 self.old self.new }
     {
         if self.timing.is_modern() {
             self.last_time = Some(self.last_time.unwrap_or(now));
@@ -121,7 +121,7 @@ impl<H: Sha1HmacProvider + Drop, P: LocalPreference> Agent<H, P> {
         ensures begun { record_of self.new ≡ first_taken (at_request now.0 (timeout_begun now.0 (record_of self.old))) }
         ensures first { Some (waiting_view result) ≡ slice_get (record_of self.old).queue expired }
         ensures serving { HasServingRoom self.old → HasServingRoom self.new }
-        ensures news { UsesNews 2 self.old self.new }
+        ensures discovery { UsesDiscoveryRoom 2 self.old self.new }
     {
         self.begin_timeout(now, start, expired);
         self.note_request(now);
@@ -146,11 +146,11 @@ impl<H: Sha1HmacProvider + Drop, P: LocalPreference> Agent<H, P> {
     {
         let start = self.start_event()?;
         let Some((at, supplies)) = plan else {
-            self.take_event_room(2)?;
+            self.reserve_event_room(2)?;
             let _ = self.begin_with_request(now, start, expired);
             return Ok(Emitted::nothing());
         };
-        self.take_serving_room(4)?;
+        self.reserve_serving_room(4)?;
         let waiting = self.begin_with_request(now, start, expired);
         Ok(self.resolve_role_conflict(&waiting.request(), at, supplies))
     }

@@ -9,7 +9,7 @@ ghost use Rattle.is_agent.specs.Unserved.{unserved_without, unserved_at, unserve
 ghost use Rattle.is_agent.specs.Unserved.{IsUnservedHere, IsUnserved, IsAcceptedRequest, UnservedIs};
 ghost use Rattle.is_agent.specs.View.{record_of};
 ghost use Rattle.is_rules.specs.RequestView.{request_view, packet_path};
-ghost use Rattle.is_rules.specs.Serving.{names_another};
+ghost use Rattle.is_rules.specs.Serving.{is_for_other_peer};
 
 use crate::agent::Agent;
 use is_candidate::LocalPreference;
@@ -121,7 +121,7 @@ impl<H: Sha1HmacProvider + Drop, P: LocalPreference> Agent<H, P> {
     }
 
     fn unserved_here(&self, request: &Request<'_>) -> Option<Unserved>
-        requires { names_another (record_of self.now) (request_view request.now) ≡ false }
+        requires { is_for_other_peer (record_of self.now) (request_view request.now) ≡ false }
         ensures { IsUnservedHere (record_of self.now) (request_view request.now) result }
     {
         match self.places_of(request) {

@@ -3,7 +3,7 @@
 ghost use Rattle.std.specs.Prelude.{◌≡◌, None};
 ghost use Rattle.is_agent.specs.View.{record_of};
 ghost use Rattle.is_c_calls.specs.Adding.{addition_index, addition_code, has_room, PutsAddition, AddsGiven, AddsLocalRead, AddsRead};
-ghost use Rattle.is_c_calls.specs.Codes.{flag_code};
+ghost use Rattle.is_c_calls.specs.Codes.{found_code};
 ghost use Rattle.is_c.specs.Slots.{home_of, held_by};
 ghost use Rattle.is_c_calls.specs.Following.{Followed, at_once};
 ghost use Rattle.is_c_calls.specs.Held.{At};
@@ -193,17 +193,17 @@ pub extern "C" fn is_ice_add_remote(
 
 /// Discards a candidate that equals the one that was made, or returns the code of why there is none.
 fn invalidate_made(home: &mut Home, made: Option<Result<Candidate, IceError>>, why: i32) -> i32
-    ensures { CallsMade Discards flag_code why made (home_of home.old) result (home_of home.new) }
+    ensures { CallsMade Discards found_code why made (home_of home.old) result (home_of home.new) }
 {
     match made {
-        Some(Ok(candidate)) => codes::flag_code(home.agent.invalidate_candidate(&candidate)),
+        Some(Ok(candidate)) => codes::found_code(home.agent.invalidate_candidate(&candidate)),
         Some(Err(error)) => codes::code_of(&error),
         None => why,
     }
 }
 
 fn invalidate_local(alloc: Global, home: &mut Home, candidate: &LocalCandidate) -> i32
-    ensures { CallsGiven Discards flag_code candidate.now (home_of home.old) result (home_of home.new) }
+    ensures { CallsGiven Discards found_code candidate.now (home_of home.old) result (home_of home.new) }
 {
     invalidate_made(home, local_candidate(alloc, candidate), codes::BAD_ADDRESS)
 }
@@ -225,7 +225,7 @@ pub extern "C" fn is_ice_invalidate_local(
 }
 
 fn invalidate(alloc: Global, home: &mut Home, line: &[u8]) -> i32
-    ensures { CallsRead Discards flag_code line.now (home_of home.old) result (home_of home.new) }
+    ensures { CallsRead Discards found_code line.now (home_of home.old) result (home_of home.new) }
 {
     invalidate_made(home, line_candidate(alloc, line), codes::NOT_UTF8)
 }

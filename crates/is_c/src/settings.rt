@@ -25,8 +25,11 @@ pub extern "C" fn is_ice_set_controlling(alloc: Global, slot: &mut Slot, control
     let Some(home) = slot.home() else {
         return codes::NO_AGENT;
     };
-    let code = codes::done_code(home.agent.set_controlling(controlling));
-    followed(home, true, code)
+    if home.agent.keeps_role() && controlling {
+        return codes::LITE_STAYS_CONTROLLED;
+    }
+    home.agent.set_controlling(controlling);
+    followed(home, true, codes::OK)
 }
 
 fn is_controlling(made_offer: bool, lite: bool, other_is_lite: bool) -> bool

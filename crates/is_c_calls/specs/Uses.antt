@@ -1,10 +1,12 @@
 -- What C calls on a slot that holds an agent: one case for each call that may change it, with what C passes and what is written for C. The
 -- contract of each export of `is_c` is its case of `Does`, or that case `Followed` by `FixTimes`: so a call of C is one use or two.
-use Rattle.std.specs.Prelude.{◌≡◌, ℕ, ◌==◌, Bool, List, Some, MatchBool, ℤ}
+use Rattle.std.specs.Prelude.{◌≡◌, ℕ, ◌==◌, ◌&&◌, Bool, List, Some, MatchBool, ℤ}
 use Rattle.is_proto.specs.Hmac.{hmac_sha1}
+use Rattle.is_proto.specs.declared.error.IceError.TheVariants.{LiteStaysControlled}
 use Rattle.is_rules.specs.Restarting.{Recreates}
+use Rattle.is_rules.specs.Roles.{keeps_role}
 use Rattle.is_rules.specs.Credentials.{SetsLocal, SetsRemote}
-use Rattle.is_rules.specs.Settings.{SetsControlling, SetsMtu, with_rtos, with_retransmits, with_lite_timeout, numbers_skipped}
+use Rattle.is_rules.specs.Settings.{controlling_set, SetsMtu, with_rtos, with_retransmits, with_lite_timeout, numbers_skipped}
 use Rattle.is_c_calls.specs.declared.address.Address.{Address}
 use Rattle.is_c_calls.specs.declared.agent_settings.AgentSettings.{AgentSettings}
 use Rattle.is_c_calls.specs.declared.candidate.LocalCandidate.{LocalCandidate}
@@ -13,7 +15,7 @@ use Rattle.is_c_calls.specs.declared.packets.Packet.{Packet}
 use Rattle.is_c_calls.specs.declared.preference.Preference.{Preference}
 use Rattle.is_c_calls.specs.Adding.{SetsMaxCandidates, AddsGiven, AddsLocalRead, AddsRead}
 use Rattle.is_c_calls.specs.AgentSettings.{SetsSettings}
-use Rattle.is_c_calls.specs.Codes.{BAD_LIMIT, done_code, flag_code}
+use Rattle.is_c_calls.specs.Codes.{BAD_LIMIT, code_of, done_code, found_code}
 use Rattle.is_c_calls.specs.Credentials.{CallsWith}
 use Rattle.is_c_calls.specs.Deadlines.{FixesTimes}
 use Rattle.is_c_calls.specs.Events.{ReturnsEvent}
@@ -72,7 +74,8 @@ mac_of provider key text = hmac_sha1 key text
 -- The call leads from the first state of what the slot holds to the second, and returns this code.
 abbrev pub Does : Use → HomeRecord → ℤ → HomeRecord → Type 0
 Does Ask old code new = new ≡ old
-Does (SetControlling role) old code new = Calls (λ a r b. SetsControlling a role r b) done_code old code new
+Does (SetControlling role) old code new =
+    MatchBool (keeps_role old.agent && role) (Rejects (code_of LiteStaysControlled) old code new) (AgentBecomes (controlling_set role) old code new)
 Does (SetLite lite) old code new = AgentBecomes (λ a. record a { lite = lite }) old code new
 Does (SetRenomination enabled) old code new = AgentBecomes (λ a. record a { renominates = enabled }) old code new
 Does (SetTieBreaker tie_breaker) old code new = AgentBecomes (λ a. record a { tie_breaker = tie_breaker }) old code new
@@ -95,8 +98,8 @@ Does (SetRemoteCredentials ufrag pass) old code new = CallsWith SetsRemote ufrag
 Does (AddLocal c before after) old code new = AddsGiven c before after old code new
 Does (AddLocalLine line before after) old code new = AddsLocalRead line before after old code new
 Does (AddRemote line before after) old code new = AddsRead line before after old code new
-Does (InvalidateLocal c) old code new = CallsGiven Discards flag_code c old code new
-Does (Invalidate line) old code new = CallsRead Discards flag_code line old code new
+Does (InvalidateLocal c) old code new = CallsGiven Discards found_code c old code new
+Does (Invalidate line) old code new = CallsRead Discards found_code line old code new
 Does (Restart ufrag pass keep) old code new = RestartsWith keep ufrag pass old code new
 Does RecreatePairs old code new = Calls (λ a r b. Recreates a r b) done_code old code new
 Does (HandlePacket now protocol source destination bytes) old code new =

@@ -19,11 +19,11 @@ use Rattle.is_rules.specs.Sending.{path_of}
 use Rattle.is_rules.specs.Settings.{modern_settings}
 use Rattle.is_rules.specs.Steps as agent
 use Rattle.is_rules.specs.Steps.{Call, Entry, Step, is_done}
-use Rattle.is_theorems.specs.AskedCourses.{selected_along}
+use Rattle.is_theorems.specs.AskedExecutions.{selected_along}
 use Rattle.is_theorems.specs.Bounds.{IsWithin}
-use Rattle.is_theorems.specs.ConsentCourses.{AreNeverLite, ConnectedAreAnswered, IsAliveBy, IsConnectedAfter}
+use Rattle.is_theorems.specs.ConsentExecutions.{AreNeverLite, ConnectedAreAnswered, IsAliveBy, IsConnectedAfter}
 use Rattle.is_theorems.specs.ConsentLogs.{IsConnectedAt}
-use Rattle.is_theorems.specs.Exchange.{Course}
+use Rattle.is_theorems.specs.Exchange.{Execution}
 use Rattle.is_theorems.specs.Limited.{ListsStayBounded, DiscoveriesStayFew, IsLimitedAt}
 use Rattle.is_theorems.specs.Logs.{Logged, NeverLite, last_selected}
 use Rattle.is_theorems.specs.Polled.{SelectionsAreNominatedSince}
@@ -105,7 +105,7 @@ module _ (creds : IceCreds) (tie_breaker : ℕ) where
     -- ---- as an execution, oldest call first, with the profile of each state
 
     abbrev Goes : List (Call Preference × Entry) → Held → Held → Type 0
-    Goes xs old new = (course : Course mac_of answers xs old new) × IsModernAlong mac_of answers xs old new course
+    Goes xs old new = (execution : Execution mac_of answers xs old new) × IsModernAlong mac_of answers xs old new execution
 
     ready_state : (log : Log) (a : Held) → Ran born log a → IsReady log → (a.state ≡ New) ⊎ (is_modern a.timing ≡ true)
     ready_state log a run (inl none) = inl (ap (λ (b : Held). b.state) (subst (λ (l : Log). Ran born l a) none run))
@@ -115,8 +115,8 @@ module _ (creds : IceCreds) (tie_breaker : ℕ) where
     goes_on : (log : Log) (last : Held) → Ran born log last → ReadyAlong log → (more : List (Call Preference × Entry)) (end : Held) → Goes more last end
         → Goes (calls_onto log more) born end
     goes_on [] last run ready more end goes = subst (λ (a : Held). Goes more a end) run goes
-    goes_on (x ∷ before) last (mid, s, t, run, given, step) (here, others) more end (course, modern) =
-        goes_on before mid run others ((x.call, x.entry) ∷ more) end ((last, s, t, given, step, course), (ready_state before mid run here, modern))
+    goes_on (x ∷ before) last (mid, s, t, run, given, step) (here, others) more end (execution, modern) =
+        goes_on before mid run others ((x.call, x.entry) ∷ more) end ((last, s, t, given, step, execution), (ready_state before mid run here, modern))
 
     pub gone : (uses : List Used) (log : Log) (last : Held) → IsLogOf uses log → EachKeeps keeps_modern uses → Ran born log last → Goes (calls_onto log []) born last
     gone uses log last logs each run = goes_on log last run (ready_along uses log logs each) [] last (refl, tt)
@@ -207,11 +207,11 @@ bounded law lists few short uses log home used each =
 
 -- ---- consent
 
-course_of : (log : Log) (first last : Held) → Ran first log last → (more : List (Call Preference × Entry)) (end : Held)
-    → Course mac_of answers more last end → Course mac_of answers (calls_onto log more) first end
-course_of [] first last run more end course = subst (λ (a : Held). Course mac_of answers more a end) run course
-course_of (x ∷ before) first last (mid, s, t, run, given, step) more end course =
-    course_of before first mid run ((x.call, x.entry) ∷ more) end (last, s, t, given, step, course)
+execution_of : (log : Log) (first last : Held) → Ran first log last → (more : List (Call Preference × Entry)) (end : Held)
+    → Execution mac_of answers more last end → Execution mac_of answers (calls_onto log more) first end
+execution_of [] first last run more end execution = subst (λ (a : Held). Execution mac_of answers more a end) run execution
+execution_of (x ∷ before) first last (mid, s, t, run, given, step) more end execution =
+    execution_of before first mid run ((x.call, x.entry) ∷ more) end (last, s, t, given, step, execution)
 
 onto_after : (xs : Log) (more ys : List (Call Preference × Entry)) → calls_onto xs more ++ ys ≡ calls_onto xs (more ++ ys)
 onto_after [] more ys = refl
@@ -233,7 +233,7 @@ alive law answered_by uses before x home now used each k = search (by used.run (
         first = newborn used.creds used.tie_breaker;
         near = mid;
         fresh = is_born used.creds used.tie_breaker;
-        course = course_of before (newborn used.creds used.tie_breaker) mid earlier [] mid refl;
+        execution = execution_of before (newborn used.creds used.tie_breaker) mid earlier [] mid refl;
         drawn = s;
         left = t;
         step = subst (λ (c : Call Preference). Step mac_of answers mid s c x.entry home.agent t) is.call step;

@@ -1,5 +1,5 @@
 -- Each call of C on an agent is one transition of it, or none, or sets all settings. What mutants/specifications changes is read by tactics.
-use Rattle.std.proofs.Common.{◌≡◌, ℕ, ◌==◌, ◌<◌, ◌⊎◌, Bool, true, false, nat_lt, List, [], length, Option, Some, None, Result, Ok, Err, MatchBool, MatchOption, ℤ, inl, inr, refl, ap, sym, ◌∙◌, subst, zero, suc, arith}
+use Rattle.std.proofs.Common.{◌≡◌, ℕ, ◌==◌, ◌<◌, ◌⊎◌, ◌&&◌, Bool, true, false, nat_lt, List, [], length, Option, Some, None, Result, Ok, Err, MatchBool, MatchOption, ℤ, inl, inr, refl, ap, sym, ◌∙◌, subst, zero, suc, arith}
 use Rattle.rand_core.specs.Stream.{Stream}
 use Rattle.rand_core.specs.Steps.{stream_of}
 use Rattle.std.specs.declared.net.socket_addr.SocketAddr.{SocketAddr}
@@ -21,7 +21,8 @@ use Rattle.is_rules.specs.declared.emitted.Path.{Path}
 use Rattle.is_rules.specs.declared.event.IceAgentEvent.{IceAgentEvent}
 use Rattle.is_rules.specs.Credentials.{SetsLocal, SetsRemote}
 use Rattle.is_rules.specs.Restarting.{Restarts}
-use Rattle.is_rules.specs.Settings.{with_settings, with_retransmits, with_rtos, with_lite_timeout, numbers_skipped}
+use Rattle.is_rules.specs.Roles.{keeps_role}
+use Rattle.is_rules.specs.Settings.{controlling_set, with_settings, with_retransmits, with_rtos, with_lite_timeout, numbers_skipped}
 use Rattle.is_rules.specs.Sound.{GivesBased}
 use Rattle.is_rules.specs.Steps as agent
 use Rattle.is_rules.specs.Steps.{is_done, Call, Answer, Entry, Done, Flag, Polled, Happened, NextTimeout, answer_by, done, added, quiet, Step, Becomes}
@@ -39,7 +40,7 @@ use Rattle.is_c_calls.specs.Addresses.{socket_of, protocol_of}
 use Rattle.is_c_calls.specs.AgentSettings.{settings_of}
 use Rattle.is_c_calls.specs.Candidates.{Made, MakesCandidate, ReadsBytes, Constructs, Builds, is_over_tcp, route_for, role_of}
 use Rattle.is_c_calls.specs.Clock.{agent_time}
-use Rattle.is_c_calls.specs.Codes.{OK, BAD_LIMIT, TOO_FEW_RANDOM_BYTES, done_code, flag_code, BAD_ADDRESS, NOT_UTF8}
+use Rattle.is_c_calls.specs.Codes.{OK, BAD_LIMIT, code_of, TOO_FEW_RANDOM_BYTES, done_code, flag_code, found_code, BAD_ADDRESS, NOT_UTF8}
 use Rattle.is_c_calls.specs.Credentials.{MakesCreds, CallsWith}
 use Rattle.is_c_calls.specs.Events.{ReturnsFirst}
 use Rattle.is_c_calls.specs.Given.{CallsMade, Discards}
@@ -234,12 +235,12 @@ module _ (n : ℕ) where
 
   discards : (export : Use) (why : ℤ) (made : Made) → ((c : CandidateRecord) → made ≡ Some (Ok c) → Makes export (agent.InvalidateCandidate c))
       → ((answer : Answer) (code : ℤ) → code ≡ code_by answer → Answers export answer code) → counts export ≡ false
-      → (code : ℤ) (old new : HomeRecord) → CallsMade Discards flag_code why made old code new → IsAtMostOne (used export code) old new
+      → (code : ℤ) (old new : HomeRecord) → CallsMade Discards found_code why made old code new → IsAtMostOne (used export code) old new
   discards export why None m a quiet_ code old new h = idle export code old new h.1 (λ is. never (sym quiet_ ∙ is))
   discards export why (Some (Err e)) m a quiet_ code old new h = idle export code old new h.1 (λ is. never (sym quiet_ ∙ is))
-  discards export why (Some (Ok c)) m a quiet_ code old new (r, (emitted, does), is, kept) =
-      by_step export code (agent.InvalidateCandidate c) (record { answer = answer_by Flag r; emitted = emitted }) old new
-      (m c refl) (a (answer_by Flag r) code (is ∙ flag_coded r)) tt any any (r, emitted, refl, does, refl)
+  discards export why (Some (Ok c)) m a quiet_ code old new (found, (emitted, does), is, kept) =
+      by_step export code (agent.InvalidateCandidate c) (record { answer = Flag found; emitted = emitted }) old new
+      (m c refl) (a (Flag found) code is) tt any any (found, emitted, refl, does, refl)
 
   -- ---- packets
 
@@ -304,8 +305,9 @@ module _ (n : ℕ) where
 
   pub one : (export : Use) (code : ℤ) (old new : HomeRecord) → Does export old code new → IsAtMostOne (used export code) old new
   one Ask code old new same = idle Ask code old new same never
-  one (SetControlling role) code old new (r, sets, is, kept) =
-      by_step (SetControlling role) code (agent.SetControlling role) (quiet (answer_by done r)) old new refl (is ∙ done_coded r, done_ok r code is) tt any any (r, refl, sets, refl)
+  one (SetControlling role) code old new h = either (keeps_role old.agent && role)
+      (λ k. rejects (SetControlling role) (code_of errors.LiteStaysControlled) code old new refl k)
+      (λ k. becomes (SetControlling role) code (agent.SetControlling role) (controlling_set role) old new refl (k.0, sym (ap is_ok k.0)) tt (refl, refl, refl) k.1) h
   one (SetLite lite) code old new (is, same) =
       becomes (SetLite lite) code (agent.SetIceLite lite) (λ a. record a { lite = lite }) old new refl (refl, is) tt (refl, refl, refl) same
   one (SetRenomination enabled) code old new (is, same) =

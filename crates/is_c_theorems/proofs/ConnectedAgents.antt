@@ -9,7 +9,7 @@ use Rattle.is_stun.specs.Message.{Message}
 use Rattle.is_stun.specs.Reading.{Reads}
 use Rattle.is_rules.specs.declared.emitted.Issued.{Issued}
 use Rattle.is_rules.specs.declared.emitted.Path.{Path}
-use Rattle.is_rules.specs.Answers.{goes_back}
+use Rattle.is_rules.specs.Answers.{is_reverse}
 use Rattle.is_rules.specs.Brought.{IsServing}
 use Rattle.is_rules.specs.Emitted.{issued_as}
 use Rattle.is_rules.specs.Nominating.{is_eligible}
@@ -54,7 +54,7 @@ one_served old at path bytes e q r (when, by, m, brings, request, known, is) (wh
     ∙ (ap (λ x. request_in when by x) (brings2.2.spelled ∙ sym brings.2.spelled) ∙ sym is)))
 
 -- what a response comes back on has one pair of addresses
-back_on : (by a b : Path) → goes_back by a ≡ true → goes_back by b ≡ true → (a.source ≡ b.source) × (a.destination ≡ b.destination)
+back_on : (by a b : Path) → is_reverse by a ≡ true → is_reverse by b ≡ true → (a.source ≡ b.source) × (a.destination ≡ b.destination)
 back_on by a b on_a on_b =
     let x = both _ _ on_a in
     let y = both _ _ on_b in
@@ -116,7 +116,7 @@ module _ (turn : Turns) (paths : Paths) (law : Set) (agree : Agree) where
         let a = after_packet turn paths law agree r.mid r.taken (held_mid turn paths trades k.check r) r.via r.reply.contents r.code r.passes r.no_error in
         let it = accepted turn paths trades twenty serves accepts k.check r in
         let t = a.effect.taken (agent_time r.passes.now) r.via it.0 it.1 it.2 in
-        let on = both (keeps_check it.0.id t.0) (goes_back r.via (path_of r.taken.agent t.0)) t.2 in
+        let on = both (keeps_check it.0.id t.0) (is_reverse r.via (path_of r.taken.agent t.0)) t.2 in
         (t.0, t.1, t.3, back_on r.via (path_of r.taken.agent t.0) path on.1 (search k.comes))
 
     pub held_taken : (path : Path) (k : AnsweredCheck path) → IsInSlot k.back.taken

@@ -15,7 +15,7 @@ use Rattle.is_rules.specs.declared.roles.Conflict.{Conflict}
 use Rattle.is_rules.specs.declared.roles.Conflict.TheVariants.{Absent, Send487, SwitchRole}
 use Rattle.is_rules.specs.Accepting.{HandlesPacket, Takes}
 use Rattle.is_rules.specs.Agent.{AgentRecord}
-use Rattle.is_rules.specs.Answers.{TakesFailure, is_role_conflict}
+use Rattle.is_rules.specs.Answers.{HandlesFailure, is_role_conflict}
 use Rattle.is_rules.specs.Checking.{MayCheck, ChecksTop, all_asked}
 use Rattle.is_rules.specs.Emitted.{nothing_emitted, issued_as}
 use Rattle.is_rules.specs.Forming.{formed, with_pair}
@@ -25,7 +25,7 @@ use Rattle.is_rules.specs.Places.{local_place}
 use Rattle.is_rules.specs.Queue.{request_at}
 use Rattle.is_rules.specs.Request.{RequestRecord, request_in}
 use Rattle.is_rules.specs.Roles.{conflict_of, switched}
-use Rattle.is_rules.specs.Serving.{Serves, RecordsAndResponds, Joins, AddsUnknownSender, FindsSender, CountsAndServes, ResolvesRoleConflictBy, is_misled, names_another, request_counted, with_sender, with_sender_at}
+use Rattle.is_rules.specs.Serving.{Serves, RecordsAndResponds, Joins, AddsUnknownSender, FindsSender, CountsAndServes, ResolvesRoleConflictBy, is_misled, is_for_other_peer, request_counted, with_sender, with_sender_at}
 use Rattle.is_rules.specs.Steps as agent
 use Rattle.is_rules.specs.Steps.{Call, Entry, Step, Receives, MaySelect}
 use Rattle.is_rules.specs.Timeouts.{TimesOut}
@@ -91,10 +91,10 @@ module _ {H P : Type 0} (mac : H → List ℕ → List ℕ → List ℕ) where
   resolves SwitchRole q l s new emitted h = counts q l (switched s) new emitted h
 
   serves : (q : RequestRecord) (s new : AgentRecord H P) (emitted : Emitted) → Serves mac q s emitted new → issues_check emitted.issued ≡ false
-  serves q s new emitted h = either (names_another s q) (silent emitted)
+  serves q s new emitted h = either (is_for_other_peer s q) (silent emitted)
       (λ k. optional (local_place s.local q) _ (silent emitted) (λ l j. resolves (conflict_of s q) q l s new emitted j) k) h
 
-  fails : (old new : AgentRecord H P) (via : Path) (m : Message) (emitted : Emitted) → TakesFailure old via m emitted new → issues_check emitted.issued ≡ false
+  fails : (old new : AgentRecord H P) (via : Path) (m : Message) (emitted : Emitted) → HandlesFailure old via m emitted new → issues_check emitted.issued ≡ false
   fails old new via m emitted (p, has, kept, h) = either (is_role_conflict m) (λ (c, has_it, is, k). either _ (silent emitted) (silent emitted) k) (silent emitted) h
 
   takes : (c : Class) (now : ℕ) (old new : AgentRecord H P) (via : Path) (m : Message) (emitted : Emitted) → Takes mac c now old via m emitted new
@@ -122,7 +122,7 @@ module _ {H P : Type 0} (mac : H → List ℕ → List ℕ → List ℕ) where
     abbrev issues : Entry → Bool
     issues e = issues_check e.emitted.issued
 
-    selects : {A : Type 0} (to_answer : A → agent.Answer) (Does : Result A IceError → AgentRecord H P → Type 0) (old new : AgentRecord H P) (s t : Stream) (e : Entry)
+    selects : {A : Type 0} (to_answer : A → agent.Answer) (Does : A → AgentRecord H P → Type 0) (old new : AgentRecord H P) (s t : Stream) (e : Entry)
         → MaySelect to_answer Does old s e new t → issues e ≡ false
     selects to_answer Does old new s t e (r, emitted, is, (path, mid, does, reselects, selected), drawn) =
         ap (λ (x : Entry). issues x) is ∙ ap (λ (x : Emitted). issues_check x.issued) selected
@@ -130,7 +130,6 @@ module _ {H P : Type 0} (mac : H → List ℕ → List ℕ → List ℕ) where
     pub unless_timeout : (call : Call P) (old new : AgentRecord H P) (s t : Stream) (e : Entry) → Step mac answers old s call e new t → is_timeout call ≡ false
         → issues e ≡ false
     unless_timeout (agent.SetMtu n w) old new s t e k none = ap (λ (x : Entry). issues x) k.1
-    unless_timeout (agent.SetControlling role) old new s t e k none = ap (λ (x : Entry). issues x) k.1
     unless_timeout (agent.SetLocalCredentials creds) old new s t e k none = ap (λ (x : Entry). issues x) k.1
     unless_timeout (agent.SetRemoteCredentials creds) old new s t e k none = ap (λ (x : Entry). issues x) k.1
     unless_timeout (agent.RestartIce creds keep) old new s t e k none = ap (λ (x : Entry). issues x) k.1

@@ -8,7 +8,7 @@ use Rattle.is_rules.specs.declared.settings.Settings.{Settings}
 use Rattle.is_rules.specs.Settings.{modern_settings, with_settings}
 use Rattle.is_rules.specs.Sound.{GivesBased}
 use Rattle.is_rules.specs.Steps.{Call, Done, quiet, Step}
-use Rattle.is_theorems.specs.Exchange.{Course}
+use Rattle.is_theorems.specs.Exchange.{Execution}
 use Rattle.is_theorems.specs.Logs.{Logged}
 use Rattle.is_theorems.specs.Settings.{AllAreSetInTurn, setters_of}
 use Rattle.is_theorems.specs.Shared.{SharedRun}
@@ -31,10 +31,10 @@ Ran first log last = SharedRun mac_of answers first log last
 
 -- setters that are called in turn are entries of a log
 setters_ran : (calls : List (Call Preference)) (first mid last : Held) (log : List (Logged Preference)) → Ran first log mid
-    → Course mac_of answers (map (λ call. (call, quiet Done)) calls) mid last → Ran first (setters_onto calls log) last
-setters_ran [] first mid last log run course = subst (λ (a : Held). Ran first log a) (sym course) run
-setters_ran (call ∷ more) first mid last log run (next, s, t, given, step, course) =
-    setters_ran more first next last (record { number = length log; call = call; entry = quiet Done } ∷ log) (mid, s, t, run, given, step) course
+    → Execution mac_of answers (map (λ call. (call, quiet Done)) calls) mid last → Ran first (setters_onto calls log) last
+setters_ran [] first mid last log run execution = subst (λ (a : Held). Ran first log a) (sym execution) run
+setters_ran (call ∷ more) first mid last log run (next, s, t, given, step, execution) =
+    setters_ran more first next last (record { number = length log; call = call; entry = quiet Done } ∷ log) (mid, s, t, run, given, step) execution
 
 module _ (law : AllAreSetInTurn {H = _} {P = Preference} mac_of answers) where
   -- all settings at once

@@ -11,7 +11,7 @@ use Rattle.is_rules.specs.States.{is_nominated_and_valid}
 use Rattle.is_rules.specs.Steps as agent
 use Rattle.is_rules.specs.Steps.{Call, Entry}
 use Rattle.is_theorems.specs.Asked.{IsOnlyPair, UsesAddressesOf}
-use Rattle.is_theorems.specs.AskedCourses.{selected_along}
+use Rattle.is_theorems.specs.AskedExecutions.{selected_along}
 use Rattle.is_theorems.specs.Asking.{AcceptsNomination}
 use Rattle.is_theorems.specs.AtOnce.{NominationsSelectAtOnce, WereValidOn}
 use Rattle.is_theorems.specs.Logs.{Logged, last_selected}

@@ -11,7 +11,7 @@ use Rattle.is_rules.specs.Serving.{as_taken}
 use Rattle.is_rules.specs.Settings.{modern_settings, with_settings}
 use Rattle.is_rules.specs.Steps as agent
 use Rattle.is_rules.specs.Steps.{Call, Answer, Entry, Done, Step, is_done, quiet, Becomes}
-use Rattle.is_theorems.specs.Exchange.{Course}
+use Rattle.is_theorems.specs.Exchange.{Execution}
 use Rattle.is_theorems.specs.Logs.{AsksAt, has_numbers}
 use Rattle.is_theorems.specs.Polled as polled
 use Rattle.is_theorems.specs.Polled.{AskedSince, NominatedSince, IsControlledSinceRestart, WaitingAreNominatedSince}
@@ -116,11 +116,11 @@ abbrev Calm : Type 0 → Held → Log → Held → Type 0
 Calm Is first log last = (run : Ran first log last) × (Is → IsControlledSinceRestart mac_of answers first log last run)
 
 calm_setters : {Is : Type 0} (calls : List (Call Preference)) → AllLeave calls → (first mid last : Held) (log : Log) → Calm Is first log mid
-    → (Is → mid.controlling ≡ false) → Course mac_of answers (map (λ call. (call, quiet Done)) calls) mid last → Calm Is first (setters_onto calls log) last
-calm_setters {Is = Is} [] leave first mid last log calm role course = subst (λ (a : Held). Calm Is first log a) (sym course) calm
-calm_setters {Is = Is} (call ∷ more) (here, leave) first mid last log (run, since_it) role (next, s, t, given, step, course) =
+    → (Is → mid.controlling ≡ false) → Execution mac_of answers (map (λ call. (call, quiet Done)) calls) mid last → Calm Is first (setters_onto calls log) last
+calm_setters {Is = Is} [] leave first mid last log calm role execution = subst (λ (a : Held). Calm Is first log a) (sym execution) calm
+calm_setters {Is = Is} (call ∷ more) (here, leave) first mid last log (run, since_it) role (next, s, t, given, step, execution) =
     let kept : (is : Is) → next.controlling ≡ false = λ is. role_kept call here mid next s t (quiet Done) step ∙ role is in
-    calm_setters more leave first next last (setter call log ∷ log) ((mid, s, t, run, given, step), λ is. (kept is, inr (since_it is))) kept course
+    calm_setters more leave first next last (setter call log ∷ log) ((mid, s, t, run, given, step), λ is. (kept is, inr (since_it is))) kept execution
 
 module _ (turn : Turn) (creds : IceCreds) (tie_breaker : ℕ) where
   calm_all : (Is : Type 0) (settings : Settings) (mid last : Held) (log : Log) → 0 < settings.max_retransmits → last ≡ with_settings settings mid

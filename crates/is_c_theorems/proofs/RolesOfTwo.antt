@@ -17,7 +17,7 @@ use Rattle.is_rules.specs.Emitted.{issued_as}
 use Rattle.is_rules.specs.Issuing.{via_out}
 use Rattle.is_rules.specs.Sound.{IsSound, FreshIsSound}
 use Rattle.is_rules.specs.Steps.{Call, Entry, Done, quiet}
-use Rattle.is_theorems.specs.Exchange.{Course}
+use Rattle.is_theorems.specs.Exchange.{Execution}
 use Rattle.is_theorems.specs.Logs.{NeverLite}
 use Rattle.is_theorems.specs.RoleView.{sets_role}
 use Rattle.is_theorems.specs.Settings.{AllAreSetInTurn, setters_of}
@@ -193,13 +193,13 @@ all_plain settings = ((refl, refl), ((refl, refl), ((refl, refl), ((refl, refl),
 
 module _ (paths : Paths) (trades : Trades) (z : Setting) (ns : List Note) (side : Side) (distinct : AreDistinct ns) where
   setters_mind : (more : List (Call Preference)) → ArePlain more → (old last : Held) → IsSound old → (z.ranked ≡ true → old.lite ≡ false) → Mind z ns side old
-      → Course mac_of answers (map (λ call. (call, quiet Done)) more) old last → Mind z ns side last
+      → Execution mac_of answers (map (λ call. (call, quiet Done)) more) old last → Mind z ns side last
   setters_mind [] plain old last sound full mind is = subst (λ (a : Held). Mind z ns side a) (sym is) mind
-  setters_mind (call ∷ more) ((unset, lite), plain) old last sound full mind (mid, s, t, given, step, course) =
+  setters_mind (call ∷ more) ((unset, lite), plain) old last sound full mind (mid, s, t, given, step, execution) =
       let (f, next_sound) = paths old mid s t call (quiet Done) sound given step in
       let next = mind_next mac_of z ns side old mid call (quiet Done) f (trades old mid s t call (quiet Done) sound given step) (λ ranked. unset) full distinct
       (λ at by m brings. absurd (none_brought call at by m brings)) mind in
-      setters_mind more plain mid last next_sound (λ ranked. f.lite ∙ (ap (λ (b : Bool). lite_set_by call b) (full ranked) ∙ lite)) next course
+      setters_mind more plain mid last next_sound (λ ranked. f.lite ∙ (ap (λ (b : Bool). lite_set_by call b) (full ranked) ∙ lite)) next execution
 
 -- ---- one agent after C's calls
 

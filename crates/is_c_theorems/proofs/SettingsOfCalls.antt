@@ -16,7 +16,7 @@ use Rattle.is_theorems.specs.Shared.{SharedRun}
 use Rattle.is_theorems.proofs.ExecutionLogs.SharedLogTheorems.{numbering_set}
 use Rattle.is_c_calls.specs.declared.preference.Preference.{Preference}
 use Rattle.is_c_calls.specs.AgentSettings.{settings_of, profile_of}
-use Rattle.is_c_calls.specs.Held.{Held, HomeRecord}
+use Rattle.is_c_calls.specs.Held.{Held}
 use Rattle.is_c_calls.specs.Preferences.{answers}
 use Rattle.is_c_calls.specs.Making.{fresh_home}
 use Rattle.is_c_calls.specs.Sessions.{Used, Session, is_ok}

@@ -1,12 +1,11 @@
 -- The roles of two agents of C, from `is_ice_agent_new` on. What mutants/specifications changes is read by tactics.
-use Rattle.std.proofs.Common.{◌≡◌, ◌⊎◌, ◌++◌, ◌<◌, ℕ, Bool, true, false, not, List, [], ◌∷◌, append-nil, None, Some, Option, ℤ, Result, Ok, Err, inl, inr, refl, ap, sym, ◌∙◌, subst}
+use Rattle.std.proofs.Common.{◌≡◌, ◌⊎◌, ◌&&◌, ◌++◌, ◌<◌, ℕ, Bool, true, false, not, List, [], ◌∷◌, append-nil, None, Some, Option, ℤ, inl, inr, refl, ap, sym, ◌∙◌, subst}
 use Rattle.std.specs.Prelude.{◌≢◌}
-use Rattle.is_proto.specs.declared.error.IceError.{IceError}
-use Rattle.is_proto.specs.declared.error.IceError.TheVariants as errors
 use Rattle.is_rules.specs.declared.credentials.IceCreds.{IceCreds}
 use Rattle.is_rules.specs.declared.emitted.Path.{Path}
 use Rattle.is_rules.specs.Polls.{NextTimeoutFrom}
-use Rattle.is_rules.specs.Settings.{modern_settings, SetsControlling}
+use Rattle.is_rules.specs.Roles.{keeps_role}
+use Rattle.is_rules.specs.Settings.{modern_settings, controlling_set}
 use Rattle.is_theorems.specs.Settings.{setters_of}
 use Rattle.is_c_calls.specs.Held.{Held, HomeRecord}
 use Rattle.is_c_calls.specs.Making.{fresh_home}
@@ -16,7 +15,7 @@ use Rattle.is_c_calls.specs.Uses.{Use, SetControlling, FixTimes, Does, mac_of}
 use Rattle.is_c_theorems.specs.CallLogs.{IsLogOf, newborn}
 use Rattle.is_c_theorems.specs.Chosen.{EachKeeps}
 use Rattle.is_c_theorems.specs.TwoAgents.{Side, A, B, other, Turn, Sessions, AreCarried, HaveFreshIds, sets_role, Begins, IsFair, role_at, GreaterKeepsRole, LesserSwitchesOnce, RolesStayOpposite}
-use Rattle.is_c_theorems.proofs.CallsAsSteps.{never}
+use Rattle.is_c_theorems.proofs.CallsAsSteps.{never, either}
 use Rattle.is_c_theorems.proofs.ClaimedRoles.{not_self, Setting, Mind}
 use Rattle.is_c_theorems.proofs.IssuedRequests.{checks_none, unless_timeout}
 use Rattle.is_c_theorems.proofs.LogsOfCalls.{Ran, walk, log_is, run_is}
@@ -33,11 +32,11 @@ module _ (creds : IceCreds) (tie : ℕ) where
   abbrev pub IsOpen : HomeRecord → Type 0
   IsOpen home = (role : Bool) × (home.agent ≡ in_role role) × (home.waiting ≡ None)
 
-  role_set : (role : Bool) (mid home : HomeRecord) → IsOpen mid → (r : Result (Unit {0}) IceError) → SetsControlling mid.agent role r home.agent
-      → home.waiting ≡ mid.waiting → IsOpen home
-  role_set role mid home (was, agent_is, none) (Ok x) (may, made) kept = (role, made ∙ ap (λ (a : Held). record a { controlling = role }) agent_is, kept ∙ none)
-  role_set role mid home (was, agent_is, none) (Err errors.LiteStaysControlled) (stays, same) kept = (was, same ∙ agent_is, kept ∙ none)
-  role_set role mid home open_mid (Err _) h kept = absurd h
+  -- the agent is not lite
+  role_set : (role : Bool) (code : ℤ) (mid home : HomeRecord) → IsOpen mid → Does (SetControlling role) mid code home → IsOpen home
+  role_set role code mid home (was, agent_is, none) h = either (keeps_role mid.agent && role)
+      (λ k. (was, ap (λ (h : HomeRecord). h.agent) k.1 ∙ agent_is, ap (λ (h : HomeRecord). h.waiting) k.1 ∙ none))
+      (λ k. (role, ap (λ (h : HomeRecord). h.agent) k.1 ∙ ap (λ (a : Held). controlling_set role a) agent_is, ap (λ (h : HomeRecord). h.waiting) k.1 ∙ none)) h
 
   -- an agent without a time of a last call is not changed by a poll for its next timeout
   fixed : (last : Option ℕ) (a b : Held) (deadline : Option ℕ) → last ≡ None → NextTimeoutFrom last a deadline b → b ≡ a
@@ -55,7 +54,7 @@ module _ (creds : IceCreds) (tie : ℕ) where
   opened [] home is each = ((fresh_home creds tie).agent.controlling, ap (λ (h : HomeRecord). h.agent) is, ap (λ (h : HomeRecord). h.waiting) is)
   opened (u ∷ before) home (mid, session, does) each = by (opened before mid session (rest_of sets_role u before each)) u.export (each u (inl refl)) does where
     by : IsOpen mid → (export : Use) → sets_role export ≡ true → Does export mid u.code home → IsOpen home
-    by was (SetControlling role) is (r, sets, coded, kept) = role_set role mid home was r sets kept.0
+    by was (SetControlling role) is k = role_set role u.code mid home was k
     by was (FixTimes soon) is k = times_fixed soon u.code mid home was k
     by was _ is k = never is
 

@@ -10,7 +10,7 @@ use Rattle.is_stun.specs.Message.{Message}
 use Rattle.is_stun.specs.Reading.{Reads}
 use Rattle.is_rules.specs.declared.emitted.Path.{Path}
 use Rattle.is_rules.specs.declared.settings.Settings.{Settings}
-use Rattle.is_rules.specs.Answers.{goes_back}
+use Rattle.is_rules.specs.Answers.{is_reverse}
 use Rattle.is_rules.specs.Brought.{IsBrought, IsServing}
 use Rattle.is_rules.specs.Effects.{PathEffect}
 use Rattle.is_rules.specs.Issuing.{via_out, IsIssued, Says}
@@ -101,7 +101,7 @@ module _ (open_calls : Opening) (only_roles : (side : Side) → EachKeeps sets_r
 
   abbrev Found : Turn → List Turn → Type 0
   Found z earlier =
-      (back : Path) × (answer : Message) × (z.side ≡ side) × Accepts z.used back answer × (answer.class ≡ class.Success) × (goes_back back path ≡ true) × IsNoted answer.id
+      (back : Path) × (answer : Message) × (z.side ≡ side) × Accepts z.used back answer × (answer.class ≡ class.Success) × (is_reverse back path ≡ true) × IsNoted answer.id
 
   found : (turns : List Turn) (log : Log) → IsLogOf (calls open_calls side turns) log → ((id : List ℕ) → Issued_in log path id → IsNoted id) → AnsweredIn log path
       → Before Found turns

@@ -1,5 +1,5 @@
 -- A packet that waits in the agent or in what the slot holds: it stays until C gets it, or until a restart.
-use Rattle.std.proofs.Common.{◌≡◌, ◌⊎◌, ℕ, ◌==◌, Bool, true, false, nat_lt, List, [], ◌∷◌, ◌++◌, length, take, drop, Option, Some, None, option_map, Ok, Err, ℤ, inl, inr, refl, ap, sym, ◌∙◌, subst, if◌then◌else◌}
+use Rattle.std.proofs.Common.{◌≡◌, ◌⊎◌, ◌&&◌, ℕ, ◌==◌, Bool, true, false, nat_lt, List, [], ◌∷◌, ◌++◌, length, take, drop, Option, Some, None, option_map, Ok, Err, ℤ, inl, inr, refl, ap, sym, ◌∙◌, subst, if◌then◌else◌}
 use Rattle.std.proofs.Math.Seq.{take-append_seam}
 use Rattle.std.specs.Option.{option_and_then}
 use Rattle.is_proto.specs.Lists.{Has}
@@ -8,6 +8,7 @@ use Rattle.is_stun.specs.Timing.{is_modern}
 use Rattle.is_rules.specs.declared.emitted.Issued.{Issued}
 use Rattle.is_rules.specs.declared.emitted.Path.{Path}
 use Rattle.is_rules.specs.Issuing.{via_out, IsQueued, QueuesPackets}
+use Rattle.is_rules.specs.Roles.{keeps_role}
 use Rattle.is_rules.specs.Steps as agent
 use Rattle.is_rules.specs.Steps.{Call, Entry}
 use Rattle.is_theorems.specs.Polled as polled
@@ -17,7 +18,7 @@ use Rattle.is_c_calls.specs.declared.preference.Preference.{Preference}
 use Rattle.is_c_calls.specs.Addresses.{socket_of}
 use Rattle.is_c_calls.specs.Adding.{has_room, AddsMade}
 use Rattle.is_c_calls.specs.Candidates.{Made}
-use Rattle.is_c_calls.specs.Codes.{BAD_ADDRESS, NOT_UTF8, flag_code}
+use Rattle.is_c_calls.specs.Codes.{BAD_ADDRESS, NOT_UTF8, found_code}
 use Rattle.is_c_calls.specs.Given.{CallsMade, Discards}
 use Rattle.is_c_calls.specs.Held.{Held, HomeRecord}
 use Rattle.is_c_calls.specs.Monitoring.{NotesFailure}
@@ -88,7 +89,7 @@ received now bytes (Some path) code old new (inr (m, reads, (r, (emitted, handle
 pub waits : (export : Use) (code : ℤ) (old new : HomeRecord) → Does export old code new → is_polling export ≡ false → (if restarts export then is_ok code else false) ≡ false
     → new.waiting ≡ old.waiting
 waits Ask code old new h np nr = by_home old new old h refl
-waits (SetControlling role) code old new (x, does, is, kept) np nr = kept.0
+waits (SetControlling role) code old new h np nr = either (keeps_role old.agent && role) (λ k. by_home old new old k.1 refl) (λ k. by_home old new _ k.1 refl) h
 waits (SetMtu mtu warn) code old new (x, does, is, kept) np nr = kept.0
 waits RecreatePairs code old new (x, does, is, kept) np nr = kept.0
 waits (SetMaxRetransmits limit) code old new h np nr = either (limit == 0) (λ k. by_home old new old k.1 refl) (λ k. by_home old new _ k.1 refl) h
@@ -112,12 +113,12 @@ waits (AddRemote line before after) code old new h np nr = either (has_room old.
   by (Some (Err e)) k = by_home old new old k.0.1 refl
   by (Some (Ok made)) (x, does, puts, kept) = kept.0
 waits (InvalidateLocal c) code old new (made, makes, h) np nr = by made h where
-  by : (made : Made) → CallsMade Discards flag_code BAD_ADDRESS made old code new → new.waiting ≡ old.waiting
+  by : (made : Made) → CallsMade Discards found_code BAD_ADDRESS made old code new → new.waiting ≡ old.waiting
   by None k = by_home old new old k.1 refl
   by (Some (Err e)) k = by_home old new old k.1 refl
   by (Some (Ok made)) (x, does, is, kept) = kept.0
 waits (Invalidate line) code old new (made, makes, h) np nr = by made h where
-  by : (made : Made) → CallsMade Discards flag_code NOT_UTF8 made old code new → new.waiting ≡ old.waiting
+  by : (made : Made) → CallsMade Discards found_code NOT_UTF8 made old code new → new.waiting ≡ old.waiting
   by None k = by_home old new old k.1 refl
   by (Some (Err e)) k = by_home old new old k.1 refl
   by (Some (Ok made)) (x, does, is, kept) = kept.0

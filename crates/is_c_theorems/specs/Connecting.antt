@@ -10,7 +10,7 @@ use Rattle.is_stun.specs.Message.{Message}
 use Rattle.is_stun.specs.Reading.{Reads}
 use Rattle.is_rules.specs.declared.credentials.IceCreds.{IceCreds}
 use Rattle.is_rules.specs.declared.emitted.Path.{Path}
-use Rattle.is_rules.specs.Answers.{goes_back, keeps_check_on}
+use Rattle.is_rules.specs.Answers.{is_reverse, keeps_check_on}
 use Rattle.is_rules.specs.Connecting.{is_connected}
 use Rattle.is_rules.specs.Emitted.{reversed}
 use Rattle.is_rules.specs.Fitting.{are_too_long}
@@ -160,7 +160,7 @@ pub record NominatingCheck (path : Path) : Type 0 where
 pub record AnsweredCheck (path : Path) : Type 0 where
   pub check : DeliveredCheck
   pub back : ReturnedReply check
-  pub comes : goes_back back.via path ≡ true
+  pub comes : is_reverse back.via path ≡ true
 
 -- Both happen, in any order, and with any calls between them. After that the controlled agent evaluates. Only one of its pairs has the path's
 -- addresses, and it is still there.

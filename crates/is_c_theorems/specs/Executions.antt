@@ -9,7 +9,7 @@ use Rattle.is_rules.specs.Nominating.{is_eligible}
 use Rattle.is_rules.specs.Points.{HasSelected, IsNominationPoint}
 use Rattle.is_rules.specs.Sending.{path_of}
 use Rattle.is_theorems.specs.Bounds.{IsBounded, gathered_count, signal_count}
-use Rattle.is_theorems.specs.ConsentCourses.{IsAliveBy}
+use Rattle.is_theorems.specs.ConsentExecutions.{IsAliveBy}
 use Rattle.is_theorems.specs.ConsentLogs.{IsConnectedAt}
 use Rattle.is_theorems.specs.Logs.{Logged, last_selected, IsAnsweredBy}
 use Rattle.is_theorems.specs.Polled.{NominatedSince}

@@ -7,7 +7,7 @@ use Rattle.is_stun.specs.Integrity.{IsSignedBy}
 use Rattle.is_stun.specs.Message.{Message}
 use Rattle.is_rules.specs.declared.credentials.IceCreds.{IceCreds}
 use Rattle.is_rules.specs.declared.emitted.Path.{Path}
-use Rattle.is_rules.specs.Answers.{goes_back}
+use Rattle.is_rules.specs.Answers.{is_reverse}
 use Rattle.is_rules.specs.Emitted.{reversed}
 use Rattle.is_c_calls.specs.declared.address.Address.{Address}
 use Rattle.is_c_calls.specs.Codes.{OK}
@@ -50,7 +50,7 @@ abbrev pub Answers : List Used → HomeRecord → Path → Used → List Used �
 Answers uses home path u before =
     (by : Path) × (m : Message) × (peer : IceCreds)
     × Accepts u by m × (m.method ≡ Binding) × (m.class ≡ class.Success) × (peer_of before ≡ Some peer) × IsSignedBy (mac_of (record {})) m peer.pass
-    × (goes_back by path ≡ true) × IsChecked uses home path m.id
+    × (is_reverse by path ≡ true) × IsChecked uses home path m.id
 
 -- Each path that C gets by a `NominatedSend` was answered since pairs were last cleared (RFC 8445, section 7.2.5.3).
 abbrev pub SelectedAreAnswered : Type 0

@@ -7,7 +7,7 @@ use Rattle.is_stun.specs.Message.{Message}
 use Rattle.is_stun.specs.Reading.{Reads}
 use Rattle.is_rules.specs.declared.credentials.IceCreds.{IceCreds}
 use Rattle.is_rules.specs.declared.emitted.Path.{Path}
-use Rattle.is_rules.specs.Answers.{goes_back}
+use Rattle.is_rules.specs.Answers.{is_reverse}
 use Rattle.is_c_calls.specs.declared.address.Address.{Address}
 use Rattle.is_c_calls.specs.Codes.{OK}
 use Rattle.is_c_calls.specs.Held.{HomeRecord}
@@ -143,7 +143,7 @@ GivesAnswer side path answer x before =
 -- After that, C passed it to the side as a success response that came back on the path, and got OK.
 abbrev pub TakesAnswer : Side → Path → Turn → List Turn → Type 0
 TakesAnswer side path x before =
-    (back : Path) × (answer : Message) × (x.side ≡ side) × Accepts x.used back answer × (answer.class ≡ class.Success) × (goes_back back path ≡ true)
+    (back : Path) × (answer : Message) × (x.side ≡ side) × Accepts x.used back answer × (answer.class ≡ class.Success) × (is_reverse back path ≡ true)
     × Before (GivesAnswer side path answer) before
 
 -- Each path that C gets by a `NominatedSend` was so answered, from a side that always has the profile `Modern` and is never lite. The other one may

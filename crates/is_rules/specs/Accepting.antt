@@ -21,9 +21,9 @@ use Rattle.is_rules.specs.Request.{RequestRecord, request_in}
 use Rattle.is_rules.specs.Emitted.{nothing_emitted}
 use Rattle.is_rules.specs.Agent.{AgentRecord}
 use Rattle.is_rules.specs.Limit.{newest, is_crowded}
-use Rattle.is_rules.specs.Serving.{TakesRequest, MayFailAtArrival}
+use Rattle.is_rules.specs.Serving.{HandlesRequest, MayFailAtArrival}
 use Rattle.is_pair.specs.Multiset.{keeps_check}
-use Rattle.is_rules.specs.Answers.{keeps_check_on, TakesSuccess, TakesFailure}
+use Rattle.is_rules.specs.Answers.{keeps_check_on, HandlesSuccess, HandlesFailure}
 
 -- The accepted message is a request that is dropped: the peer is known, and there is no response.
 abbrev pub is_dropped : Class → Bool → Emitted → Bool
@@ -94,9 +94,9 @@ module _ {H P : Type 0} where
 
   -- what an accepted message does, by its class
   abbrev pub Takes : (H → List ℕ → List ℕ → List ℕ) → Class → ℕ → AgentRecord H P → Path → Message → Emitted → AgentRecord H P → Type 0
-  Takes mac Request now old path m emitted new = TakesRequest mac (request_in now path m) old emitted new
-  Takes mac Success now old path m emitted new = TakesSuccess now old path m emitted new
-  Takes mac Failure now old path m emitted new = TakesFailure old path m emitted new
+  Takes mac Request now old path m emitted new = HandlesRequest mac (request_in now path m) old emitted new
+  Takes mac Success now old path m emitted new = HandlesSuccess now old path m emitted new
+  Takes mac Failure now old path m emitted new = HandlesFailure old path m emitted new
   Takes mac _ now old path m emitted new = ⊥
 
   -- An accepted request may fail as its arrival may; a response fails only for an allocation failure.

@@ -48,13 +48,13 @@ joined_by None cs = cs
 joined_by (Some c) cs = cs ++ c ∷ []
 
 -- `via` is the reverse of `path` in its addresses. Protocols are not compared.
-abbrev pub goes_back : Path → Path → Bool
-goes_back via path = same_address via.source path.destination && same_address via.destination path.source
+abbrev pub is_reverse : Path → Path → Bool
+is_reverse via path = same_address via.source path.destination && same_address via.destination path.source
 
 module _ {H P : Type 0} where
   -- The pair has the pending transaction, and the packet was received on the reverse of the pair's path.
   abbrev pub keeps_check_on : AgentRecord H P → Path → List ℕ → PairRecord → Bool
-  keeps_check_on a via id p = keeps_check id p && goes_back via (path_of a p)
+  keeps_check_on a via id p = keeps_check id p && is_reverse via (path_of a p)
 
   -- ---- success: any pair with the pending transaction, on the reverse of whose path the packet was received, may record it
 
@@ -87,8 +87,8 @@ module _ {H P : Type 0} where
       (path : Option Path) × (mid : AgentRecord H P) × Nominates old path mid × (emitted ≡ selected_only path) × (new ≡ evaluated now mid)
 
   -- Then nomination and state are evaluated.
-  abbrev pub TakesSuccess : ℕ → AgentRecord H P → Path → Message → Emitted → AgentRecord H P → Type 0
-  TakesSuccess now old via m emitted new =
+  abbrev pub HandlesSuccess : ℕ → AgentRecord H P → Path → Message → Emitted → AgentRecord H P → Type 0
+  HandlesSuccess now old via m emitted new =
       (recorded : AgentRecord H P) × Records now old via m recorded × Concludes now recorded emitted new
 
   -- ---- errors: any pair with the pending transaction, on the reverse of whose path the packet was received, may take it
@@ -105,7 +105,7 @@ module _ {H P : Type 0} where
       × MatchBool (same c.controlling s.controlling && not (keeps_role s)) (Drops (switched s) emitted new) (Drops s emitted new)
 
   -- Nomination and state are not evaluated, and the check is not marked as answered.
-  abbrev pub TakesFailure : AgentRecord H P → Path → Message → Emitted → AgentRecord H P → Type 0
-  TakesFailure old via m emitted new =
+  abbrev pub HandlesFailure : AgentRecord H P → Path → Message → Emitted → AgentRecord H P → Type 0
+  HandlesFailure old via m emitted new =
       (p : PairRecord) × Has old.pairs p × (keeps_check_on old via m.id p ≡ true)
       × MatchBool (is_role_conflict m) (LeavesRole p m (error_noted p.number m old) emitted new) (Drops (error_noted p.number m old) emitted new)

@@ -18,9 +18,9 @@ use Rattle.is_rules.specs.Emitted.{reversed}
 use Rattle.is_rules.specs.Agent.{AgentRecord}
 use Rattle.is_rules.specs.Sending.{path_of}
 use Rattle.is_rules.specs.Roles.{conflict_of}
-use Rattle.is_rules.specs.Serving.{names_another, nominates}
+use Rattle.is_rules.specs.Serving.{is_for_other_peer, nominates}
 use Rattle.is_rules.specs.Queue.{request_at}
-use Rattle.is_rules.specs.Answers.{is_role_conflict, goes_back}
+use Rattle.is_rules.specs.Answers.{is_role_conflict, is_reverse}
 use Rattle.is_rules.specs.Steps.{Call, SetControlling, ReceivePacket, HandleTimeout}
 
 -- the role after a request that is served and passes the tests
@@ -75,7 +75,7 @@ module _ {H P : Type 0} where
 
   -- The request passes the tests of its username fragment and its destination.
   abbrev pub IsServedPastTests : AgentRecord H P → RequestRecord → Type 0
-  IsServedPastTests old q = (names_another old q ≡ false) × ((l : ℕ) × (local_place old.local q ≡ Some l))
+  IsServedPastTests old q = (is_for_other_peer old q ≡ false) × ((l : ℕ) × (local_place old.local q ≡ Some l))
 
   -- ---- responses
 
@@ -85,7 +85,7 @@ module _ {H P : Type 0} where
       (at : ℕ) × (by : Path) × (m : Message) × (controlling : Bool) × (peer : IceCreds)
       × Brings call e at by m × (m.class ≡ class.Success) × IsKept old path m.id controlling
       × (old.remote_creds ≡ Some peer) × IsSignedBy (mac old.provider) m peer.pass
-      × (goes_back by path ≡ true)
+      × (is_reverse by path ≡ true)
 
   -- ---- roles
 

@@ -1,7 +1,5 @@
 -- Discarded candidates: a discarded candidate keeps its index, and its pairs are removed (`invalidate_candidate`).
-use Rattle.std.specs.Prelude.{◌≡◌, ℕ, ◌==◌, ◌&&◌, not, Bool, true, false, List, position, slice_set, Option, Some, None, Result, Ok, Err, if◌then◌else◌}
-use Rattle.is_proto.specs.declared.error.IceError.{IceError}
-use Rattle.is_proto.specs.declared.error.IceError.TheVariants.{OutOfMemory}
+use Rattle.std.specs.Prelude.{◌≡◌, ℕ, ◌==◌, ◌&&◌, not, Bool, true, false, List, position, slice_set, Option, Some, None, if◌then◌else◌}
 use Rattle.is_stun.specs.Timing.{is_modern}
 use Rattle.is_candidate.specs.Candidates.{CandidateRecord, candidate_at}
 use Rattle.is_candidate.specs.Equality.{is_equivalent}
@@ -65,7 +63,6 @@ module _ {H P : Type 0} where
   InvalidatesAt None (Some place) old found new = (found ≡ true) × (new ≡ remote_discarded place old)
   InvalidatesAt None None old found new = (found ≡ false) × (new ≡ old)
 
-  -- `invalidate_candidate`: a local candidate, else a remote one. It fails only for an allocation failure.
-  abbrev pub Invalidates : AgentRecord H P → CandidateRecord → Result Bool IceError → AgentRecord H P → Type 0
-  Invalidates old c (Ok found) new = InvalidatesAt (local_to_discard c old) (remote_to_discard c old) old found new
-  Invalidates old c (Err error) new = (error ≡ OutOfMemory) × (new ≡ old)
+  -- `invalidate_candidate`: a local candidate, else a remote one
+  abbrev pub Invalidates : AgentRecord H P → CandidateRecord → Bool → AgentRecord H P → Type 0
+  Invalidates old c found new = InvalidatesAt (local_to_discard c old) (remote_to_discard c old) old found new

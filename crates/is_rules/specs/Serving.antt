@@ -102,8 +102,8 @@ module _ {H P : Type 0} where
   -- ---- what each rule reads and changes
 
   -- The request has another username fragment than the known peer, or no peer is known.
-  abbrev pub names_another : AgentRecord H P → RequestRecord → Bool
-  names_another s q = option_map_or (λ (peer : IceCreds). not (bytes_eq q.ufrag peer.ufrag)) s.remote_creds true
+  abbrev pub is_for_other_peer : AgentRecord H P → RequestRecord → Bool
+  is_for_other_peer s q = option_map_or (λ (peer : IceCreds). not (bytes_eq q.ufrag peer.ufrag)) s.remote_creds true
 
   -- The request nominates its pair, if the agent is controlled: by USE-CANDIDATE, or by NOMINATION if nominations have numbers.
   abbrev pub nominates : AgentRecord H P → RequestRecord → Bool
@@ -230,19 +230,19 @@ module _ {H P : Type 0} where
 
     -- A request that names another peer is dropped.
     abbrev pub Serves : RequestRecord → AgentRecord H P → Emitted → AgentRecord H P → Type 0
-    Serves q s emitted new = MatchBool (names_another s q) (Drops s emitted new) (ServesHere q s emitted new)
+    Serves q s emitted new = MatchBool (is_for_other_peer s q) (Drops s emitted new) (ServesHere q s emitted new)
 
     -- If no remote credentials are known, the request is queued.
-    abbrev pub TakesRequest : RequestRecord → AgentRecord H P → Emitted → AgentRecord H P → Type 0
-    TakesRequest q s emitted new = MatchOption s.remote_creds (Queues q s emitted new) (λ _. Serves q s emitted new)
+    abbrev pub HandlesRequest : RequestRecord → AgentRecord H P → Emitted → AgentRecord H P → Type 0
+    HandlesRequest q s emitted new = MatchOption s.remote_creds (Queues q s emitted new) (λ _. Serves q s emitted new)
 
   -- ---- when a pair is needed and no number is left
 
   -- These are candidates, and a pair, at which the request can be served. None: the request is dropped before that.
   abbrev pub Chooses : AgentRecord H P → RequestRecord → Option Places → Type 0
-  Chooses s q None = MatchBool (names_another s q) (Unit {0}) (local_place s.local q ≡ None)
+  Chooses s q None = MatchBool (is_for_other_peer s q) (Unit {0}) (local_place s.local q ≡ None)
   Chooses s q (Some at) =
-      (names_another s q ≡ false) × (local_place s.local q ≡ Some at.local) × IsSenderPlace s q at.remote
+      (is_for_other_peer s q ≡ false) × (local_place s.local q ≡ Some at.local) × IsSenderPlace s q at.remote
       × IsPairBetween s.pairs at.local (remote_index s.remote at.remote) at.pair
 
   -- A pair must be added for these candidates.

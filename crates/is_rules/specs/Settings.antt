@@ -1,27 +1,27 @@
 -- What the user of an agent may set.
 use Rattle.std.specs.Prelude.{◌≡◌, ℕ, ◌*◌, ◌==◌, ◌&&◌, Bool, true, false, nat_lt, max, map, Some, None, Result, Ok, Err, if◌then◌else◌}
-use Rattle.is_proto.specs.Times.{MILLISECOND, SECOND}
+use Rattle.is_proto.specs.Times.{MILLISECOND}
 use Rattle.is_proto.specs.declared.error.IceError.{IceError}
-use Rattle.is_proto.specs.declared.error.IceError.TheVariants.{LiteStaysControlled, MtuTooSmall}
+use Rattle.is_proto.specs.declared.error.IceError.TheVariants.{MtuTooSmall}
 use Rattle.is_stun.specs.declared.timing.ConsentSetting.{ConsentSetting}
 use Rattle.is_stun.specs.declared.timing.Profile.{Profile}
 use Rattle.is_stun.specs.declared.timing.Profile.TheVariants.{Original, Modern}
 use Rattle.is_pair.specs.Pairs.{undue}
 use Rattle.is_rules.specs.declared.settings.Settings.{Settings}
 use Rattle.is_rules.specs.Fitting.{MTU_FLOOR}
-use Rattle.is_rules.specs.Agent.{AgentRecord}
+use Rattle.is_rules.specs.Agent.{AgentRecord, default_timing}
 use Rattle.is_rules.specs.Roles.{keeps_role}
 
--- the behavior of the Rust crate `is` 0.12.0, with its numbers
+-- the behavior of the Rust crate `is` 0.12.0, with its numbers: those of the checks are in `default_timing`
 abbrev pub original_settings : Settings
 original_settings = record {
   profile = Original;
   timing_advance = record { 0 = 50 * MILLISECOND };
-  initial_rto = record { 0 = 250 * MILLISECOND };
-  max_rto = record { 0 = 3000 * MILLISECOND };
-  max_retransmits = 9;
-  lite_timeout = record { 0 = 15 * SECOND };
-  consent = record { timeout = None; strict = false };
+  initial_rto = default_timing.initial_rto;
+  max_rto = default_timing.max_rto;
+  max_retransmits = default_timing.max_retransmits;
+  lite_timeout = default_timing.lite_timeout;
+  consent = default_timing.consent;
   max_pairs = 100;
   max_discovered = None;
   renomination = false;
@@ -58,11 +58,9 @@ module _ {H P : Type 0} where
   SetsMtu old target warn (Err MtuTooSmall) new = (nat_lt target MTU_FLOOR ≡ true) × (new ≡ old)
   SetsMtu old target warn (Err _) new = ⊥
 
-  -- `set_controlling`: existing pairs keep their priorities. A lite agent that keeps its role can't be made controlling.
-  abbrev pub SetsControlling : AgentRecord H P → Bool → Result (Unit {0}) IceError → AgentRecord H P → Type 0
-  SetsControlling old controlling (Ok _) new = ((keeps_role old && controlling) ≡ false) × (new ≡ record old { controlling = controlling })
-  SetsControlling old controlling (Err LiteStaysControlled) new = ((keeps_role old && controlling) ≡ true) × (new ≡ old)
-  SetsControlling old controlling (Err _) new = ⊥
+  -- `set_controlling`: existing pairs keep their priorities. With the profile `Modern` a lite agent is not made controlling: it stays as it is.
+  abbrev pub controlling_set : Bool → AgentRecord H P → AgentRecord H P
+  controlling_set controlling a = record a { controlling = if keeps_role a && controlling then a.controlling else controlling }
 
   -- `set_initial_stun_rto` and `set_max_stun_rto`: if one of the two changes, the due time of each pair is computed again.
   abbrev pub with_rtos : ℕ → ℕ → AgentRecord H P → AgentRecord H P

@@ -16,7 +16,7 @@ use Rattle.is_rules.specs.declared.emitted.Path.{Path}
 use Rattle.is_rules.specs.declared.emitted.Emitted.{Emitted}
 use Rattle.is_rules.specs.Emitted.{nothing_emitted}
 use Rattle.is_rules.specs.Agent.{AgentRecord}
-use Rattle.is_rules.specs.Settings.{SetsControlling, SetsMtu, with_rtos, with_consent, with_profile, with_retransmits, with_lite_timeout, numbers_skipped}
+use Rattle.is_rules.specs.Settings.{controlling_set, SetsMtu, with_rtos, with_consent, with_profile, with_retransmits, with_lite_timeout, numbers_skipped}
 use Rattle.is_rules.specs.Credentials.{SetsLocal, SetsRemote}
 use Rattle.is_rules.specs.Discarding.{Invalidates}
 use Rattle.is_rules.specs.Local.{AddsLocal}
@@ -125,11 +125,11 @@ Becomes needed s e new t = (e ≡ quiet Done) × (new ≡ needed) × (t ≡ s)
 abbrev pub MayDo : {A : Type 0} → (Result (Unit {0}) IceError → A → Type 0) → Stream → Entry → A → Stream → Type 0
 MayDo Does s e new t = (r : Result (Unit {0}) IceError) × (e ≡ quiet (answer_by done r)) × Does r new × (t ≡ s)
 
--- The call succeeds or fails, and draws no random words. It may remove the selected pair, and then select another path.
-abbrev pub MaySelect : {H P A : Type 0} → (A → Answer) → (Result A IceError → AgentRecord H P → Type 0) → AgentRecord H P → Stream → Entry
+-- The call draws no random words. It may remove the selected pair, and then select another path.
+abbrev pub MaySelect : {H P A : Type 0} → (A → Answer) → (A → AgentRecord H P → Type 0) → AgentRecord H P → Stream → Entry
     → AgentRecord H P → Stream → Type 0
 MaySelect {A = A} to_answer Does old s e new t =
-    (r : Result A IceError) × (emitted : Emitted) × (e ≡ record { answer = answer_by to_answer r; emitted = emitted })
+    (r : A) × (emitted : Emitted) × (e ≡ record { answer = to_answer r; emitted = emitted })
     × ReselectsAfter (Does r) old emitted new × (t ≡ s)
 
 module _ {H P : Type 0} (mac : H → List ℕ → List ℕ → List ℕ) (answers : P → CandidateRecord → ℕ → ℕ → Type 0) where
@@ -163,12 +163,12 @@ module _ {H P : Type 0} (mac : H → List ℕ → List ℕ → List ℕ) (answer
   Step old s (SetMaxStunRetransmits n) e new t = SetsRetransmits n old s e new t
   Step old s (SetLiteTimeout by) e new t = Becomes (with_lite_timeout by old) s e new t
   Step old s (SetLocalPreference object) e new t = Becomes (record old { preference = Some object }) s e new t
-  Step old s (SetControlling controlling) e new t = MayDo (SetsControlling old controlling) s e new t
+  Step old s (SetControlling controlling) e new t = Becomes (controlling_set controlling old) s e new t
   Step old s (SetLocalCredentials creds) e new t = MayDo (SetsLocal old creds) s e new t
   Step old s (SetRemoteCredentials creds) e new t = MayDo (SetsRemote old creds) s e new t
   Step old s (SkipPairIds n) e new t = Becomes (numbers_skipped n old) s e new t
-  Step old s (AddLocalCandidate c) e new t = MaySelect added (AddsLocal answers old c) old s e new t
-  Step old s (AddRemoteCandidate c) e new t = MaySelect done (AddsRemote old c) old s e new t
+  Step old s (AddLocalCandidate c) e new t = MaySelect (answer_by added) (AddsLocal answers old c) old s e new t
+  Step old s (AddRemoteCandidate c) e new t = MaySelect (answer_by done) (AddsRemote old c) old s e new t
   Step old s (InvalidateCandidate c) e new t = MaySelect Flag (Invalidates old c) old s e new t
   Step old s (RestartIce creds keep) e new t = MayDo (Restarts old creds keep) s e new t
   Step old s RecreateCandidatePairs e new t = MayDo (Recreates old) s e new t

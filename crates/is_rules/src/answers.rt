@@ -14,7 +14,7 @@ ghost use Rattle.is_rules.specs.Nominating.{path_in};
 ghost use Rattle.is_stun.specs.MessageView.{message_view};
 ghost use Rattle.is_rules.specs.Kept.{NoneTooHigh, are_placed};
 ghost use Rattle.is_rules.specs.Due.{IsSentUnder};
-ghost use Rattle.is_rules.specs.Answers.{is_known_address, is_left_out, is_role_conflict, goes_back, joined_by};
+ghost use Rattle.is_rules.specs.Answers.{is_known_address, is_left_out, is_role_conflict, is_reverse, joined_by};
 
 use crate::emitted::Path;
 use crate::limit::has_local_room;
@@ -55,8 +55,8 @@ pub fn keeps_any(pairs: &Checklist, id: TransId) -> bool
 }
 
 /// The first path is the reverse of the second one in its addresses. Protocols are not compared.
-fn goes_back(via: &Path, path: &Path) -> bool
-    ensures { result ≡ goes_back via.now path.now }
+fn is_reverse(via: &Path, path: &Path) -> bool
+    ensures { result ≡ is_reverse via.now path.now }
 {
     same_address(via.source, path.destination) && same_address(via.destination, path.source)
 }
@@ -70,24 +70,24 @@ struct GoesBack<'a> {
 
 impl PairTest for GoesBack<'_> {
     ghost use Rattle.std.specs.Prelude.{◌&&◌};
-    ghost use Rattle.is_rules.specs.Answers.{goes_back};
+    ghost use Rattle.is_rules.specs.Answers.{is_reverse};
     ghost use Rattle.is_rules.specs.FormingView.{sides_view};
     ghost use Rattle.is_rules.specs.Kept.{is_placed};
     ghost use Rattle.is_rules.specs.Nominating.{path_in};
 
-    ghost passes = { λ t p. is_placed t.sides.local.now t.sides.remote.now p && goes_back t.via.now (path_in (sides_view t.sides) p) };
+    ghost passes = { λ t p. is_placed t.sides.local.now t.sides.remote.now p && is_reverse t.via.now (path_in (sides_view t.sides) p) };
 
     fn passes(&self, pair: &CandidatePair) -> bool {
-        self.sides.has(pair) && goes_back(self.via, &path_in(self.sides, pair))
+        self.sides.has(pair) && is_reverse(self.via, &path_in(self.sides, pair))
     }
 }
 
 /// The number of a pair that has a pending transaction with this ID, and on the reverse of whose path the packet was received.
 pub fn pair_awaiting(pairs: &Checklist, sides: Sides<'_>, via: &Path, id: TransId) -> Option<u64>
     requires { are_placed sides.local.now sides.remote.now (multiset_of pairs.now) ≡ true }
-    ensures any { list_any (is_awaiting id.0 (λ p. goes_back via.now (path_in (sides_view sides.entry) p))) (multiset_of pairs.now) ≡ is_some result }
+    ensures any { list_any (is_awaiting id.0 (λ p. is_reverse via.now (path_in (sides_view sides.entry) p))) (multiset_of pairs.now) ≡ is_some result }
     ensures kept { IfSome result (λ number. (p : PairRecord) × (pair_numbered number (multiset_of pairs.now) ≡ Some p)
-        × (is_awaiting id.0 (λ p. goes_back via.now (path_in (sides_view sides.entry) p)) p ≡ true)) }
+        × (is_awaiting id.0 (λ p. is_reverse via.now (path_in (sides_view sides.entry) p)) p ≡ true)) }
 {
     pairs.numbers_rise();
     match pairs.awaiting(id, &GoesBack { sides, via }) {

@@ -4,7 +4,7 @@ ghost use Rattle.std.specs.Prelude.{◌≡◌};
 ghost use Rattle.is_rules.specs.Settings.{original_settings, modern_settings};
 
 use is_proto::Duration;
-use is_stun::stun::{ConsentSetting, DEFAULT_MAX_RETRANSMITS, Profile};
+use is_stun::stun::{ConsentSetting, Profile, StunTiming};
 
 /// All that a user may choose of an agent's behavior. `Settings::original` and `Settings::modern` are whole answers: take one, and
 /// change fields of it.
@@ -32,34 +32,23 @@ pub struct Settings {
     pub renomination: bool,
 }
 
-/// The initial RTO of a new agent.
-const INITIAL_RTO: Duration = Duration(250_000_000);
-
 /// Ta of a new agent.
 const TA: Duration = Duration(50_000_000);
-
-/// How long a new ICE-lite agent keeps a pair without a check.
-const LITE_TIMEOUT: Duration = Duration(15_000_000_000);
-
-/// Consent by the timing: not strict, since browsers keep a path by the peer's checks too.
-const CONSENT: ConsentSetting = ConsentSetting {
-    timeout: None,
-    strict: false,
-};
 
 impl Settings {
     /// The behavior of the Rust crate `is` 0.12.0, with its numbers.
     pub fn original() -> Settings
         ensures { result ≡ original_settings }
     {
+        let timing = StunTiming::default();
         Settings {
-            profile: Profile::Original,
+            profile: timing.profile,
             timing_advance: TA,
-            initial_rto: INITIAL_RTO,
-            max_rto: Duration(3_000_000_000),
-            max_retransmits: DEFAULT_MAX_RETRANSMITS,
-            lite_timeout: LITE_TIMEOUT,
-            consent: CONSENT,
+            initial_rto: timing.initial_rto,
+            max_rto: timing.max_rto,
+            max_retransmits: timing.max_retransmits,
+            lite_timeout: timing.lite_timeout,
+            consent: timing.consent,
             max_pairs: 100,
             max_discovered: None,
             renomination: false,

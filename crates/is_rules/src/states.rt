@@ -59,9 +59,9 @@ fn is_nominated_and_valid(pair: &CandidatePair) -> bool
 
 /// Whether media can be sent on a pair.
 #[derive(Clone, Copy)]
-pub struct Selected;
+pub struct Usable;
 
-impl PairTest for Selected {
+impl PairTest for Usable {
     ghost use Rattle.is_rules.specs.States.{is_nominated_and_valid};
 
     ghost passes = { λ t p. is_nominated_and_valid p };

@@ -1,8 +1,8 @@
 -- A connected agent has consent.
 pub mod ConnectedPairs
-pub mod ConnectedCourses
+pub mod ConnectedExecutions
 pub mod AnsweredPairs
-pub mod AnsweredCourses
+pub mod AnsweredExecutions
 pub mod AnsweredLately
 pub mod ConnectedLogs
 pub mod SilentPairs

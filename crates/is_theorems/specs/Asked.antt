@@ -8,7 +8,7 @@ use Rattle.is_pair.specs.Pairs.{PairRecord}
 use Rattle.is_stun.specs.declared.header.Class.TheVariants as class
 use Rattle.is_stun.specs.Message.{Message}
 use Rattle.is_rules.specs.Agent.{AgentRecord}
-use Rattle.is_rules.specs.Answers.{goes_back}
+use Rattle.is_rules.specs.Answers.{is_reverse}
 use Rattle.is_rules.specs.Brought.{Brings, IsServing}
 use Rattle.is_rules.specs.Serving.{nominates}
 use Rattle.is_rules.specs.declared.emitted.Path.{Path}
@@ -24,7 +24,7 @@ use Rattle.is_rules.specs.Emitted.{issued_as}
 
 -- An accepted success response was received on the reverse path.
 abbrev pub IsAnsweredOn : {P : Type 0} → Logged P → Path → Type 0
-IsAnsweredOn x path = (at : ℕ) × (by : Path) × (m : Message) × Brings x.call x.entry at by m × (m.class ≡ class.Success) × (goes_back by path ≡ true)
+IsAnsweredOn x path = (at : ℕ) × (by : Path) × (m : Message) × Brings x.call x.entry at by m × (m.class ≡ class.Success) × (is_reverse by path ≡ true)
 
 abbrev pub IsAnsweredIn : {P : Type 0} → List (Logged P) → Path → Type 0
 IsAnsweredIn part path = (x : Logged _) × Has part x × IsAnsweredOn x path

@@ -24,7 +24,7 @@ module _ {H P : Type 0} where
     pub at : ℕ
     pub began : began_at rounds ≡ Some at
     pub line : IsInLine at by start p
-    pub passing : (r : LoggedRound P) → Has rounds r → IsPassing by r
+    pub passing : (r : LoggedRound P) → Has rounds r → IsPassing (is_modern start.timing) by r
     pub lasting : (r : LoggedRound P) → Has rounds r → IsLasting r.now start p
     pub enough : checks_for (is_modern start.timing) (2 * bound + last.next_number + nominations_ahead start (selection_count (entries_of rounds)))
         ≤ length rounds + 1 + checks_for (is_modern start.timing) start.next_number

@@ -6,8 +6,8 @@ use Rattle.is_proto.specs.Packets.{Packet}
 use Rattle.is_candidate.specs.Candidates.{CandidateRecord}
 use Rattle.is_stun.specs.declared.header.Class.TheVariants.{Request, Success, Failure}
 use Rattle.is_rules.specs.Agent.{AgentRecord}
-use Rattle.is_rules.specs.Answers.{goes_back, keeps_check_on}
-use Rattle.is_theorems.specs.AskedCourses.{EndsAlong}
+use Rattle.is_rules.specs.Answers.{is_reverse, keeps_check_on}
+use Rattle.is_theorems.specs.AskedExecutions.{EndsAlong}
 use Rattle.is_theorems.specs.Asking.{AreNominatedOn, AcceptsNomination}
 use Rattle.is_rules.specs.Brought.{IsRejectedBy}
 use Rattle.is_theorems.specs.Conflicts.{AreSentUnder, ServesPastTests, handing}
@@ -54,7 +54,7 @@ module _ {H P : Type 0} (mac : H → List ℕ → List ℕ → List ℕ) (answer
   pub record CarriedBack (k : SentCheck mac answers) (c : CarriedCheck k) (response : Packet) : Type 0 where
     pub answer : Packet
     pub unaltered : answer.contents ≡ response.contents
-    pub back : goes_back (via_out answer) (via_out k.check) ≡ true
+    pub back : is_reverse (via_out answer) (via_out k.check) ≡ true
     pub receipt : ReturnedWhilePending mac answers k c.receipt.receiver answer
 
   -- If a check is sent, and received at any time in the other role than its sender's, or its receiver switches to that, it is served. If
@@ -85,7 +85,7 @@ module _ {H P : Type 0} (mac : H → List ℕ → List ℕ → List ℕ) (answer
     pub returns : (r : CarriedBack k c rejection) → keeps_role r.receipt.mid ≡ false
         → (IsRejectedBy r.receipt.mid (handing r.answer r.receipt.at) r.receipt.returned r.receipt.taken
         × (AreSentUnder k.sender.controlling r.receipt.mid k.id → r.receipt.taken.controlling ≡ not c.receipt.receiver.controlling))
-        ⊎ EndsAlong mac answers r.receipt.calls k.sent r.receipt.mid r.receipt.course (via_out k.check)
+        ⊎ EndsAlong mac answers r.receipt.calls k.sent r.receipt.mid r.receipt.execution (via_out k.check)
 
   -- A role conflict at any time: if a check is sent, and received, it is served. If its receiver has the role that the check was
   -- sent in, either it has the smaller tie-breaker and takes the other role, or it keeps its role and sends a 487.

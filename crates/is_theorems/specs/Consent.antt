@@ -12,7 +12,7 @@ use Rattle.is_rules.specs.declared.emitted.Emitted.{Emitted}
 use Rattle.is_rules.specs.Queue.{request_at}
 use Rattle.is_rules.specs.Steps.{Call, Entry, NextTimeout, PollTimeout}
 use Rattle.is_rules.specs.Timeouts.{TimesOut}
-use Rattle.is_theorems.specs.Exchange.{Course}
+use Rattle.is_theorems.specs.Exchange.{Execution}
 use Rattle.is_theorems.specs.FirstTimeouts.{AreInRound}
 use Rattle.is_theorems.specs.InTime.{KeepsPace}
 
@@ -26,20 +26,20 @@ module _ {H P : Type 0} (mac : H → List ℕ → List ℕ → List ℕ) where
   module _ (answers : P → CandidateRecord → ℕ → ℕ → Type 0) where
     -- One of these calls is `poll_timeout`, the agent is in this state when it is called, and `next` is at most `delay` later than the
     -- time that it returned.
-    abbrev pub IsPolledIn : (delay next : ℕ) (polled : AgentRecord H P) (xs : List (Call P × Entry)) (old new : AgentRecord H P) → Course mac answers xs old new → Type 0
-    IsPolledIn delay next polled [] old new course = ⊥
-    IsPolledIn delay next polled (x ∷ rest) old new course =
+    abbrev pub IsPolledIn : (delay next : ℕ) (polled : AgentRecord H P) (xs : List (Call P × Entry)) (old new : AgentRecord H P) → Execution mac answers xs old new → Type 0
+    IsPolledIn delay next polled [] old new execution = ⊥
+    IsPolledIn delay next polled (x ∷ rest) old new execution =
         ((polled ≡ old) × (x.0 ≡ PollTimeout) × ((deadline : ℕ) × (x.1.answer ≡ NextTimeout (Some deadline)) × (next ≤ deadline + delay)))
-        ⊎ IsPolledIn delay next polled rest course.0 new course.5
+        ⊎ IsPolledIn delay next polled rest execution.0 new execution.5
 
     -- The caller is punctual after a `handle_timeout` call at time `now`: in these calls it calls `poll_timeout`, and makes the next
     -- `handle_timeout` call at time `next`. Nothing in them sets a longer pacing interval than `pace`, or changes the profile.
     pub record IsFollowed (pace delay now next : ℕ) (first : AgentRecord H P) (xs : List (Call P × Entry)) (last : AgentRecord H P) (polled : AgentRecord H P) : Type 0 where
       pub begins : first.timing_advance ≤ pace
       pub keeps : KeepsPace pace xs
-      pub between : AreInRound xs
-      pub course : Course mac answers xs first last
-      pub prompt : IsPolledIn delay next polled xs first last course
+      pub between : AreInRound true xs
+      pub execution : Execution mac answers xs first last
+      pub prompt : IsPolledIn delay next polled xs first last execution
 
     -- A pair of a full agent that is stored when a punctual caller calls `poll_timeout`: the next `handle_timeout` call comes by the end of
     -- the pair's consent, or by a pacing interval after the call before, and `delay`. It removes the pair if it has no consent then.

@@ -11,7 +11,7 @@ use Rattle.is_rules.specs.Connecting.{is_connected}
 use Rattle.is_rules.specs.Queue.{request_at}
 use Rattle.is_rules.specs.Sending.{path_of}
 use Rattle.is_rules.specs.Steps.{Done, HandleTimeout}
-use Rattle.is_theorems.specs.ConsentCourses.{HasConsentOn, IsAliveBy}
+use Rattle.is_theorems.specs.ConsentExecutions.{HasConsentOn, IsAliveBy}
 use Rattle.is_theorems.specs.Logs.{last_selected, Logged, NeverLite}
 use Rattle.is_theorems.specs.Runs.{AtEach, IsFresh}
 

@@ -3,6 +3,7 @@
 use Rattle.std.specs.Prelude.{◌≡◌, ℕ, true, ◌≤◌, ◌⊎◌, List, [], ◌∷◌, ◌++◌, length}
 use Rattle.rand_core.specs.Stream.{Stream}
 use Rattle.is_proto.specs.Lists.{Has}
+use Rattle.is_stun.specs.Timing.{is_modern}
 use Rattle.is_candidate.specs.Candidates.{CandidateRecord}
 use Rattle.is_pair.specs.Pairs.{PairRecord}
 use Rattle.is_rules.specs.Agent.{AgentRecord}
@@ -28,7 +29,7 @@ module _ {H P : Type 0} (mac : H → List ℕ → List ℕ → List ℕ) (answer
       → (one : Part mac answers first s log before start (entries_of (r ∷ [])) second)
       → (others : Part mac answers first s log (entries_of (r ∷ []) ++ before) second (entries_of later) last)
       → Awaits r.now by start p → IsUnanswered start p → by ≤ r.now → r.timeout.call ≡ HandleTimeout r.now → r.timeout.entry.answer ≡ Done
-      → ((x : Logged P) → Has r.following x → is_in_round x.call ≡ true) → ((x : LoggedRound P) → Has later x → IsPassing by x)
+      → ((x : Logged P) → Has r.following x → is_in_round (is_modern start.timing) x.call ≡ true) → ((x : LoggedRound P) → Has later x → IsPassing (is_modern start.timing) by x)
       → ((x : LoggedRound P) → Has (r ∷ later) x → IsAnsweredInRound (path_of start p) x)
       → IsControllingIn mac answers before start one.at (entries_of (r ∷ [])) second one.following one.run
       → IsControllingIn mac answers (entries_of (r ∷ []) ++ before) second others.at (entries_of later) last others.following others.run

@@ -22,22 +22,22 @@ AreBetween xs = (x : Call _ × Entry) → Has xs x → is_between x.0 ≡ true
 module _ {H P : Type 0} (mac : H → List ℕ → List ℕ → List ℕ) (answers : P → CandidateRecord → ℕ → ℕ → Type 0) where
   -- An execution of one agent: calls with their recorded results, oldest first. The random words of each call may come from any
   -- stream, as they do when two agents share one source.
-  abbrev pub Course : List (Call P × Entry) → AgentRecord H P → AgentRecord H P → Type 0
-  Course [] old new = new ≡ old
-  Course (x ∷ rest) old new = (mid : AgentRecord H P) × (s t : Stream) × GivesBased x.0 × Step mac answers old s x.0 x.1 mid t × Course rest mid new
+  abbrev pub Execution : List (Call P × Entry) → AgentRecord H P → AgentRecord H P → Type 0
+  Execution [] old new = new ≡ old
+  Execution (x ∷ rest) old new = (mid : AgentRecord H P) × (s t : Stream) × GivesBased x.0 × Step mac answers old s x.0 x.1 mid t × Execution rest mid new
 
   -- Polls and packets leave each pending transaction, on its path: a response only marks it, and is accepted if it is received
   -- again.
   abbrev pub ChecksStay : Type 0
   ChecksStay =
-      (old new : AgentRecord H P) (xs : List (Call P × Entry)) (path : Path) (id : List ℕ) → IsSound old → AreBetween xs → Course xs old new
+      (old new : AgentRecord H P) (xs : List (Call P × Entry)) (path : Path) (id : List ℕ) → IsSound old → AreBetween xs → Execution xs old new
       → list_any (keeps_check_on old path id) old.pairs ≡ true → list_any (keeps_check_on new path id) new.pairs ≡ true
 
   -- Between the two states the agent receives packets and is polled, without a `handle_timeout` call.
   pub record WithoutTimeout (old new : AgentRecord H P) : Type 0 where
     pub calls : List (Call P × Entry)
     pub between : AreBetween calls
-    pub course : Course calls old new
+    pub execution : Execution calls old new
 
   -- The check is received as it was sent, before its sender's next `handle_timeout` call. Then the two agents know each other.
   pub record ReceivedSoon (k : SentCheck mac answers) : Type 0 where

@@ -7,10 +7,10 @@ use Rattle.is_candidate.specs.Candidates.{CandidateRecord}
 use Rattle.is_pair.specs.Pairs.{PairRecord}
 use Rattle.is_pair.specs.Turns.{due_by}
 use Rattle.is_rules.specs.Agent.{AgentRecord}
-use Rattle.is_theorems.specs.Courses.{CourseRound, SelectsAmong, CourseRounds}
-use Rattle.is_theorems.specs.Exchange.{AreBetween, Course}
+use Rattle.is_theorems.specs.Executions.{ExecutionRound, SelectsAmong, ExecutionRounds}
+use Rattle.is_theorems.specs.Exchange.{AreBetween, Execution}
 use Rattle.is_theorems.specs.Progress.{checks_for, Awaits, IsUnanswered}
-use Rattle.is_theorems.specs.ReachedCourses.{IsPassed, ChecksAmong}
+use Rattle.is_theorems.specs.ReachedExecutions.{IsPassed, ChecksAmong}
 use Rattle.is_theorems.specs.Runs.{IsFresh}
 use Rattle.is_rules.specs.Sending.{path_of}
 use Rattle.is_rules.specs.Steps.{Call, Entry, Done}
@@ -30,7 +30,7 @@ SufficeForDue by now first second later =
     ((by < now) × AreAsManyAsDue by first (now ∷ later)) ⊎ ((length first.pairs ≤ 1) ⊎ AreAsManyAsDue by second later)
 
 -- the times of the rounds
-abbrev pub times_of : {P : Type 0} → List (CourseRound P) → List ℕ
+abbrev pub times_of : {P : Type 0} → List (ExecutionRound P) → List ℕ
 times_of [] = []
 times_of (r ∷ later) = r.now ∷ times_of later
 
@@ -38,11 +38,11 @@ module _ {H P : Type 0} (mac : H → List ℕ → List ℕ → List ℕ) (answer
   -- An execution starts with a newly created agent. At the start of the rounds no pair is valid, and this one is due by the time of
   -- the first one, with due times computed then. Enough rounds follow, in which the agent is controlling and only packets and polls
   -- come. Then a check is sent on the pair's path in one of them, unless a path is selected in one.
-  abbrev pub CoursesCheckFromDue : Type 0
-  CoursesCheckFromDue =
-      (first start last : AgentRecord H P) (xs : List (Call P × Entry)) (r : CourseRound P) (later : List (CourseRound P)) (p : PairRecord) (by : ℕ)
-      → IsFresh first → Course mac answers xs first start → start.controlling ≡ true → Awaits r.now by start p → IsUnanswered start p
+  abbrev pub ExecutionsCheckFromDue : Type 0
+  ExecutionsCheckFromDue =
+      (first start last : AgentRecord H P) (xs : List (Call P × Entry)) (r : ExecutionRound P) (later : List (ExecutionRound P)) (p : PairRecord) (by : ℕ)
+      → IsFresh first → Execution mac answers xs first start → start.controlling ≡ true → Awaits r.now by start p → IsUnanswered start p
       → by ≤ r.now → r.timeout.answer ≡ Done → r.now < MAX → AreBetween r.following
-      → (run : CourseRounds mac answers (r ∷ later) start last) → ((x : CourseRound P) → Has later x → IsPassed by x)
+      → (run : ExecutionRounds mac answers (r ∷ later) start last) → ((x : ExecutionRound P) → Has later x → IsPassed by x)
       → SufficeForDue by r.now start run.1 (times_of later)
       → ChecksAmong (r ∷ later) (path_of start p) ⊎ SelectsAmong (r ∷ later)

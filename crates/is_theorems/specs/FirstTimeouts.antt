@@ -1,6 +1,6 @@
 -- How soon a pair is checked if candidates may be added meanwhile, and if it is due at the first `handle_timeout` call of the rounds
 -- and maybe not before it.
-use Rattle.std.specs.Prelude.{◌≡◌, ℕ, true, ◌+◌, ◌*◌, ◌<◌, ◌≤◌, ◌⊎◌, List, [], ◌∷◌, ◌++◌, length}
+use Rattle.std.specs.Prelude.{◌≡◌, ℕ, Bool, true, ◌+◌, ◌*◌, ◌<◌, ◌≤◌, ◌⊎◌, List, [], ◌∷◌, ◌++◌, length}
 use Rattle.rand_core.specs.Stream.{Stream}
 use Rattle.is_proto.specs.Lists.{Has}
 use Rattle.is_proto.specs.Times.{MAX}
@@ -10,28 +10,28 @@ use Rattle.is_pair.specs.Pairs.{PairRecord}
 use Rattle.is_rules.specs.declared.emitted.Path.{Path}
 use Rattle.is_rules.specs.Agent.{AgentRecord}
 use Rattle.is_theorems.specs.Asked.{IsAnsweredIn}
-use Rattle.is_theorems.specs.AskedCourses.{EndsAlong}
-use Rattle.is_theorems.specs.Courses.{AcceptsSuccess, CourseRound}
-use Rattle.is_theorems.specs.Exchange.{Course}
+use Rattle.is_theorems.specs.AskedExecutions.{EndsAlong}
+use Rattle.is_theorems.specs.Executions.{AcceptsSuccess, ExecutionRound}
+use Rattle.is_theorems.specs.Exchange.{Execution}
 use Rattle.is_theorems.specs.Logs.{Logged}
 use Rattle.is_theorems.specs.Progress.{Awaits, IsUnanswered, checks_for}
 use Rattle.is_theorems.specs.Reached.{IsInLine, IsLasting, is_in_round, IsPassing, ChecksIn, IsEndedIn, nominations_ahead, selection_count}
-use Rattle.is_theorems.specs.ReachedCourses.{ChecksAmong, IsAnsweredAmong, PassRounds, selections_among}
+use Rattle.is_theorems.specs.ReachedExecutions.{ChecksAmong, IsAnsweredAmong, PassRounds, selections_among}
 use Rattle.is_theorems.specs.Rounds.{LoggedRound, entries_of, Part}
 use Rattle.is_theorems.specs.Runs.{IsFresh}
 use Rattle.is_rules.specs.Sending.{path_of}
 use Rattle.is_rules.specs.Steps.{Call, Entry, HandleTimeout, Done}
 
 -- only packets and polls, candidates that are added, and settings that change neither pairs nor the timing of their checks
-abbrev pub AreInRound : {P : Type 0} → List (Call P × Entry) → Type 0
-AreInRound xs = (x : Call _ × Entry) → Has xs x → is_in_round x.0 ≡ true
+abbrev pub AreInRound : {P : Type 0} → (modern : Bool) → List (Call P × Entry) → Type 0
+AreInRound modern xs = (x : Call _ × Entry) → Has xs x → is_in_round modern x.0 ≡ true
 
 -- a round whose `handle_timeout` call is later than `by` and returns Ok, and has only such calls after it
-pub record IsOpenRound {P : Type 0} (by : ℕ) (r : CourseRound P) : Type 0 where
+pub record IsOpenRound {P : Type 0} (modern : Bool) (by : ℕ) (r : ExecutionRound P) : Type 0 where
   pub done : r.timeout.answer ≡ Done
   pub late : by < r.now
   pub early : r.now < MAX
-  pub between : AreInRound r.following
+  pub between : AreInRound modern r.following
 
 -- Enough rounds follow the first one. Let there be n pairs when the first call comes, and m when the second one does. If n is 1, the
 -- first round suffices. Otherwise 2m - 1 rounds after it do, and one more for each pair that is added in these; if checks may go
@@ -51,7 +51,7 @@ Suffices by now first second last later all_ahead ahead =
     ⊎ SufficesFromDue first second last later ahead
 
 -- The same for rounds of an execution, if `many` of them follow the first one or more.
-abbrev pub RoundsSuffice : {H P : Type 0} → (by : ℕ) → (first second last : AgentRecord H P) → CourseRound P → List (CourseRound P) → (many : ℕ) → Type 0
+abbrev pub RoundsSuffice : {H P : Type 0} → (by : ℕ) → (first second last : AgentRecord H P) → ExecutionRound P → List (ExecutionRound P) → (many : ℕ) → Type 0
 RoundsSuffice by first second last r later many =
     Suffices by r.now first second last many (nominations_ahead first (selections_among (r ∷ later))) (nominations_ahead second (selections_among later))
 
@@ -59,48 +59,48 @@ module _ {H P : Type 0} (mac : H → List ℕ → List ℕ → List ℕ) (answer
   -- ---- in an execution
 
   -- Between the `handle_timeout` calls a call may remove a pair that uses the path's addresses.
-  abbrev pub EndsAmong : (rounds : List (CourseRound P)) (old new : AgentRecord H P) → PassRounds mac answers rounds old new → Path → Type 0
+  abbrev pub EndsAmong : (rounds : List (ExecutionRound P)) (old new : AgentRecord H P) → PassRounds mac answers rounds old new → Path → Type 0
   EndsAmong [] old new run path = ⊥
   EndsAmong (r ∷ later) old new run path = EndsAlong mac answers r.following run.0 run.1 run.5 path ⊎ EndsAmong later run.1 new run.6 path
 
   -- A check is sent on the path in one of the rounds, unless a success response is received on the path in one of them, or a
   -- candidate that is added in them may remove a pair of the path.
-  abbrev pub IsReached : (rounds : List (CourseRound P)) (old new : AgentRecord H P) → PassRounds mac answers rounds old new → Path → Type 0
+  abbrev pub IsReached : (rounds : List (ExecutionRound P)) (old new : AgentRecord H P) → PassRounds mac answers rounds old new → Path → Type 0
   IsReached rounds old new run path = ChecksAmong rounds path ⊎ (IsAnsweredAmong rounds path ⊎ EndsAmong rounds old new run path)
 
   -- An execution starts with a newly created agent. One of n pairs waits for its check, due by an earlier time `by`. At least
   -- 2n - 1 rounds follow, and one more for each pair that is added in them, by the caller or by the peer, and for each nomination that
   -- may be sent at once; if checks may go ahead, 4n - 1, and two more. Then the pair's path is reached. This holds in either role,
   -- whatever the agent receives and nominates.
-  abbrev pub OpenCoursesReach : Type 0
-  OpenCoursesReach =
-      (first start last : AgentRecord H P) (xs : List (Call P × Entry)) (r : CourseRound P) (rounds : List (CourseRound P)) (p : PairRecord) (by : ℕ)
-      → IsFresh first → Course mac answers xs first start → IsInLine r.now by start p → (run : PassRounds mac answers (r ∷ rounds) start last)
-      → ((x : CourseRound P) → Has (r ∷ rounds) x → IsOpenRound by x) → ((x : CourseRound P) → Has (r ∷ rounds) x → IsLasting x.now start p)
+  abbrev pub OpenExecutionsReach : Type 0
+  OpenExecutionsReach =
+      (first start last : AgentRecord H P) (xs : List (Call P × Entry)) (r : ExecutionRound P) (rounds : List (ExecutionRound P)) (p : PairRecord) (by : ℕ)
+      → IsFresh first → Execution mac answers xs first start → IsInLine r.now by start p → (run : PassRounds mac answers (r ∷ rounds) start last)
+      → ((x : ExecutionRound P) → Has (r ∷ rounds) x → IsOpenRound (is_modern start.timing) by x) → ((x : ExecutionRound P) → Has (r ∷ rounds) x → IsLasting x.now start p)
       → checks_for (is_modern start.timing) (2 * length start.pairs + last.next_number + nominations_ahead start (selections_among (r ∷ rounds)))
       ≤ length (r ∷ rounds) + 1 + checks_for (is_modern start.timing) start.next_number
       → IsReached (r ∷ rounds) start last run (path_of start p)
 
   -- The same of a pair that is due by the first `handle_timeout` call of the rounds, and maybe not before it. All others are later.
-  abbrev pub CoursesReachFromDue : Type 0
-  CoursesReachFromDue =
-      (first start last : AgentRecord H P) (xs : List (Call P × Entry)) (r : CourseRound P) (later : List (CourseRound P)) (p : PairRecord) (by : ℕ)
-      → IsFresh first → Course mac answers xs first start → IsInLine r.now by start p
-      → by ≤ r.now → r.timeout.answer ≡ Done → r.now < MAX → AreInRound r.following
-      → (run : PassRounds mac answers (r ∷ later) start last) → ((x : CourseRound P) → Has later x → IsOpenRound by x)
-      → ((x : CourseRound P) → Has later x → IsLasting x.now start p) → RoundsSuffice by start run.1 last r later (length later)
+  abbrev pub ExecutionsReachFromDue : Type 0
+  ExecutionsReachFromDue =
+      (first start last : AgentRecord H P) (xs : List (Call P × Entry)) (r : ExecutionRound P) (later : List (ExecutionRound P)) (p : PairRecord) (by : ℕ)
+      → IsFresh first → Execution mac answers xs first start → IsInLine r.now by start p
+      → by ≤ r.now → r.timeout.answer ≡ Done → r.now < MAX → AreInRound (is_modern start.timing) r.following
+      → (run : PassRounds mac answers (r ∷ later) start last) → ((x : ExecutionRound P) → Has later x → IsOpenRound (is_modern start.timing) by x)
+      → ((x : ExecutionRound P) → Has later x → IsLasting x.now start p) → RoundsSuffice by start run.1 last r later (length later)
       → IsReached (r ∷ later) start last run (path_of start p)
 
   -- The same for a controlling agent without a valid pair, which sends no nomination at once, whether nominations have numbers or not:
   -- unless a success response is accepted in the rounds.
-  abbrev pub CoursesReachUnanswered : Type 0
-  CoursesReachUnanswered =
-      (first start last : AgentRecord H P) (xs : List (Call P × Entry)) (r : CourseRound P) (later : List (CourseRound P)) (p : PairRecord) (by : ℕ)
-      → IsFresh first → Course mac answers xs first start → start.controlling ≡ true → Awaits r.now by start p → IsUnanswered start p
-      → by ≤ r.now → r.timeout.answer ≡ Done → r.now < MAX → AreInRound r.following
-      → (run : PassRounds mac answers (r ∷ later) start last) → ((x : CourseRound P) → Has later x → IsOpenRound by x)
+  abbrev pub ExecutionsReachUnanswered : Type 0
+  ExecutionsReachUnanswered =
+      (first start last : AgentRecord H P) (xs : List (Call P × Entry)) (r : ExecutionRound P) (later : List (ExecutionRound P)) (p : PairRecord) (by : ℕ)
+      → IsFresh first → Execution mac answers xs first start → start.controlling ≡ true → Awaits r.now by start p → IsUnanswered start p
+      → by ≤ r.now → r.timeout.answer ≡ Done → r.now < MAX → AreInRound (is_modern start.timing) r.following
+      → (run : PassRounds mac answers (r ∷ later) start last) → ((x : ExecutionRound P) → Has later x → IsOpenRound (is_modern start.timing) by x)
       → Suffices by r.now start run.1 last (length later) 0 0
-      → ((x : CourseRound P) × Has (r ∷ later) x × ((y : Call P × Entry) × Has x.following y × AcceptsSuccess y.0 y.1))
+      → ((x : ExecutionRound P) × Has (r ∷ later) x × ((y : Call P × Entry) × Has x.following y × AcceptsSuccess y.0 y.1))
       ⊎ IsReached (r ∷ later) start last run (path_of start p)
 
   -- ---- in a log
@@ -121,7 +121,7 @@ module _ {H P : Type 0} (mac : H → List ℕ → List ℕ → List ℕ) (answer
       → (one : Part mac answers first s log before start (entries_of (r ∷ [])) second)
       → (others : Part mac answers first s log (entries_of (r ∷ []) ++ before) second (entries_of later) last)
       → IsInLine r.now by start p → by ≤ r.now → r.timeout.call ≡ HandleTimeout r.now → r.timeout.entry.answer ≡ Done
-      → ((x : Logged P) → Has r.following x → is_in_round x.call ≡ true) → ((x : LoggedRound P) → Has later x → IsPassing by x)
+      → ((x : Logged P) → Has r.following x → is_in_round (is_modern start.timing) x.call ≡ true) → ((x : LoggedRound P) → Has later x → IsPassing (is_modern start.timing) by x)
       → ((x : LoggedRound P) → Has later x → IsLasting x.now start p)
       → SufficesFromDue start second last (length later) (nominations_ahead second (selection_count (entries_of later)))
       → IsReachedIn (r ∷ []) one (path_of start p) ⊎ IsReachedIn later others (path_of start p)

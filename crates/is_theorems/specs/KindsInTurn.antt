@@ -52,7 +52,7 @@ module _ {H P : Type 0} where
     pub at : ℕ
     pub began : began_at rounds ≡ Some at
     pub line : IsInLine at by start p
-    pub passing : (r : LoggedRound P) → Has rounds r → IsPassing by r
+    pub passing : (r : LoggedRound P) → Has rounds r → IsPassing (is_modern start.timing) by r
     pub lasting : (r : LoggedRound P) → Has rounds r → IsLasting r.now start p
 
   module _ (mac : H → List ℕ → List ℕ → List ℕ) (answers : P → CandidateRecord → ℕ → ℕ → Type 0) where

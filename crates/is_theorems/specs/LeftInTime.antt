@@ -17,13 +17,13 @@ use Rattle.is_rules.specs.Connecting.{is_connected}
 use Rattle.is_rules.specs.Emitted.{reversed}
 use Rattle.is_rules.specs.Sending.{path_of}
 use Rattle.is_rules.specs.Steps.{Call, Done, Entry, HandleTimeout}
-use Rattle.is_theorems.specs.AskedCourses.{EndsAlong, IsAnsweredAlong, selected_along}
-use Rattle.is_theorems.specs.ConsentCourses.{AreNeverLite}
-use Rattle.is_theorems.specs.Courses.{CourseRound}
-use Rattle.is_theorems.specs.Exchange.{Course}
+use Rattle.is_theorems.specs.AskedExecutions.{EndsAlong, IsAnsweredAlong, selected_along}
+use Rattle.is_theorems.specs.ConsentExecutions.{AreNeverLite}
+use Rattle.is_theorems.specs.Executions.{ExecutionRound}
+use Rattle.is_theorems.specs.Exchange.{Execution}
 use Rattle.is_theorems.specs.FirstTimeouts.{AreInRound}
 use Rattle.is_theorems.specs.InTime.{IsTimed}
-use Rattle.is_theorems.specs.ReachedCourses.{PassRounds}
+use Rattle.is_theorems.specs.ReachedExecutions.{PassRounds}
 use Rattle.is_theorems.specs.Runs.{IsFresh}
 
 -- When consent on a path ends: so long after its last check with a response was sent, and unless consent is strict, 15 s after the peer's
@@ -39,14 +39,14 @@ IsRequestedAlong xs path =
 
 -- A round with calls as in `AreInRound`: no check on the path gets a response, and unless consent is strict, no check of the peer arrives
 -- on it.
-pub record IsSilentRound {P : Type 0} (c : Consent) (path : Path) (r : CourseRound P) : Type 0 where
+pub record IsSilentRound {P : Type 0} (c : Consent) (path : Path) (r : ExecutionRound P) : Type 0 where
   pub done : r.timeout.answer ≡ Done
-  pub between : AreInRound r.following
+  pub between : AreInRound true r.following
   pub unanswered : ¬ IsAnsweredAlong r.following path
   pub unasked : c.strict ≡ false → ¬ IsRequestedAlong r.following path
 
 -- The first of these rounds, if there is one, begins at this time or earlier.
-abbrev pub BeginsBy : {P : Type 0} → ℕ → List (CourseRound P) → Type 0
+abbrev pub BeginsBy : {P : Type 0} → ℕ → List (ExecutionRound P) → Type 0
 BeginsBy limit [] = Unit {0}
 BeginsBy limit (r ∷ later) = r.now ≤ limit
 
@@ -67,7 +67,7 @@ module _ {H P : Type 0} where
   module _ (mac : H → List ℕ → List ℕ → List ℕ) (answers : P → CandidateRecord → ℕ → ℕ → Type 0) where
     -- In each of the rounds: if the agent is connected on the path after the `handle_timeout` call, consent ends later, and the next call
     -- comes by then or at most `slack` after it; unless a candidate that is added between these calls may remove a pair of the path.
-    abbrev pub LeavesBy : (ends slack : ℕ) (path : Path) (before : List (Call P × Entry)) (rounds : List (CourseRound P))
+    abbrev pub LeavesBy : (ends slack : ℕ) (path : Path) (before : List (Call P × Entry)) (rounds : List (ExecutionRound P))
         (old new : AgentRecord H P)
         → PassRounds mac answers rounds old new → Type 0
     LeavesBy ends slack path before [] old new run = Unit {0}
@@ -81,8 +81,8 @@ module _ {H P : Type 0} where
     -- After each call that comes at this end or later, it is not connected on this path.
     abbrev pub LeavesInTime : Type 0
     LeavesInTime =
-        (first start last : AgentRecord H P) (before : List (Call P × Entry)) (r : CourseRound P) (later : List (CourseRound P))
+        (first start last : AgentRecord H P) (before : List (Call P × Entry)) (r : ExecutionRound P) (later : List (ExecutionRound P))
         → (c : Consent) (path : Path) (sent heard pace delay : ℕ)
-        → IsFresh first → AreNeverLite before → Course mac answers before first start → IsLastHeard c sent heard path start
-        → (run : PassRounds mac answers (r ∷ later) start last) → ((x : CourseRound P) → Has (r ∷ later) x → IsSilentRound c path x)
+        → IsFresh first → AreNeverLite before → Execution mac answers before first start → IsLastHeard c sent heard path start
+        → (run : PassRounds mac answers (r ∷ later) start last) → ((x : ExecutionRound P) → Has (r ∷ later) x → IsSilentRound c path x)
         → IsTimed pace delay start r later → LeavesBy (consent_until c sent heard) (pace + delay) path before (r ∷ later) start last run

@@ -11,7 +11,7 @@ use Rattle.is_rules.specs.declared.credentials.IceCreds.{IceCreds}
 use Rattle.is_rules.specs.declared.emitted.Path.{Path}
 use Rattle.is_rules.specs.Steps.{Entry}
 use Rattle.is_rules.specs.Emitted.{issued_as, reversed}
-use Rattle.is_rules.specs.Answers.{goes_back}
+use Rattle.is_rules.specs.Answers.{is_reverse}
 use Rattle.is_rules.specs.Steps.{Call, SetRenomination, SetProfile}
 use Rattle.is_rules.specs.Brought.{Brings}
 use Rattle.is_rules.specs.Request.{request_in}
@@ -83,7 +83,7 @@ module _ {H P : Type 0} (mac : H → List ℕ → List ℕ → List ℕ) (provid
   AnswersAt x before path =
       (at : ℕ) × (by : Path) × (m : Message) × (peer : IceCreds)
       × Brings x.call x.entry at by m × (m.method ≡ Binding) × (m.class ≡ class.Success) × (remote_of before ≡ Some peer)
-      × IsSignedBy (mac provider) m peer.pass × IsSent before path m.id × (goes_back by path ≡ true)
+      × IsSignedBy (mac provider) m peer.pass × IsSent before path m.id × (is_reverse by path ≡ true)
 
   -- Such an entry is in the log, and no later entry is a clear.
   abbrev pub Answered : List (Logged P) → Path → Type 0

@@ -21,14 +21,14 @@ use Rattle.is_rules.specs.Steps.{Call, AddLocalCandidate, AddRemoteCandidate, Ha
 -- ---- segments in which no candidate is added
 
 -- Packets, timeouts, polls, and settings that change neither pairs nor the timing of their checks.
-abbrev pub is_steady : {P : Type 0} → Call P → Bool
-is_steady (AddLocalCandidate c) = false
-is_steady (AddRemoteCandidate c) = false
-is_steady (HandleTimeout now) = true
-is_steady call = is_in_round call
+abbrev pub is_steady : {P : Type 0} → (modern : Bool) → Call P → Bool
+is_steady modern (AddLocalCandidate c) = false
+is_steady modern (AddRemoteCandidate c) = false
+is_steady modern (HandleTimeout now) = true
+is_steady modern call = is_in_round modern call
 
-abbrev pub AreSteady : {P : Type 0} → List (Logged P) → Type 0
-AreSteady part = (x : Logged _) → Has part x → is_steady x.call ≡ true
+abbrev pub AreSteady : {P : Type 0} → (modern : Bool) → List (Logged P) → Type 0
+AreSteady modern part = (x : Logged _) → Has part x → is_steady modern x.call ≡ true
 
 abbrev pub is_timeout : {P : Type 0} → Call P → Bool
 is_timeout (HandleTimeout now) = true
@@ -56,9 +56,9 @@ module _ {H P : Type 0} where
     pub at : ℕ
     pub began : began_at rounds ≡ Some at
     pub line : IsInLine at by start p
-    pub passing : (r : LoggedRound P) → Has rounds r → IsPassing by r
+    pub passing : (r : LoggedRound P) → Has rounds r → IsPassing (is_modern start.timing) by r
     pub lasting : (r : LoggedRound P) → Has rounds r → IsLasting r.now start p
-    pub steady : AreSteady (entries_of rounds)
+    pub steady : AreSteady (is_modern start.timing) (entries_of rounds)
     pub enough : AreEnough (length rounds) (length start.pairs) bound (selection_count (entries_of rounds)) start
 
   module _ (mac : H → List ℕ → List ℕ → List ℕ) (answers : P → CandidateRecord → ℕ → ℕ → Type 0) where
@@ -70,11 +70,12 @@ module _ {H P : Type 0} where
         ((now : ℕ) → x.call ≡ HandleTimeout now → HaveConsent now run.0) × ConsentLastsIn before start s part run.0 run.1 run.2
 
     -- A pair with consent is removed after timeout only after m checks, and a `handle_timeout` call sends one check. So in a segment with
-    -- k of these calls, in which consent lasts, requests add at most k / m pairs, and one for each pair that exists afterwards.
+    -- k of these calls, in which consent lasts, requests add at most k / m pairs, and one for each pair that exists afterwards. With either
+    -- profile renomination may be switched on in it.
     abbrev pub RequestsAddFewIn : AgentRecord H P → Stream → List (Logged P) → Type 0
     RequestsAddFewIn first s log =
         (before part : List (Logged P)) (start last : AgentRecord H P) → (found : Part mac answers first s log before start part last)
-        → start.lite ≡ false → AreSteady part → ConsentLastsIn before start found.at part last found.following found.run
+        → start.lite ≡ false → AreSteady false part → ConsentLastsIn before start found.at part last found.following found.run
         → last.next_number * start.timing.max_retransmits
         ≤ (start.next_number + length last.pairs) * start.timing.max_retransmits + timeout_count part
 

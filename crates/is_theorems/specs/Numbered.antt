@@ -18,8 +18,8 @@ use Rattle.is_rules.specs.Request.{RequestRecord}
 use Rattle.is_rules.specs.Sending.{path_of}
 use Rattle.is_rules.specs.Serving.{as_taken, nominates}
 use Rattle.is_rules.specs.Steps.{Call, Done, Entry, HandleTimeout, Step}
-use Rattle.is_theorems.specs.AskedCourses.{selected_along}
-use Rattle.is_theorems.specs.Exchange.{Course}
+use Rattle.is_theorems.specs.AskedExecutions.{selected_along}
+use Rattle.is_theorems.specs.Exchange.{Execution}
 use Rattle.is_theorems.specs.Shared.{IsNewlyCreated}
 use Rattle.is_theorems.specs.Logs.{Logged, last_selected}
 use Rattle.is_theorems.specs.Rounds.{Part, RunsOn}
@@ -118,6 +118,6 @@ module _ {H P : Type 0} where
     abbrev pub GreatestAreLast : Type 0
     GreatestAreLast =
         (first near last : AgentRecord H P) (before : List (Call P × Entry)) (s t : Stream) (now : ℕ) (timeout : Entry) (number : ℕ) (path : Path)
-        → IsNewlyCreated first → Course mac answers before first near → Step mac answers near s (HandleTimeout now) timeout last t
+        → IsNewlyCreated first → Execution mac answers before first near → Step mac answers near s (HandleTimeout now) timeout last t
         → timeout.answer ≡ Done → request_at now near ≡ None → LeadsByNumber last number path
         → selected_along None (before ++ (HandleTimeout now, timeout) ∷ []) ≡ Some path

@@ -47,7 +47,7 @@ module _ {H P : Type 0} where
         (before : List (Logged P)) (start last : AgentRecord H P) (rounds : List (LoggedRound P)) (p : PairRecord) (at by : ℕ)
         → (part : Part mac answers first s log before start (entries_of rounds) last)
         → began_at rounds ≡ Some at → Awaits at by start p → IsUnanswered start p
-        → ((r : LoggedRound P) → Has rounds r → IsPassing by r) → ((r : LoggedRound P) → Has rounds r → IsAnsweredInRound (path_of start p) r)
+        → ((r : LoggedRound P) → Has rounds r → IsPassing (is_modern start.timing) by r) → ((r : LoggedRound P) → Has rounds r → IsAnsweredInRound (path_of start p) r)
         → IsControllingIn mac answers before start part.at (entries_of rounds) last part.following part.run
         → OpenRoundsSuffice at by start rounds last
         → SegmentSelects mac answers first s log (entries_of rounds)

@@ -13,10 +13,10 @@ use Rattle.is_stun.specs.declared.header.Class.TheVariants.{Request, Success}
 use Rattle.is_rules.specs.declared.emitted.Issued.{Issued}
 use Rattle.is_rules.specs.declared.emitted.Path.{Path}
 use Rattle.is_rules.specs.Agent.{AgentRecord}
-use Rattle.is_rules.specs.Answers.{goes_back}
-use Rattle.is_theorems.specs.AskedCourses.{EndsAlong}
+use Rattle.is_rules.specs.Answers.{is_reverse}
+use Rattle.is_theorems.specs.AskedExecutions.{EndsAlong}
 use Rattle.is_theorems.specs.Delivery.{KnowEachOther, Delivered, IsTaken, SentCheck, ReceivedPacket, ServedCheck}
-use Rattle.is_theorems.specs.Exchange.{Course}
+use Rattle.is_theorems.specs.Exchange.{Execution}
 use Rattle.is_rules.specs.Issuing.{via_out}
 use Rattle.is_rules.specs.Sending.{path_of}
 use Rattle.is_rules.specs.Sound.{IsSound, GivesBased}
@@ -103,31 +103,31 @@ module _ {H P : Type 0} where
     -- ---- in an execution
 
     -- At each of its calls the agent's `max_retransmits` is at least this limit.
-    abbrev pub KeepsAlong : (limit : ℕ) (xs : List (Call P × Entry)) (old new : AgentRecord H P) → Course mac answers xs old new → Type 0
-    KeepsAlong limit [] old new course = Unit {0}
-    KeepsAlong limit (x ∷ rest) old new course = (limit ≤ old.timing.max_retransmits) × KeepsAlong limit rest course.0 new course.5
+    abbrev pub KeepsAlong : (limit : ℕ) (xs : List (Call P × Entry)) (old new : AgentRecord H P) → Execution mac answers xs old new → Type 0
+    KeepsAlong limit [] old new execution = Unit {0}
+    KeepsAlong limit (x ∷ rest) old new execution = (limit ≤ old.timing.max_retransmits) × KeepsAlong limit rest execution.0 new execution.5
 
     -- A transaction is pending over any calls, while it and the later checks on its path are no more than the limit, unless a
     -- pair on the path may have been removed.
     abbrev pub ChecksPendAlong : Type 0
     ChecksPendAlong =
         (old new : AgentRecord H P) (xs : List (Call P × Entry)) (number : ℕ) (path : Path) (check : Check) (later limit : ℕ)
-        → IsSound old → (course : Course mac answers xs old new) → KeepsAlong limit xs old new course → Pends old number path check later
+        → IsSound old → (execution : Execution mac answers xs old new) → KeepsAlong limit xs old new execution → Pends old number path check later
         → later + checks_on path xs < limit
-        → ((n : ℕ) × (n ≤ later + checks_on path xs) × Pends new number path check n) ⊎ EndsAlong mac answers xs old new course path
+        → ((n : ℕ) × (n ≤ later + checks_on path xs) × Pends new number path check n) ⊎ EndsAlong mac answers xs old new execution path
 
     -- A pair on the reverse of the packet's path is valid.
     abbrev pub IsValidBy : AgentRecord H P → Path → Type 0
-    IsValidBy a path = (p : PairRecord) × Has a.pairs p × (goes_back path (path_of a p) ≡ true) × (is_valid p ≡ true)
+    IsValidBy a path = (p : PairRecord) × Has a.pairs p × (is_reverse path (path_of a p) ≡ true) × (is_valid p ≡ true)
 
     -- The response is returned while the check is pending: after any calls of the check's sender, of which fewer send a later
     -- check on the path than a pair stores. Then the sender and the agent that sent the response know each other.
     pub record ReturnedWhilePending (k : SentCheck mac answers) (b : AgentRecord H P) (response : Packet) : Type 0 where
       pub mid : AgentRecord H P
       pub calls : List (Call P × Entry)
-      pub course : Course mac answers calls k.sent mid
+      pub execution : Execution mac answers calls k.sent mid
       pub limit : ℕ
-      pub keeps : KeepsAlong limit calls k.sent mid course
+      pub keeps : KeepsAlong limit calls k.sent mid execution
       pub few : checks_on (via_out k.check) calls < limit
       pub know : KnowEachOther mac mid b
       pub taken : AgentRecord H P
@@ -139,7 +139,7 @@ module _ {H P : Type 0} where
     abbrev pub SucceedsOrEnds : (k : SentCheck mac answers) (b : AgentRecord H P) (response : Packet) → ReturnedWhilePending k b response → Type 0
     SucceedsOrEnds k b response r =
         (IsTaken mac answers response r.at r.returned Success × IsValidBy r.taken (via_out response))
-        ⊎ EndsAlong mac answers r.calls k.sent r.mid r.course (via_out k.check)
+        ⊎ EndsAlong mac answers r.calls k.sent r.mid r.execution (via_out k.check)
 
     -- If a check is sent, and received at any time as it was sent, by an agent that knew its sender then and has the other role,
     -- it is served. If its success response is returned while the check is pending, the exchange succeeds.

@@ -1,7 +1,7 @@
 -- How soon a pair that is due is checked, in either role, whatever the agent receives and while candidates are added: other pairs may
 -- be checked first, each at most twice, and paths that are nominated at once. So a controlled agent selects a path, if the peer
 -- nominates the pair's path and the checks on it are answered.
-use Rattle.std.specs.Prelude.{◌≡◌, ℕ, ◌+◌, ◌*◌, ◌<◌, ◌≤◌, ◌⊎◌, Bool, true, false, not, List, [], ◌∷◌, ◌++◌, length, count_by, Some, None, is_some, if◌then◌else◌}
+use Rattle.std.specs.Prelude.{◌≡◌, ℕ, ◌+◌, ◌*◌, ◌<◌, ◌≤◌, ◌⊎◌, ◌&&◌, Bool, true, false, not, List, [], ◌∷◌, ◌++◌, length, count_by, Some, None, is_some, if◌then◌else◌}
 use Rattle.rand_core.specs.Stream.{Stream}
 use Rattle.is_proto.specs.Lists.{Has}
 use Rattle.is_proto.specs.Times.{MAX}
@@ -14,7 +14,7 @@ use Rattle.is_stun.specs.Timing.{is_modern, consent_of}
 use Rattle.is_rules.specs.Agent.{AgentRecord}
 use Rattle.is_rules.specs.Effects.{last_of}
 use Rattle.is_theorems.specs.Asked.{IsOnlyPair, IsAnsweredIn, IsAskedIn, MayEndIn}
-use Rattle.is_theorems.specs.AskedCourses.{Ends}
+use Rattle.is_theorems.specs.AskedExecutions.{Ends}
 use Rattle.is_rules.specs.declared.emitted.Path.{Path}
 use Rattle.is_theorems.specs.Logs.{Logged}
 use Rattle.is_theorems.specs.Progress.{IsChecking, checks_for}
@@ -28,28 +28,29 @@ use Rattle.is_rules.specs.Steps.{Call, Entry, SetMtu, SetControlTieBreaker, SetM
 use Rattle.is_rules.specs.Emitted.{issued_as}
 
 -- What may come between two `handle_timeout` calls: packets and polls, candidates that are added, and settings that change neither
--- pairs nor the timing of their checks. Renomination may do so, if nominations then have numbers; so it is only switched off.
-abbrev pub is_in_round : {P : Type 0} → Call P → Bool
-is_in_round (SetMtu target warn) = true
-is_in_round (SetControlTieBreaker tie_breaker) = true
-is_in_round (SetMaxCandidatePairs n) = true
-is_in_round (SetMaxDiscovered limit) = true
-is_in_round (SetRenomination renominates) = not renominates
-is_in_round (SetTimingAdvance by) = true
-is_in_round (SetLocalPreference object) = true
-is_in_round (SetControlling controlling) = true
-is_in_round (SetLocalCredentials creds) = true
-is_in_round (AddLocalCandidate c) = true
-is_in_round (AddRemoteCandidate c) = true
-is_in_round call = is_between call
+-- pairs nor the timing of their checks. With the profile `Modern` nominations have numbers once renomination is switched on, which may change
+-- the timing; so then it is only switched off.
+abbrev pub is_in_round : {P : Type 0} → (modern : Bool) → Call P → Bool
+is_in_round modern (SetMtu target warn) = true
+is_in_round modern (SetControlTieBreaker tie_breaker) = true
+is_in_round modern (SetMaxCandidatePairs n) = true
+is_in_round modern (SetMaxDiscovered limit) = true
+is_in_round modern (SetRenomination renominates) = not (modern && renominates)
+is_in_round modern (SetTimingAdvance by) = true
+is_in_round modern (SetLocalPreference object) = true
+is_in_round modern (SetControlling controlling) = true
+is_in_round modern (SetLocalCredentials creds) = true
+is_in_round modern (AddLocalCandidate c) = true
+is_in_round modern (AddRemoteCandidate c) = true
+is_in_round modern call = is_between call
 
 -- a round whose `handle_timeout` call is later than `by` and returns Ok, and has only such calls after it
-pub record IsPassing {P : Type 0} (by : ℕ) (r : LoggedRound P) : Type 0 where
+pub record IsPassing {P : Type 0} (modern : Bool) (by : ℕ) (r : LoggedRound P) : Type 0 where
   pub comes : r.timeout.call ≡ HandleTimeout r.now
   pub done : r.timeout.entry.answer ≡ Done
   pub late : by < r.now
   pub early : r.now < MAX
-  pub between : (x : Logged P) → Has r.following x → is_in_round x.call ≡ true
+  pub between : (x : Logged P) → Has r.following x → is_in_round modern x.call ≡ true
 
 -- The `handle_timeout` call of one of the rounds sends a check on the path.
 abbrev pub ChecksIn : {P : Type 0} → List (LoggedRound P) → Path → Type 0
@@ -98,19 +99,19 @@ module _ {H P : Type 0} where
     pub at : ℕ
     pub began : began_at rounds ≡ Some at
     pub line : IsInLine at by start p
-    pub passing : (r : LoggedRound P) → Has rounds r → IsPassing by r
+    pub passing : (r : LoggedRound P) → Has rounds r → IsPassing (is_modern start.timing) by r
     pub lasting : (r : LoggedRound P) → Has rounds r → IsLasting r.now start p
     pub enough : checks_for (is_modern start.timing) (2 * length start.pairs + last.next_number + nominations_ahead start (selection_count (entries_of rounds)))
         ≤ length rounds + 1 + checks_for (is_modern start.timing) start.next_number
 
   module _ (mac : H → List ℕ → List ℕ → List ℕ) (answers : P → CandidateRecord → ℕ → ℕ → Type 0) where
     -- Between the `handle_timeout` calls of a segment, a call may remove a pair that uses the path's addresses. Only the addition
-    -- of a candidate may.
+    -- of a candidate may, with either profile.
     abbrev pub IsEndedIn : (before : List (Logged P)) (start : AgentRecord H P) (s : Stream) (part : List (Logged P)) (last : AgentRecord H P) (t : Stream)
         → RunsOn mac answers before start s part last t → Path → Type 0
     IsEndedIn before start s [] last t run path = ⊥
     IsEndedIn before start s (x ∷ part) last t run path =
-        ((is_in_round x.call ≡ true) × Ends answers run.0 x.call x.entry path) ⊎ IsEndedIn before start s part run.0 run.1 run.2 path
+        ((is_in_round true x.call ≡ true) × Ends answers run.0 x.call x.entry path) ⊎ IsEndedIn before start s part run.0 run.1 run.2 path
 
     -- If rounds in the log suffice for a pair, a check is sent on its path in one of them, unless a success response is received
     -- on the path in one of them, or a candidate that is added in them may remove a pair of the path. This holds in either role,

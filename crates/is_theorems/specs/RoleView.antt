@@ -19,7 +19,7 @@ use Rattle.is_rules.specs.Steps.{Answer, Done, Flag, Entry}
 use Rattle.is_theorems.specs.RoleState.{Mail, Kept, Sent, RoleState, RoleEvent, RoleEffect, IsNewRoleState}
 use Rattle.is_rules.specs.Agent.{AgentRecord, fresh}
 use Rattle.is_rules.specs.Sending.{path_of}
-use Rattle.is_rules.specs.Serving.{names_another}
+use Rattle.is_rules.specs.Serving.{is_for_other_peer}
 use Rattle.is_rules.specs.Queue.{request_at}
 use Rattle.is_rules.specs.Roles.{keeps_role}
 use Rattle.is_rules.specs.Answers.{is_role_conflict}
@@ -68,7 +68,7 @@ module _ {H P : Type 0} where
     tie_breaker = a.tie_breaker;
     lite = a.lite;
     keeps = keeps_role a;
-    passes = λ q. not (names_another a q) && is_some (local_place a.local q);
+    passes = λ q. not (is_for_other_peer a q) && is_some (local_place a.local q);
     queue = a.queue;
     packets = map mail_in a.packets;
     kept = all_kept a a.pairs;

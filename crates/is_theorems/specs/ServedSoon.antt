@@ -11,15 +11,15 @@ use Rattle.is_rules.specs.Brought.{IsValidOn}
 use Rattle.is_rules.specs.Sending.{path_of}
 use Rattle.is_rules.specs.Steps.{Call, Entry, Done}
 use Rattle.is_theorems.specs.Asked.{IsAnsweredIn}
-use Rattle.is_theorems.specs.Courses.{AcceptsSuccess, CourseRound}
-use Rattle.is_theorems.specs.Exchange.{Course}
+use Rattle.is_theorems.specs.Executions.{AcceptsSuccess, ExecutionRound}
+use Rattle.is_theorems.specs.Exchange.{Execution}
 use Rattle.is_theorems.specs.FirstTimeouts.{AreInRound, IsOpenRound, IsReached}
 use Rattle.is_theorems.specs.KindsInTurn.{WaitsInRounds}
 use Rattle.is_theorems.specs.Logs.{Logged}
 use Rattle.is_theorems.specs.Progress.{Awaits, IsUnanswered}
 use Rattle.is_theorems.specs.InTime.{IsReachedBy, IsTimed}
 use Rattle.is_theorems.specs.Reached.{ChecksIn, IsEndedIn, IsInLine, IsLasting, selects}
-use Rattle.is_theorems.specs.ReachedCourses.{PassRounds}
+use Rattle.is_theorems.specs.ReachedExecutions.{PassRounds}
 use Rattle.is_theorems.specs.Rounds.{LoggedRound, Part, entries_of}
 use Rattle.is_theorems.specs.Runs.{IsFresh}
 use Rattle.is_theorems.specs.UrgentFirst.{IsOvertaken, IsOvertakenIn}
@@ -59,33 +59,33 @@ module _ {H P : Type 0} where
     -- ---- in an execution
 
     -- So many `handle_timeout` calls of the rounds, or more, check the selected pair, or an urgent pair before the one with the number.
-    abbrev pub IsOvertakenAmong : (number n : ℕ) (rounds : List (CourseRound P)) (old new : AgentRecord H P) → PassRounds mac answers rounds old new → Type 0
+    abbrev pub IsOvertakenAmong : (number n : ℕ) (rounds : List (ExecutionRound P)) (old new : AgentRecord H P) → PassRounds mac answers rounds old new → Type 0
     IsOvertakenAmong number n [] old new run = n ≡ 0
     IsOvertakenAmong number n (r ∷ later) old new run =
         IsOvertakenAmong number n later run.1 new run.6
         ⊎ ((k : ℕ) × (n ≡ suc k) × IsOvertaken number r.now old r.timeout.emitted × IsOvertakenAmong number k later run.1 new run.6)
 
     -- The same as in a log, in either role.
-    abbrev pub ServedCoursesReach : Type 0
-    ServedCoursesReach =
-        (first start last : AgentRecord H P) (xs : List (Call P × Entry)) (r : CourseRound P) (later : List (CourseRound P)) (p : PairRecord) (by m : ℕ)
-        → IsFresh first → Course mac answers xs first start → IsInLine r.now by start p → IsServed start p → (run : PassRounds mac answers (r ∷ later) start last)
-        → ((x : CourseRound P) → Has (r ∷ later) x → IsOpenRound by x) → ((x : CourseRound P) → Has (r ∷ later) x → IsLasting x.now start p)
-        → ((x : CourseRound P) → Has (r ∷ later) x → selects x.timeout ≡ false) → 2 * m ≤ length (r ∷ later)
+    abbrev pub ServedExecutionsReach : Type 0
+    ServedExecutionsReach =
+        (first start last : AgentRecord H P) (xs : List (Call P × Entry)) (r : ExecutionRound P) (later : List (ExecutionRound P)) (p : PairRecord) (by m : ℕ)
+        → IsFresh first → Execution mac answers xs first start → IsInLine r.now by start p → IsServed start p → (run : PassRounds mac answers (r ∷ later) start last)
+        → ((x : ExecutionRound P) → Has (r ∷ later) x → IsOpenRound (is_modern start.timing) by x) → ((x : ExecutionRound P) → Has (r ∷ later) x → IsLasting x.now start p)
+        → ((x : ExecutionRound P) → Has (r ∷ later) x → selects x.timeout ≡ false) → 2 * m ≤ length (r ∷ later)
         → IsReached mac answers (r ∷ later) start last run (path_of start p) ⊎ IsOvertakenAmong p.number m (r ∷ later) start last run
 
     -- With a punctual caller: by the time of the last round.
-    abbrev pub ServedCoursesReachInTime : Type 0
-    ServedCoursesReachInTime =
-        (first start last : AgentRecord H P) (xs : List (Call P × Entry)) (r : CourseRound P) (later : List (CourseRound P)) (p : PairRecord) (by m pace delay : ℕ)
-        → IsFresh first → Course mac answers xs first start → IsInLine r.now by start p → IsServed start p → (run : PassRounds mac answers (r ∷ later) start last)
-        → ((x : CourseRound P) → Has (r ∷ later) x → IsOpenRound by x) → ((x : CourseRound P) → Has (r ∷ later) x → IsLasting x.now start p)
-        → ((x : CourseRound P) → Has (r ∷ later) x → selects x.timeout ≡ false) → 2 * m ≤ length (r ∷ later) → IsTimed pace delay start r later
+    abbrev pub ServedExecutionsReachInTime : Type 0
+    ServedExecutionsReachInTime =
+        (first start last : AgentRecord H P) (xs : List (Call P × Entry)) (r : ExecutionRound P) (later : List (ExecutionRound P)) (p : PairRecord) (by m pace delay : ℕ)
+        → IsFresh first → Execution mac answers xs first start → IsInLine r.now by start p → IsServed start p → (run : PassRounds mac answers (r ∷ later) start last)
+        → ((x : ExecutionRound P) → Has (r ∷ later) x → IsOpenRound (is_modern start.timing) by x) → ((x : ExecutionRound P) → Has (r ∷ later) x → IsLasting x.now start p)
+        → ((x : ExecutionRound P) → Has (r ∷ later) x → selects x.timeout ≡ false) → 2 * m ≤ length (r ∷ later) → IsTimed pace delay start r later
         → IsReachedBy mac answers (r.now + length later * (pace + delay)) (r ∷ later) start last run (path_of start p) ⊎ IsOvertakenAmong p.number m (r ∷ later) start last run
 
     -- A request was served on the pair. At least 2 * m rounds follow, and fewer than m of them check the selected pair, or urgent pairs before
     -- this one. So 2 rounds suffice if none does, however many pairs there are.
-    pub record SufficesForServed (start : AgentRecord H P) (p : PairRecord) (later : List (CourseRound P)) (second end : AgentRecord H P)
+    pub record SufficesForServed (start : AgentRecord H P) (p : PairRecord) (later : List (ExecutionRound P)) (second end : AgentRecord H P)
         (run : PassRounds mac answers later second end) : Type 0 where
       pub served : IsServed start p
       pub m : ℕ
@@ -95,12 +95,12 @@ module _ {H P : Type 0} where
     -- An execution starts with a newly created agent. At the start of the rounds the agent is controlling and no pair is valid. This one is due by
     -- the time of the first one, a request was served on it, and enough rounds follow. Then the pair's path is reached, unless a success
     -- response is accepted in the rounds.
-    abbrev pub CoursesReachServed : Type 0
-    CoursesReachServed =
-        (first start last : AgentRecord H P) (xs : List (Call P × Entry)) (r : CourseRound P) (later : List (CourseRound P)) (p : PairRecord) (by : ℕ)
-        → IsFresh first → Course mac answers xs first start → start.controlling ≡ true → Awaits r.now by start p → IsUnanswered start p
-        → by ≤ r.now → r.timeout.answer ≡ Done → AreInRound r.following
-        → (run : PassRounds mac answers (r ∷ later) start last) → ((x : CourseRound P) → Has later x → IsOpenRound by x)
+    abbrev pub ExecutionsReachServed : Type 0
+    ExecutionsReachServed =
+        (first start last : AgentRecord H P) (xs : List (Call P × Entry)) (r : ExecutionRound P) (later : List (ExecutionRound P)) (p : PairRecord) (by : ℕ)
+        → IsFresh first → Execution mac answers xs first start → start.controlling ≡ true → Awaits r.now by start p → IsUnanswered start p
+        → by ≤ r.now → r.timeout.answer ≡ Done → AreInRound (is_modern start.timing) r.following
+        → (run : PassRounds mac answers (r ∷ later) start last) → ((x : ExecutionRound P) → Has later x → IsOpenRound (is_modern start.timing) by x)
         → SufficesForServed start p later run.1 last run.6
-        → ((x : CourseRound P) × Has (r ∷ later) x × ((y : Call P × Entry) × Has x.following y × AcceptsSuccess y.0 y.1))
+        → ((x : ExecutionRound P) × Has (r ∷ later) x × ((y : Call P × Entry) × Has x.following y × AcceptsSuccess y.0 y.1))
         ⊎ IsReached mac answers (r ∷ later) start last run (path_of start p)

@@ -7,7 +7,7 @@ use Rattle.is_rules.specs.Agent.{AgentRecord}
 use Rattle.is_rules.specs.Settings.{settings_of, with_settings}
 use Rattle.is_rules.specs.Steps.{Call, SetMtu, SetControlTieBreaker, SetMaxCandidatePairs, SetMaxDiscovered, SetIceLite, SetRenomination, SetProfile, SetConsent, SetTimingAdvance}
 use Rattle.is_rules.specs.Steps.{SetInitialStunRto, SetMaxStunRto, SetMaxStunRetransmits, SetLiteTimeout, SetLocalPreference, Answer, Done, is_done, Entry, quiet, Step}
-use Rattle.is_theorems.specs.Exchange.{Course}
+use Rattle.is_theorems.specs.Exchange.{Execution}
 use Rattle.is_theorems.specs.Logs.{Logged}
 
 -- What the caller sets and nothing else changes: all that `set_settings` sets, as one value, and what only a setter of its own sets.
@@ -75,4 +75,4 @@ setters_of s =
 abbrev pub AllAreSetInTurn : {H P : Type 0} → (H → List ℕ → List ℕ → List ℕ) → (P → CandidateRecord → ℕ → ℕ → Type 0) → Type 0
 AllAreSetInTurn {H = H} {P = P} mac answers =
     (old : AgentRecord H P) (s : Settings) (random : Stream) → 0 < s.max_retransmits
-    → Course mac answers (map (λ call. (call, quiet Done)) (setters_of s)) old (with_settings s old)
+    → Execution mac answers (map (λ call. (call, quiet Done)) (setters_of s)) old (with_settings s old)

@@ -11,9 +11,9 @@ use Rattle.is_rules.specs.declared.event.IceConnectionState.TheVariants.{New}
 use Rattle.is_rules.specs.Sending.{path_of}
 use Rattle.is_rules.specs.States.{is_nominated_and_valid}
 use Rattle.is_rules.specs.Steps.{Call, Entry}
-use Rattle.is_theorems.specs.AskedCourses.{selected_along}
-use Rattle.is_theorems.specs.ConsentCourses.{AreNeverLite}
-use Rattle.is_theorems.specs.Exchange.{Course}
+use Rattle.is_theorems.specs.AskedExecutions.{selected_along}
+use Rattle.is_theorems.specs.ConsentExecutions.{AreNeverLite}
+use Rattle.is_theorems.specs.Exchange.{Execution}
 use Rattle.is_theorems.specs.Runs.{IsFresh}
 
 module _ {H P : Type 0} where
@@ -28,14 +28,14 @@ module _ {H P : Type 0} where
   module _ (mac : H → List ℕ → List ℕ → List ℕ) (answers : P → CandidateRecord → ℕ → ℕ → Type 0) where
     -- The profile is `Modern` before each of the calls, from the first one of the session on. Else a pair may be nominated by a request, and
     -- selected by the next `handle_timeout` call.
-    abbrev pub IsModernAlong : (xs : List (Call P × Entry)) (old new : AgentRecord H P) → Course mac answers xs old new → Type 0
-    IsModernAlong [] old new course = Unit {0}
-    IsModernAlong (x ∷ rest) old new course =
-        ((old.state ≡ New) ⊎ (is_modern old.timing ≡ true)) × IsModernAlong rest course.0 new course.5
+    abbrev pub IsModernAlong : (xs : List (Call P × Entry)) (old new : AgentRecord H P) → Execution mac answers xs old new → Type 0
+    IsModernAlong [] old new execution = Unit {0}
+    IsModernAlong (x ∷ rest) old new execution =
+        ((old.state ≡ New) ⊎ (is_modern old.timing ≡ true)) × IsModernAlong rest execution.0 new execution.5
 
     -- After any calls of a newly created agent that is never lite, with this profile: it is Connected or Completed if and only if the path
     -- that was selected last since the last clear is that of a pair that can be used.
     abbrev pub StatesAgree : Type 0
     StatesAgree =
-        (first last : AgentRecord H P) (xs : List (Call P × Entry)) → IsFresh first → AreNeverLite xs → (course : Course mac answers xs first last)
-        → IsModernAlong xs first last course → IsAgreed (selected_along None xs) last
+        (first last : AgentRecord H P) (xs : List (Call P × Entry)) → IsFresh first → AreNeverLite xs → (execution : Execution mac answers xs first last)
+        → IsModernAlong xs first last execution → IsAgreed (selected_along None xs) last

@@ -4,6 +4,7 @@ use Rattle.std.specs.Prelude.{◌≡◌, ℕ, true, ◌+◌, ◌*◌, ◌<◌, �
 use Rattle.rand_core.specs.Stream.{Stream}
 use Rattle.is_proto.specs.Lists.{Has}
 use Rattle.is_proto.specs.Times.{MAX}
+use Rattle.is_stun.specs.Timing.{is_modern}
 use Rattle.is_candidate.specs.Candidates.{CandidateRecord}
 use Rattle.is_pair.specs.Pairs.{PairRecord}
 use Rattle.is_rules.specs.declared.emitted.Path.{Path}
@@ -80,7 +81,7 @@ module _ {H P : Type 0} where
         → (one : Part mac answers first s log before start (entries_of (r ∷ [])) second)
         → (others : Part mac answers first s log (entries_of (r ∷ []) ++ before) second (entries_of later) last)
         → IsInLine r.now by start p → by ≤ r.now → r.timeout.call ≡ HandleTimeout r.now → r.timeout.entry.answer ≡ Done → r.now < MAX
-        → ((x : Logged P) → Has r.following x → is_in_round x.call ≡ true) → ((x : LoggedRound P) → Has later x → IsPassing by x)
+        → ((x : Logged P) → Has r.following x → is_in_round (is_modern start.timing) x.call ≡ true) → ((x : LoggedRound P) → Has later x → IsPassing (is_modern start.timing) by x)
         → ((x : LoggedRound P) → Has later x → IsLasting x.now start p)
         → LoggedRoundsSuffice by start second last r later many → many ≤ length later → IsTimedIn pace delay start r later
         → IsReachedInBy (r.now + many * (pace + delay)) (r ∷ []) one (path_of start p)

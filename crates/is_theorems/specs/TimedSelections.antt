@@ -4,6 +4,7 @@ use Rattle.std.specs.Prelude.{◌≡◌, ℕ, true, ◌+◌, ◌*◌, ◌<◌, �
 use Rattle.rand_core.specs.Stream.{Stream}
 use Rattle.is_proto.specs.Lists.{Has}
 use Rattle.is_proto.specs.Times.{MAX}
+use Rattle.is_stun.specs.Timing.{is_modern}
 use Rattle.is_candidate.specs.Candidates.{CandidateRecord}
 use Rattle.is_pair.specs.Pairs.{PairRecord}
 use Rattle.is_rules.specs.declared.emitted.Path.{Path}
@@ -80,7 +81,7 @@ module _ {H P : Type 0} (mac : H → List ℕ → List ℕ → List ℕ) (answer
     pub others : Part mac answers first s log (entries_of (opening ∷ []) ++ before) second (entries_of later) end
     pub onward : Part mac answers first s log (entries_of later ++ (entries_of (opening ∷ []) ++ before)) end (entries_of more) last
     pub comes : (x : LoggedRound P) → Has (more ++ (later ++ opening ∷ [])) x → x.timeout.call ≡ HandleTimeout x.now
-    pub between : (x : LoggedRound P) → Has (more ++ (later ++ opening ∷ [])) x → (y : Logged P) → Has x.following y → is_in_round y.call ≡ true
+    pub between : (x : LoggedRound P) → Has (more ++ (later ++ opening ∷ [])) x → (y : Logged P) → Has x.following y → is_in_round (is_modern start.timing) y.call ≡ true
     pub controls : IsControllingOver (entries_of (opening ∷ [])) one
     pub controls_later : IsControllingOver (entries_of later) others
     pub controls_onward : IsControllingOver (entries_of more) onward
@@ -120,7 +121,7 @@ module _ {H P : Type 0} (mac : H → List ℕ → List ℕ → List ℕ) (answer
     pub due : by ≤ k.opening.now
     pub done : k.opening.timeout.entry.answer ≡ Done
     pub early : k.opening.now < MAX
-    pub passing : (x : LoggedRound P) → Has k.later x → IsPassing by x
+    pub passing : (x : LoggedRound P) → Has k.later x → IsPassing (is_modern k.start.timing) by x
     pub enough : LaterSuffice k p by
     pub timed : IsTimedIn pace delay k.start k.opening k.later
     pub answered : IsAnsweredInBy trip (rounds_of k) (path_of k.start p)

@@ -3,6 +3,7 @@ use Rattle.std.specs.Prelude.{◌≡◌, ℕ, true, ◌+◌, ◌*◌, ◌<◌, �
 use Rattle.rand_core.specs.Stream.{Stream}
 use Rattle.is_proto.specs.Lists.{Has}
 use Rattle.is_proto.specs.Times.{MAX}
+use Rattle.is_stun.specs.Timing.{is_modern}
 use Rattle.is_candidate.specs.Candidates.{CandidateRecord}
 use Rattle.is_pair.specs.Pairs.{PairRecord}
 use Rattle.is_rules.specs.Agent.{AgentRecord}
@@ -37,7 +38,7 @@ module _ {H P : Type 0} where
       pub later : List (LoggedRound P)
       pub last : AgentRecord H P
       pub found : Part mac answers first s log before start (all_entries opening later) last
-      pub steady : AreSteady (all_entries opening later)
+      pub steady : AreSteady (is_modern start.timing) (all_entries opening later)
       pub consents : ConsentLastsIn mac answers before start found.at (all_entries opening later) last found.following found.run
 
     -- as many pairs as the caller allows in them (`pair_bound`)
@@ -53,8 +54,8 @@ module _ {H P : Type 0} where
       pub comes : k.opening.timeout.call ≡ HandleTimeout k.opening.now
       pub done : k.opening.timeout.entry.answer ≡ Done
       pub early : k.opening.now < MAX
-      pub between : (x : Logged P) → Has k.opening.following x → is_in_round x.call ≡ true
-      pub passing : (x : LoggedRound P) → Has k.later x → IsPassing by x
+      pub between : (x : Logged P) → Has k.opening.following x → is_in_round (is_modern k.start.timing) x.call ≡ true
+      pub passing : (x : LoggedRound P) → Has k.later x → IsPassing (is_modern k.start.timing) by x
       pub lasting : (x : LoggedRound P) → Has k.later x → IsLasting x.now k.start p
       pub timed : IsTimedIn pace delay k.start k.opening k.later
       pub enough : AreEnoughLater by k.opening.now many bound (selection_count (all_entries k.opening k.later)) k.start

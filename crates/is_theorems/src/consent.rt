@@ -1,7 +1,7 @@
 //! Consent to send (RFC 7675), with the profile `Modern`: each pair that is kept has it, and its end is noticed in time.
 
 ghost use Rattle.is_theorems.specs.Consent.{ConsentHolds, ConsentEndsInTime};
-ghost use Rattle.is_theorems.specs.ConsentCourses.{ConnectedAreAnswered, ConnectedHaveConsent, ValidHaveConsented};
+ghost use Rattle.is_theorems.specs.ConsentExecutions.{ConnectedAreAnswered, ConnectedHaveConsent, ValidHaveConsented};
 ghost use Rattle.is_theorems.specs.ConsentLogs.{SelectedAreAlive, SelectedHaveConsent};
 ghost use Rattle.is_theorems.specs.LeftInTime.{LeavesInTime};
 

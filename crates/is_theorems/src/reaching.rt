@@ -9,13 +9,13 @@
 //! check that got a response before them is recent enough (`IsLasting`). Otherwise it may be removed before its check.
 
 ghost use Rattle.is_theorems.specs.BoundedRounds.{LimitsReach};
-ghost use Rattle.is_theorems.specs.FirstChecks.{CoursesCheckFromDue};
-ghost use Rattle.is_theorems.specs.FirstTimeouts.{OpenCoursesReach, PairsAreReachedFromDue, CoursesReachFromDue, CoursesReachUnanswered};
+ghost use Rattle.is_theorems.specs.FirstChecks.{ExecutionsCheckFromDue};
+ghost use Rattle.is_theorems.specs.FirstTimeouts.{OpenExecutionsReach, PairsAreReachedFromDue, ExecutionsReachFromDue, ExecutionsReachUnanswered};
 ghost use Rattle.is_theorems.specs.KindsInTurn.{KindsAreReachedInTurn};
 ghost use Rattle.is_theorems.specs.OwnKind.{PairsAreReachedInKind};
 ghost use Rattle.is_theorems.specs.Reached.{PairsAreReached};
-ghost use Rattle.is_theorems.specs.ReachedCourses.{CoursesReach, CoursesCheck};
-ghost use Rattle.is_theorems.specs.ServedSoon.{CoursesReachServed, ServedAreCheckedSoon, ServedCoursesReach};
+ghost use Rattle.is_theorems.specs.ReachedExecutions.{ExecutionsReach, ExecutionsCheck};
+ghost use Rattle.is_theorems.specs.ServedSoon.{ExecutionsReachServed, ServedAreCheckedSoon, ServedExecutionsReach};
 ghost use Rattle.is_theorems.specs.UrgentFirst.{UrgentPairsAreReached};
 
 use crate::selecting::successes_select;
@@ -39,21 +39,21 @@ pub fn limits_reach<H: Sha1HmacProvider, P: LocalPreference>()
 }
 
 /// The same of an agent that shares its random source.
-pub fn courses_reach<H: Sha1HmacProvider, P: LocalPreference>()
-    ensures { CoursesReach H.mac P.answers }
+pub fn executions_reach<H: Sha1HmacProvider, P: LocalPreference>()
+    ensures { ExecutionsReach H.mac P.answers }
 {}
 
 /// A controlling agent, which may share its random source, has no valid pair, and n pairs are due. Then a check is sent on the path
 /// of each of them in one of n rounds, unless a path is selected in one of them.
-pub fn courses_check<H: Sha1HmacProvider, P: LocalPreference>()
-    ensures { CoursesCheck H.mac P.answers }
+pub fn executions_check<H: Sha1HmacProvider, P: LocalPreference>()
+    ensures { ExecutionsCheck H.mac P.answers }
 {}
 
 /// From a newly created agent, which may share its random source: one of n pairs is due. Then a check is sent on its path in one of
 /// 2n - 1 rounds, and one more for each pair that is added in them, unless a success response is received on the path in one of
 /// them, or a candidate that is added in them may remove a pair of the path.
-pub fn open_courses_reach<H: Sha1HmacProvider, P: LocalPreference>()
-    ensures { OpenCoursesReach H.mac P.answers }
+pub fn open_executions_reach<H: Sha1HmacProvider, P: LocalPreference>()
+    ensures { OpenExecutionsReach H.mac P.answers }
 {}
 
 /// From a newly created agent: a pair is due by a `handle_timeout` call. Then a check is sent on its path in this call's round, or in
@@ -66,24 +66,24 @@ pub fn reached_from_due<H: Sha1HmacProvider, P: LocalPreference>()
 
 /// The same of an agent that shares its random source. If the pair is due before the first call, 2n - 1 rounds suffice, the first
 /// included, and one more for each pair that is added in them. Here n is the number of pairs when the first call comes.
-pub fn courses_reach_from_due<H: Sha1HmacProvider, P: LocalPreference>()
-    ensures { CoursesReachFromDue H.mac P.answers }
+pub fn executions_reach_from_due<H: Sha1HmacProvider, P: LocalPreference>()
+    ensures { ExecutionsReachFromDue H.mac P.answers }
 {}
 
 /// The same of a controlling agent without a valid pair, also if its nominations have numbers and renomination is on: unless a success
 /// response is accepted in the rounds.
-pub fn courses_reach_unanswered<H: Sha1HmacProvider, P: LocalPreference>()
-    ensures { CoursesReachUnanswered H.mac P.answers }
+pub fn executions_reach_unanswered<H: Sha1HmacProvider, P: LocalPreference>()
+    ensures { ExecutionsReachUnanswered H.mac P.answers }
 {}
 
 /// A controlling agent, which may share its random source, has no valid pair, and one is due by a `handle_timeout` call. Then a check
 /// is sent on its path in one of n rounds, unless a path is selected in one of them. Here n is the number of pairs that are due by
 /// then, if the call is later. If it is not, n is 1 for a single pair, and otherwise one more than the number of pairs that are due
 /// by then when the second call comes.
-pub fn courses_check_from_due<H: Sha1HmacProvider, P: LocalPreference>()
-    ensures { CoursesCheckFromDue H.mac P.answers }
+pub fn executions_check_from_due<H: Sha1HmacProvider, P: LocalPreference>()
+    ensures { ExecutionsCheckFromDue H.mac P.answers }
 {
-    courses_check::<H, P>();
+    executions_check::<H, P>();
     successes_select::<H, P>();
 }
 
@@ -121,8 +121,8 @@ pub fn served_are_checked_soon<H: Sha1HmacProvider, P: LocalPreference>()
 {}
 
 /// The same of an agent that may share its random source.
-pub fn served_courses_reach<H: Sha1HmacProvider, P: LocalPreference>()
-    ensures { ServedCoursesReach H.mac P.answers }
+pub fn served_executions_reach<H: Sha1HmacProvider, P: LocalPreference>()
+    ensures { ServedExecutionsReach H.mac P.answers }
 {
     served_are_checked_soon::<H, P>();
 }
@@ -130,8 +130,8 @@ pub fn served_courses_reach<H: Sha1HmacProvider, P: LocalPreference>()
 /// Likewise for a controlling agent without a valid pair, which may share its random source: the pair is due by the first of its rounds, and
 /// 2 * m rounds follow, fewer than m of which check other pairs before it. Then its path is reached, unless a success response is accepted in
 /// the rounds.
-pub fn courses_reach_served<H: Sha1HmacProvider, P: LocalPreference>()
-    ensures { CoursesReachServed H.mac P.answers }
+pub fn executions_reach_served<H: Sha1HmacProvider, P: LocalPreference>()
+    ensures { ExecutionsReachServed H.mac P.answers }
 {
     served_are_checked_soon::<H, P>();
 }

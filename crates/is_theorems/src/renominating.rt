@@ -1,7 +1,7 @@
 //! Renomination: with the setting at both agents, both select one path.
 
 ghost use Rattle.is_theorems.specs.Renominating.{OnlySelectedAreNominated, FollowedAreSelected, LastAskedAreSelected, BothSelectOnePath};
-ghost use Rattle.is_theorems.specs.RenominatingCourses.{NominatedAreLast, LastAcceptedNominationsAreLast};
+ghost use Rattle.is_theorems.specs.RenominatingExecutions.{NominatedAreLast, LastAcceptedNominationsAreLast};
 ghost use Rattle.is_theorems.specs.Numbered.{GreatestAreSelected, GreatestAreKept, GreatestAreLast, GreatestStay};
 
 use is_candidate::LocalPreference;

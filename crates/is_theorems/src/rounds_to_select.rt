@@ -1,6 +1,6 @@
 //! Within how many rounds an agent selects a path, also if candidates are added meanwhile.
 
-ghost use Rattle.is_theorems.specs.Courses.{CoursesSelect};
+ghost use Rattle.is_theorems.specs.Executions.{ExecutionsSelect};
 ghost use Rattle.is_theorems.specs.DueRounds.{AnsweredDueRoundsSelect};
 ghost use Rattle.is_theorems.specs.OpenRounds.{AnsweredOpenRoundsSelect};
 ghost use Rattle.is_theorems.specs.Progress.{AnsweredSelect};
@@ -26,8 +26,8 @@ pub fn answered_rounds_select<H: Sha1HmacProvider, P: LocalPreference>()
 
 /// The same of an agent that shares its random source: a controlling agent selects a path in one of n rounds in which the checks
 /// of one of n pairs are answered.
-pub fn courses_select<H: Sha1HmacProvider, P: LocalPreference>()
-    ensures { CoursesSelect H.mac P.answers }
+pub fn executions_select<H: Sha1HmacProvider, P: LocalPreference>()
+    ensures { ExecutionsSelect H.mac P.answers }
 {}
 
 /// In such rounds the checks on the pair's path are answered, and the peer nominates the path to a controlled agent. Then a path

@@ -1,9 +1,9 @@
 //! Which path is selected, and after what.
 
 ghost use Rattle.is_theorems.specs.Asked.{AskedAreSelected};
-ghost use Rattle.is_theorems.specs.AskedCourses.{SuccessesSelect, AcceptedNominationsAreSelected};
+ghost use Rattle.is_theorems.specs.AskedExecutions.{SuccessesSelect, AcceptedNominationsAreSelected};
 ghost use Rattle.is_theorems.specs.AtOnce.{RequestsSelect, NominationsSelectAtOnce};
-ghost use Rattle.is_theorems.specs.AtOnceCourses.{CompletedNominationsAreSelected};
+ghost use Rattle.is_theorems.specs.AtOnceExecutions.{CompletedNominationsAreSelected};
 ghost use Rattle.is_theorems.specs.GivingWay.{PathsAreReplaced};
 ghost use Rattle.is_theorems.specs.Polled.{WaitingAreSelected, WaitingAreAnswered, WaitingAreNominatedByPeer, WaitingAreNominatedSince, SelectionsAreNominatedSince};
 ghost use Rattle.is_theorems.specs.Progress.{AnswersSelect, TimeoutsSelect};

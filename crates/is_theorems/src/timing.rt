@@ -1,17 +1,17 @@
 //! How soon a pair is checked in nanoseconds, and a path selected, if the caller is punctual. The numbers of rounds are those of
 //! `reaching`, if checks may not go ahead.
 
-ghost use Rattle.is_theorems.specs.InTime.{CoursesCheckInTime, CoursesReachInTime, NextComesInTime, RoundsComeInTime};
-ghost use Rattle.is_theorems.specs.SelectedInTime.{CoursesSelectInTime};
-ghost use Rattle.is_theorems.specs.ServedSoon.{ServedCoursesReachInTime};
+ghost use Rattle.is_theorems.specs.InTime.{ExecutionsCheckInTime, ExecutionsReachInTime, NextComesInTime, RoundsComeInTime};
+ghost use Rattle.is_theorems.specs.SelectedInTime.{ExecutionsSelectInTime};
+ghost use Rattle.is_theorems.specs.ServedSoon.{ServedExecutionsReachInTime};
 ghost use Rattle.is_theorems.specs.Pacing.{PacingIsSet};
 ghost use Rattle.is_theorems.specs.TimedRounds.{PairsAreReachedInTime};
 ghost use Rattle.is_theorems.specs.TimedSelections.{PathsAreSelectedInTime};
 ghost use Rattle.is_theorems.specs.TimedSteadyRounds.{NoneIsStarvedInTime};
 
 use crate::reaching::{
-    courses_check_from_due, courses_reach_from_due, courses_reach_served, courses_reach_unanswered,
-    served_courses_reach,
+    executions_check_from_due, executions_reach_from_due, executions_reach_served,
+    executions_reach_unanswered, served_executions_reach,
 };
 use crate::selecting::successes_select;
 use is_candidate::LocalPreference;
@@ -35,20 +35,20 @@ pub fn rounds_come_in_time<H: Sha1HmacProvider, P: LocalPreference>()
     ensures { RoundsComeInTime H.mac P.answers }
 {}
 
-/// If k rounds after the first suffice as in `courses_reach_from_due`, a check is sent on the pair's path at most k times one pacing
+/// If k rounds after the first suffice as in `executions_reach_from_due`, a check is sent on the pair's path at most k times one pacing
 /// interval and δ after the first `handle_timeout` call, with the exceptions of that theorem. So k is 0 for a single pair, and 2m - 1 for m
 /// pairs when the second call comes, and one more for each pair that is added after it.
-pub fn courses_reach_in_time<H: Sha1HmacProvider, P: LocalPreference>()
-    ensures { CoursesReachInTime H.mac P.answers }
+pub fn executions_reach_in_time<H: Sha1HmacProvider, P: LocalPreference>()
+    ensures { ExecutionsReachInTime H.mac P.answers }
 {
-    courses_reach_from_due::<H, P>();
+    executions_reach_from_due::<H, P>();
 }
 
 /// The same of the rounds of a log.
 pub fn reached_in_time<H: Sha1HmacProvider, P: LocalPreference>()
     ensures { PairsAreReachedInTime H.mac P.answers }
 {
-    courses_reach_in_time::<H, P>();
+    executions_reach_in_time::<H, P>();
 }
 
 /// Starvation freedom in time: with limits on pairs and on what packets bring, and a caller at most δ late. If k rounds after the first are
@@ -66,32 +66,32 @@ pub fn none_is_starved_in_time<H: Sha1HmacProvider, P: LocalPreference>()
 /// selects a path. Then its path is reached by the time of the last one, or m of them check other pairs before it, as in
 /// `served_are_checked_soon`.
 pub fn served_reach_in_time<H: Sha1HmacProvider, P: LocalPreference>()
-    ensures { ServedCoursesReachInTime H.mac P.answers }
+    ensures { ServedExecutionsReachInTime H.mac P.answers }
 {
-    served_courses_reach::<H, P>();
+    served_executions_reach::<H, P>();
     rounds_come_in_time::<H, P>();
 }
 
-/// Likewise for a controlling agent without a valid pair, for the k rounds after the first of `courses_check_from_due`: for n due pairs
+/// Likewise for a controlling agent without a valid pair, for the k rounds after the first of `executions_check_from_due`: for n due pairs
 /// n - 1, or n if the pair is due at the first call and not before it.
-pub fn courses_check_in_time<H: Sha1HmacProvider, P: LocalPreference>()
-    ensures { CoursesCheckInTime H.mac P.answers }
+pub fn executions_check_in_time<H: Sha1HmacProvider, P: LocalPreference>()
+    ensures { ExecutionsCheckInTime H.mac P.answers }
 {
-    courses_check_from_due::<H, P>();
+    executions_check_from_due::<H, P>();
     successes_select::<H, P>();
 }
 
 /// The same agent selects a path, if a success response is accepted in a round that begins at most one round trip after a check on the
 /// pair's path: in a round that begins at most k times one pacing interval and δ, and one round trip, after the first. The response may
 /// come several rounds after its check. Candidates may be added between the `handle_timeout` calls: then the k rounds suffice as in
-/// `courses_reach_unanswered`, or as in `courses_reach_served` if a request was served on the pair: 2 * m, however many pairs there are. The
+/// `executions_reach_unanswered`, or as in `executions_reach_served` if a request was served on the pair: 2 * m, however many pairs there are. The
 /// exception is that such a candidate may remove a pair of the path.
-pub fn courses_select_in_time<H: Sha1HmacProvider, P: LocalPreference>()
-    ensures { CoursesSelectInTime H.mac P.answers }
+pub fn executions_select_in_time<H: Sha1HmacProvider, P: LocalPreference>()
+    ensures { ExecutionsSelectInTime H.mac P.answers }
 {
-    courses_check_from_due::<H, P>();
-    courses_reach_unanswered::<H, P>();
-    courses_reach_served::<H, P>();
+    executions_check_from_due::<H, P>();
+    executions_reach_unanswered::<H, P>();
+    executions_reach_served::<H, P>();
     successes_select::<H, P>();
 }
 
@@ -99,5 +99,5 @@ pub fn courses_select_in_time<H: Sha1HmacProvider, P: LocalPreference>()
 pub fn selected_in_time<H: Sha1HmacProvider, P: LocalPreference>()
     ensures { PathsAreSelectedInTime H.mac P.answers }
 {
-    courses_select_in_time::<H, P>();
+    executions_select_in_time::<H, P>();
 }

@@ -17,7 +17,7 @@ use Rattle.is_turn.specs.Timing.{wait_after}
 use Rattle.is_turn.specs.Turn.{key_now, after_step}
 use Rattle.is_turn.specs.Worlds.{Call, start, close, lose, permit, send, probe, handle_timeout, poll_transmit, poll_event, receive}
 use Rattle.is_turn_progress.specs.States.{State, Effect}
-use Rattle.is_turn_progress.specs.Closing.{CLOSING, IsClosed, IsFinal, IsUnchallenged, Passes, IsPunctualCourse, HasEnded, IsEndedBy}
+use Rattle.is_turn_progress.specs.Closing.{CLOSING, IsClosed, IsFinal, IsUnchallenged, Passes, IsPunctualExecution, HasEnded, IsEndedBy}
 use Rattle.is_turn_progress.proofs.HeldRequests.{held, Held, held_as, held_poll, held_event}
 use Rattle.is_turn_progress.proofs.Steps.{by_cond}
 
@@ -246,7 +246,7 @@ ended_or : (d by : ℕ) (x : State) (run : List State) → (Frees d by x.session
 ended_or d by x run go (inl h) = inl h
 ended_or d by x run go (inr h) = inr (go h)
 
-ended_from : (mac : List ℕ → List ℕ → List ℕ) (d by : ℕ) (x : State) (run : List State) → Frees d by x.session → IsPunctualCourse mac d x run → IsEndedBy by run
+ended_from : (mac : List ℕ → List ℕ → List ℕ) (d by : ℕ) (x : State) (run : List State) → Frees d by x.session → IsPunctualExecution mac d x run → IsEndedBy by run
 ended_from mac d by x [] h steps = tt
 ended_from mac d by x (next ∷ rest) h steps =
     let after = passed mac d by x next h steps.0 in
@@ -264,6 +264,6 @@ closed_frees time d x h =
       stage = inl (refl, omega arith);
     }
 
-pub ended_in_time : (mac : List ℕ → List ℕ → List ℕ) (time d : ℕ) (x : State) (run : List State) → (h : IsClosed time d x) → IsPunctualCourse mac d x run
+pub ended_in_time : (mac : List ℕ → List ℕ → List ℕ) (time d : ℕ) (x : State) (run : List State) → (h : IsClosed time d x) → IsPunctualExecution mac d x run
     → IsEndedBy (time + CLOSING h.before.timing d) run
 ended_in_time mac time d x run h steps = ended_from mac d (time + CLOSING h.before.timing d) x run (closed_frees time d x h) steps

@@ -1,4 +1,4 @@
--- Each call keeps no more secrets than are needed, so it is so in each course.
+-- Each call keeps no more secrets than are needed, so it is so in each execution.
 use Rattle.std.proofs.Common.{◌≡◌, ℕ, ◌&&◌, Bool, true, false, cond, List, [], ◌∷◌, set, position, nat_lt, nat_le, arith, Option, Some, None, is_some, is_none, Result, Ok, Err, refl, sym, ap, subst, ◌∙◌}
 use Rattle.std.proofs.lemmas.List.{set_past}
 use Rattle.std.specs.declared.net.socket_addr.SocketAddr.{SocketAddr}
@@ -26,7 +26,7 @@ use Rattle.is_turn.specs.Relaying.{kept_in as leases_in, kept_leases, permits_pe
 use Rattle.is_turn.specs.Session.{is_new, is_ready, asking, turn_started, closed, may_be_made, unsent, left, closed_early, closed_in, lost_in, failed_in, probed, takes_permissions, with_request, with_renewal, sending, changed_by, request_timing, tried_by, repeated_by, step_of, due_or, keep_alive_due}
 use Rattle.is_turn.specs.Turn.{kept_in, kept_credentials, key_now, alive_or_nothing, after_step, packet_polled, reported_by, after_event}
 use Rattle.is_turn.specs.Worlds.{Call, start, close, lose, permit, send, probe, handle_timeout, poll_transmit, poll_event, receive}
-use Rattle.is_turn_progress.specs.States.{State, HasBecome, Effect, IsCourse}
+use Rattle.is_turn_progress.specs.States.{State, HasBecome, Effect, IsExecution}
 use Rattle.is_turn_progress.specs.Secrets.{password_of, IsForgotten, Forgets, IsNewClient, AlwaysForgets}
 use Rattle.is_turn_progress.proofs.ForgottenSecrets.{Safe, Kept, kept_cond, safe_cond, kept_safe, safe_changed, received_after}
 use Rattle.is_turn_progress.proofs.Packets.{packet_case}
@@ -341,11 +341,11 @@ call_forgets (receive bytes result) mac x new h does =
     received_after (datagram_of bytes) mac (at_time new.clock) (alternate_in bytes) x.session x.leases x.credentials result new.session new.leases new.credentials h
     does
 
-course_forgets : (mac : List ℕ → List ℕ → List ℕ) (x : State) (run : List State) → Forgets x → IsCourse mac x run → AlwaysForgets run
-course_forgets mac x [] h steps = tt
-course_forgets mac x (next ∷ rest) h steps =
-    let after = call_forgets steps.0.call mac x next h steps.0.effect in (after, course_forgets mac next rest after steps.1)
+execution_forgets : (mac : List ℕ → List ℕ → List ℕ) (x : State) (run : List State) → Forgets x → IsExecution mac x run → AlwaysForgets run
+execution_forgets mac x [] h steps = tt
+execution_forgets mac x (next ∷ rest) h steps =
+    let after = call_forgets steps.0.call mac x next h steps.0.effect in (after, execution_forgets mac next rest after steps.1)
 
-pub always_forgets : (mac : List ℕ → List ℕ → List ℕ) (x : State) (run : List State) → IsNewClient x → IsCourse mac x run → AlwaysForgets run
+pub always_forgets : (mac : List ℕ → List ℕ → List ℕ) (x : State) (run : List State) → IsNewClient x → IsExecution mac x run → AlwaysForgets run
 always_forgets mac x run fresh steps =
-    course_forgets mac x run (subst (λ (s : Session). Safe s x.credentials x.leases) (sym fresh.session) tt) steps
+    execution_forgets mac x run (subst (λ (s : Session). Safe s x.credentials x.leases) (sym fresh.session) tt) steps

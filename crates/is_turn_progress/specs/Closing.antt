@@ -43,9 +43,9 @@ pub record Passes (mac : List ℕ → List ℕ → List ℕ) (d : ℕ) (x new : 
   pub punctual : IsPunctual d x new.clock
 
 -- the states after each of any calls
-abbrev pub IsPunctualCourse : (List ℕ → List ℕ → List ℕ) → ℕ → State → List State → Type 0
-IsPunctualCourse mac d x [] = Unit {0}
-IsPunctualCourse mac d x (next ∷ rest) = Passes mac d x next × IsPunctualCourse mac d next rest
+abbrev pub IsPunctualExecution : (List ℕ → List ℕ → List ℕ) → ℕ → State → List State → Type 0
+IsPunctualExecution mac d x [] = Unit {0}
+IsPunctualExecution mac d x (next ∷ rest) = Passes mac d x next × IsPunctualExecution mac d next rest
 
 abbrev pub HasEnded : State → Type 0
 HasEnded x = x.session.phase ≡ phases.Ended

@@ -51,6 +51,6 @@ pub record Advances (mac : List ℕ → List ℕ → List ℕ) (x new : State) :
   pub effect : Effect call mac new.clock x new
 
 -- the states after each of the calls
-abbrev pub IsCourse : (List ℕ → List ℕ → List ℕ) → State → List State → Type 0
-IsCourse mac x [] = Unit {0}
-IsCourse mac x (next ∷ rest) = Advances mac x next × IsCourse mac next rest
+abbrev pub IsExecution : (List ℕ → List ℕ → List ℕ) → State → List State → Type 0
+IsExecution mac x [] = Unit {0}
+IsExecution mac x (next ∷ rest) = Advances mac x next × IsExecution mac next rest

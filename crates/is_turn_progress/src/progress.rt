@@ -2,7 +2,7 @@
 
 ghost use Rattle.std.specs.Prelude.{ℕ, ◌+◌, List};
 ghost use Rattle.is_turn_progress.specs.States.{State};
-ghost use Rattle.is_turn_progress.specs.Closing.{CLOSING, IsClosed, IsPunctualCourse, IsEndedBy};
+ghost use Rattle.is_turn_progress.specs.Closing.{CLOSING, IsClosed, IsPunctualExecution, IsEndedBy};
 ghost use Rattle.is_turn_progress.specs.Reaching.{ALLOCATING, IsStarted, IsAnswered, IsReachedBy};
 
 /// At a server that returns each response within `x`, called at most `d` after the time of `poll_timeout`, a client that is started with
@@ -18,5 +18,5 @@ pub fn an_allocation_is_reached()
 /// not counted.
 pub fn a_closed_client_ends()
     ensures { (mac : List ℕ → List ℕ → List ℕ) (time d : ℕ) (x : State) (run : List State) → (closed : IsClosed time d x)
-        → IsPunctualCourse mac d x run → IsEndedBy (time + CLOSING closed.before.timing d) run }
+        → IsPunctualExecution mac d x run → IsEndedBy (time + CLOSING closed.before.timing d) run }
 {}

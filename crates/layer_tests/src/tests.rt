@@ -3,6 +3,4 @@
 mod candidates;
 mod pairs;
 mod proto;
-mod servers;
 mod stun;
-mod turn;

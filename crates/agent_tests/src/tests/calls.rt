@@ -22,7 +22,6 @@ fn outcome(error: &IceError) -> Outcome {
         IceError::MtuTooSmall => Outcome::MtuTooSmall,
         IceError::CredentialsTooLong => Outcome::CredentialsTooLong,
         IceError::PriorityTooHigh => Outcome::PriorityTooHigh,
-        IceError::LiteStaysControlled => Outcome::LiteStaysControlled,
         _ => Outcome::Other,
     }
 }
@@ -54,7 +53,10 @@ impl Player {
             Call::Peers(count) => add_remotes(&mut self.agent, alloc, count),
             Call::Invalidate(line) => invalidate(&mut self.agent, parsed(alloc, line)),
             Call::Recreate => outcome_of(self.agent.recreate_candidate_pairs()),
-            Call::Control(role) => outcome_of(self.agent.set_controlling(role)),
+            Call::Control(role) => {
+                self.agent.set_controlling(role);
+                Outcome::Done
+            }
             Call::SetMtu(mtu, mtu_warn) => outcome_of(self.agent.set_mtu(mtu..=mtu_warn)),
             _ => self.passes(call),
         }
@@ -179,7 +181,7 @@ fn add_remotes(agent: &mut Agent, alloc: Global, count: u8) -> Outcome {
 
 fn invalidate(agent: &mut Agent, candidate: Option<Candidate>) -> Outcome {
     match candidate {
-        Some(candidate) => done_if(agent.invalidate_candidate(&candidate).unwrap_or(false)),
+        Some(candidate) => done_if(agent.invalidate_candidate(&candidate)),
         None => Outcome::Other,
     }
 }

@@ -132,7 +132,7 @@ impl Player {
     fn sets(&mut self, setting: Setting) -> bool {
         let agent = &mut self.agent;
         match setting {
-            Setting::Controlling(role) => return agent.set_controlling(role).is_ok(),
+            Setting::Controlling(role) => agent.set_controlling(role),
             Setting::Lite => agent.set_ice_lite(true),
             Setting::LiteTimeout(ms) => agent.set_lite_timeout(Duration::from_millis(ms)),
             Setting::FirstNumber(number) => agent.skip_pair_ids(number),

@@ -1,8 +1,11 @@
 //! Allocation failures: run with each allocation failing in turn (`rt try --test --fail-alloc N`).
 
-use super::making::creds;
-use super::step::At;
+use super::driver::Player;
+use super::making::{creds, parsed};
+use super::settled::{BOTH_MODERN, OTHER, SECOND};
+use super::step::{At, Emitted, Setting, Start, Step};
 use super::*;
+use is::Profile;
 use std::process::Abort;
 
 /// The agent of the request, in a box.
@@ -93,4 +96,43 @@ fn a_failed_call_can_be_made_again(rt: HostRuntime) -> Result<(), Fail> {
         }
         None => Err(IceError::OutOfMemory.into()),
     }
+}
+
+// ---- calls that take no memory
+
+/// An agent with the profile `Modern` and two valid paths, of which the better one is selected.
+fn with_two_paths(alloc: Global) -> Option<Player> {
+    let mut player = Player::new(alloc, "near", "nearpass", 7).ok()?;
+    let begins = [
+        Step::Begin(Start::Unpaired),
+        Step::Set(Setting::Profile(Profile::Modern)),
+    ];
+    for step in begins.iter().chain(BOTH_MODERN.iter()) {
+        if !player.makes(step) {
+            return None;
+        }
+    }
+    Some(player)
+}
+
+/// The two candidates of the peer.
+fn of_the_peer(alloc: Global) -> Option<(Candidate, Candidate)> {
+    Some((parsed(alloc, PEER)?, parsed(alloc, OTHER)?))
+}
+
+/// Both paths are lost before an event is polled: room for their events was made when the candidates were added.
+#[test]
+fn invalidating_takes_no_memory(rt: HostRuntime) -> Result<(), Fail> {
+    let (Some(mut player), Some((first, second))) = (
+        with_two_paths(rt.alloc()),
+        of_the_peer(rt.alloc()),
+    ) else {
+        return Err(IceError::OutOfMemory.into());
+    };
+    assert!(rt; player.agent.invalidate_candidate(&first));
+    assert!(rt; player.agent.invalidate_candidate(&second));
+    assert!(rt; !player.agent.invalidate_candidate(&first));
+    assert!(rt; player.makes(&Step::Emits(Emitted::Selects(At(1, 1000), SECOND))));
+    assert!(rt; player.makes(&Step::Emits(Emitted::Events("Cx"))));
+    Ok(())
 }

@@ -197,6 +197,7 @@ impl Player {
         match shown {
             Shown::Controlling(controlling) => agent.controlling() == controlling,
             Shown::Lite(lite) => agent.ice_lite() == lite,
+            Shown::KeepsRole(keeps) => agent.keeps_role() == keeps,
             Shown::Renomination(renominates) => agent.renomination() == renominates,
             Shown::Connected => agent.state().is_connected(),
             Shown::Disconnected => agent.state().is_disconnected(),

@@ -21,10 +21,10 @@ fn the_state_follows_nomination(rt: HostRuntime) -> Result<(), Fail> {
 
 const THERE: At = At(2, 2000);
 
-const SECOND: At = At(3, 2000);
+pub(super) const SECOND: At = At(3, 2000);
 
 /// A candidate of the peer at 10.0.0.3:2000, of lower priority than the first one.
-const OTHER: &str = "candidate:1 1 udp 2130706174 10.0.0.3 2000 typ host";
+pub(super) const OTHER: &str = "candidate:1 1 udp 2130706174 10.0.0.3 2000 typ host";
 
 // ---- handle_timeout
 
@@ -151,7 +151,7 @@ const BOTH: [Step; 8] = [
 ];
 
 /// The same with the profile `Modern`.
-const BOTH_MODERN: [Step; 10] = [
+pub(super) const BOTH_MODERN: [Step; 10] = [
     Does(Peer(PEER)),
     Does(Peer(OTHER)),
     Does(CheckTo(0, THERE, false)),

@@ -114,7 +114,6 @@ pub(super) enum Outcome {
     MtuTooSmall,
     CredentialsTooLong,
     PriorityTooHigh,
-    LiteStaysControlled,
     /// Memory ran out, or a candidate attribute was wrong.
     Other,
 }
@@ -311,6 +310,7 @@ pub(super) enum Held {
 pub(super) enum Shown {
     Controlling(bool),
     Lite(bool),
+    KeepsRole(bool),
     Renomination(bool),
     Settings(Settings),
     State(IceConnectionState),

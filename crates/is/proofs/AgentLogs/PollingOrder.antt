@@ -41,7 +41,7 @@ module _ {H P : Type 0} (mac : H → List ℕ → List ℕ → List ℕ) (answer
   issues_none old new s t (SetMaxStunRetransmits n) e did _ = either (n == 0) did (λ h. silent e _ h.0) (λ h. silent e _ h.0)
   issues_none old new s t (SetLiteTimeout by) e h _ = silent e _ h.0
   issues_none old new s t (SetLocalPreference object) e h _ = silent e _ h.0
-  issues_none old new s t (SetControlling controlling) e h _ = silent e _ h.1
+  issues_none old new s t (SetControlling controlling) e h _ = silent e _ h.0
   issues_none old new s t (SetLocalCredentials creds) e h _ = silent e _ h.1
   issues_none old new s t (SetRemoteCredentials creds) e h _ = silent e _ h.1
   issues_none old new s t (SkipPairIds n) e h _ = silent e _ h.0

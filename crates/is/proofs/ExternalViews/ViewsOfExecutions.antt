@@ -25,7 +25,7 @@ use Rattle.is_rules.specs.Agent.{AgentRecord}
 use Rattle.is_rules.specs.Polls.{PollsTransmit}
 use Rattle.is_rules.specs.Sending.{path_of}
 use Rattle.is_rules.specs.Accepting.{IsAcceptedAs}
-use Rattle.is_rules.specs.Answers.{keeps_check_on, goes_back}
+use Rattle.is_rules.specs.Answers.{keeps_check_on, is_reverse}
 use Rattle.is_rules.specs.Steps.{Step}
 use Rattle.is_rules.specs.Sound.{IsSound}
 use Rattle.is_rules.specs.Brought.{Brings}
@@ -163,7 +163,7 @@ module _ {H P : Type 0} where
   awaits : (a : AgentRecord H P) (d : RoleEvent) (via : Path) (id : List ℕ) → list_any (keeps_check_on a via id) a.pairs ≡ true → d.via ≡ Some via → IsAwaited (role_state_of a) d id
   awaits a d via id keeps came =
       let p = passing (keeps_check_on a via id) a.pairs keeps in
-      let two = both (is_kept id p.0.checks) (goes_back via (path_of a p.0)) p.2 in
+      let two = both (is_kept id p.0.checks) (is_reverse via (path_of a p.0)) p.2 in
       let c = passing (has_id id) p.0.checks two.0 in
       let ends = both (same_address via.source (path_of a p.0).destination) (same_address via.destination (path_of a p.0).source) two.1 in
       record {

@@ -26,7 +26,7 @@ use Rattle.is.specs.World as world
 use Rattle.is.specs.declared.world_events.WorldLog.{WorldLog}
 use Rattle.is.specs.World.{WorldRecord, Event, LoggedEvent, logged_as, logged, other, IsWorldLog, Streams}
 use Rattle.is.specs.WorldRoles.{HaveDistinctIds, IsNewWorld, IsNeverLite, Point, role_in, changes, GreaterKeeps, LesserSwitchesOnce}
-use Rattle.is.specs.Traces.{Issues, TakesMessage, SelectsPathAt, IsAt, IsUncleared, IsTrace, ComesBack, SelectedAreTraced}
+use Rattle.is.specs.Traces.{Issues, HandlesMessage, SelectsPathAt, IsAt, IsUncleared, IsTrace, ComesBack, SelectedAreTraced}
 use Rattle.is.proofs.ExternalViews.NetworkModel as seen
 use Rattle.is.proofs.ExternalViews.NetworkModel.{Moved, Emitted, emitted_of}
 use Rattle.is.proofs.ExternalViews.PreservedByEvents as runs
@@ -248,7 +248,7 @@ module _ {H P : Type 0} (mac : H → List ℕ → List ℕ → List ℕ) (answer
             k.within,
           )
 
-      takes_at : (m : ℕ) (side : Side) (c : Class) (id : List ℕ) → seen.Takes Es m side c id → IsAt entries m (TakesMessage side c (record { 0 = id })) × (m < suc n)
+      takes_at : (m : ℕ) (side : Side) (c : Class) (id : List ℕ) → seen.Takes Es m side c id → IsAt entries m (HandlesMessage side c (record { 0 = id })) × (m < suc n)
       takes_at m side c id i =
           let k = shows m i.entry i.found in (
             (

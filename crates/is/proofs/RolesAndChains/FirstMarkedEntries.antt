@@ -216,10 +216,10 @@ module _ (es : List WorldEntry) (n place : ℕ) where
   pub none_selected : ((side : Side) (path : Path) → ¬ IsAt es n (SelectsPathAt side path place)) → IsFirstTrace es n place None
   none_selected none t (side, path, selected_paths, trace) = none side path selected_paths
 
-  pub selected_first : (side : Side) (path : Path) (end : ℕ) (result : Option Trace) → end ≡ suc n → IsAt es n (SelectsPathAt side path place) → IsFirst (IsTrace es side path end) result
+  pub first_selected : (side : Side) (path : Path) (end : ℕ) (result : Option Trace) → end ≡ suc n → IsAt es n (SelectsPathAt side path place) → IsFirst (IsTrace es side path end) result
       → IsFirstTrace es n place result
   unfolding path_or side_or
-  selected_first side path end result end_is (e, found, (side_is, selected_paths)) first = by result (subst (λ k. IsFirst (IsTrace es side path k) result) end_is first) where
+  first_selected side path end result end_is (e, found, (side_is, selected_paths)) first = by result (subst (λ k. IsFirst (IsTrace es side path k) result) end_is first) where
     same_trace : (t : Trace) → IsTraceOf es n place t → IsTrace es side path (suc n) t
     same_trace t (other_side, other_path, (f, f_found, (f_side, f_announced)), trace) =
         let same : f ≡ e = cc in

@@ -7,7 +7,7 @@ use Rattle.is_proto.specs.Packets.{Packet}
 use Rattle.is_candidate.specs.Candidates.{CandidateRecord}
 use Rattle.is_stun.specs.declared.header.Class.TheVariants.{Failure}
 use Rattle.is_rules.specs.declared.emitted.Path.{Path}
-use Rattle.is_theorems.specs.AskedCourses.{EndsAlong}
+use Rattle.is_theorems.specs.AskedExecutions.{EndsAlong}
 use Rattle.is_rules.specs.Brought.{IsRejectedBy}
 use Rattle.is_theorems.specs.Carried.{IsConflictCarried, CarriedSettle}
 use Rattle.is_theorems.specs.Conflicts.{AreSentUnder, ServesPastTests, handing}
@@ -252,7 +252,7 @@ module _ {H P : Type 0} where
 
           by : (IsRejectedBy (at side again.before) (handing (rewritten r.via i.rejection) r.comes.hands.now) again.entry.outcome.entry (at side again.following)
               × (AreSentUnder (at side k.sent.before).controlling (at side again.before) k.id → (at side again.following).controlling ≡ not (at (other side) handed.before).controlling))
-              ⊎ EndsAlong mac answers (own mac answers side between) (at side k.sent.following) (at side again.before) z.course.0 (via_out k.check) → Apart last
+              ⊎ EndsAlong mac answers (own mac answers side between) (at side k.sent.following) (at side again.before) z.execution.0 (via_out k.check) → Apart last
           by (inl ((now, via, way, m, role, brings, failure, conflict, kept, gives), under)) =
               let met : Meets side again.before again.entry =
               (agent.ReceivePacket r.comes.hands.now r.via i.rejection.contents, handed_makes side r.via i.rejection again.before again.entry r.comes.hands, inr (now, via, m, brings, failure, conflict)) in

@@ -1,6 +1,6 @@
 -- Both of two agents select a path in rounds in which the network delivers. The preconditions that mutants/specifications
 -- changes are read by tactics.
-use Rattle.std.proofs.Common.{◌≡◌, ℕ, suc, ◌+◌, ◌<◌, ◌≤◌, Bool, true, false, List, [], ◌∷◌, ◌++◌, ◌&&◌, cond, length, Option, Some, None, inl, inr, ◌⊎◌, refl, ap, sym, ◌∙◌, subst, arith, if◌then◌else◌, Ok}
+use Rattle.std.proofs.Common.{◌≡◌, ℕ, suc, ◌+◌, ◌<◌, ◌≤◌, Bool, true, false, List, [], ◌∷◌, ◌++◌, ◌&&◌, cond, length, Option, Some, None, inl, inr, ◌⊎◌, refl, ap, sym, ◌∙◌, subst, arith, if◌then◌else◌}
 use Rattle.std.specs.Prelude.{slice_get}
 use Rattle.std.proofs.lemmas.List.Sums.{sum_by-append, sum_by-cons}
 use Rattle.is_proto.specs.Lists.{Has}
@@ -10,22 +10,22 @@ use Rattle.is_pair.specs.Pairs.{PairRecord}
 use Rattle.is_rules.specs.declared.emitted.Path.{Path}
 use Rattle.is_rules.specs.Agent.{AgentRecord, fresh}
 use Rattle.is_theorems.specs.Asked.{IsOnlyPair}
-use Rattle.is_theorems.specs.AskedCourses.{AcceptsSuccessOn, IsAnsweredAlong, AcceptedNominationsAreSelected}
+use Rattle.is_theorems.specs.AskedExecutions.{AcceptsSuccessOn, IsAnsweredAlong, AcceptedNominationsAreSelected}
 use Rattle.is_theorems.specs.Carried.{CarriedAsk, CarriedSucceedLater}
 use Rattle.is_candidate.specs.Addresses.{same_address}
 use Rattle.is_rules.specs.Emitted.{reversed}
-use Rattle.is_theorems.specs.Courses.{AcceptsSuccess, CourseRound}
+use Rattle.is_theorems.specs.Executions.{AcceptsSuccess, ExecutionRound}
 use Rattle.is_theorems.specs.Progress.{Awaits, IsUnanswered}
 use Rattle.is_theorems.proofs.BasicLemmas.EqualAddresses.{same_address-same}
 use Rattle.is_rules.specs.Effects.{PathTheorem}
 use Rattle.is_rules.specs.Queue.{request_at}
-use Rattle.is_theorems.specs.Exchange.{AreBetween, Course}
+use Rattle.is_theorems.specs.Exchange.{AreBetween, Execution}
 use Rattle.is_theorems.specs.Reached.{IsInLine, IsLasting, nominations_ahead, selects}
-use Rattle.is_theorems.specs.ReachedCourses.{IsPassed, PassRounds, selections_among}
+use Rattle.is_theorems.specs.ReachedExecutions.{IsPassed, PassRounds, selections_among}
 use Rattle.is_rules.specs.Sending.{path_of}
 use Rattle.is_theorems.specs.FirstChecks.{times_of}
-use Rattle.is_theorems.specs.FirstTimeouts.{CoursesReachUnanswered, AreInRound, IsOpenRound, IsReached, EndsAmong, RoundsSuffice, Suffices, CoursesReachFromDue}
-use Rattle.is_theorems.specs.ServedSoon.{CoursesReachServed, IsOvertakenAmong, ServedCoursesReach, SufficesForServed}
+use Rattle.is_theorems.specs.FirstTimeouts.{ExecutionsReachUnanswered, AreInRound, IsOpenRound, IsReached, EndsAmong, RoundsSuffice, Suffices, ExecutionsReachFromDue}
+use Rattle.is_theorems.specs.ServedSoon.{ExecutionsReachServed, IsOvertakenAmong, ServedExecutionsReach, SufficesForServed}
 use Rattle.is_rules.specs.Sound.{FreshIsSound}
 use Rattle.is_rules.specs.Steps as agent
 use Rattle.is_rules.specs.Steps.{Answer, Entry, Done, Rejected, quiet, Step}
@@ -33,7 +33,7 @@ use Rattle.is.specs.declared.world_events.Side.{Side}
 use Rattle.is.specs.Connections.{AsksInRounds, HasRounds, IsAnsweredInRounds, ServedRoundsReach, SideRoundsReach, Succeeds, BothConnect, selections_of}
 use Rattle.is.specs.AcceptedNominationsIn.{is_of, Occurrence, IsAskedOver, IsExchangedOver, occurrences_in}
 use Rattle.is.specs.Deliveries.{MakesPolls}
-use Rattle.is.specs.Selections.{SideRound, all_of, times_in, state_after, IsKept, AreKept, MayEndInRounds, OvertakeIn, ServedRoundsSuffice, SideRoundsSuffice, AreEachPolled, RoundChecks}
+use Rattle.is.specs.Selections.{SideRound, all_of, begins_modern, times_in, state_after, IsKept, AreKept, MayEndInRounds, OvertakeIn, ServedRoundsSuffice, SideRoundsSuffice, AreEachPolled, RoundChecks}
 use Rattle.is.specs.Sides.{only, polled_as, received_as, acts}
 use Rattle.rand_core.specs.Stream.{Stream}
 use Rattle.is.specs.World as world
@@ -41,18 +41,18 @@ use Rattle.is.specs.AcceptedNominations.{IsControlledSegment, MayEndIn, SelectsT
 use Rattle.is.specs.World.{WorldRecord, WorldRun, InFlightRecord, Event, LoggedEvent, Happens, at, other, in_world, Streams, source_of, TakesTurn}
 use Rattle.is.specs.WorldRoles.{IsNewAgent}
 use Rattle.is.proofs.ExternalViews.ViewsOfExecutions.{Has-front, Has-rear, AreSound}
-use Rattle.is.proofs.TwoAgentEvents.OwnExecutions.{only_own, course_on, turn_step}
-use Rattle.is.proofs.TwoAgentEvents.EventsOfSegments.{Follow, follows, cut, state_is, meet, acts_at, own, own_course, own_from, own_between, own_in_round, own_has, owned, Found}
+use Rattle.is.proofs.TwoAgentEvents.OwnExecutions.{only_own, execution_on, turn_step}
+use Rattle.is.proofs.TwoAgentEvents.EventsOfSegments.{Follow, follows, cut, state_is, meet, acts_at, own, own_execution, own_from, own_between, own_in_round, own_has, owned, Found}
 use Rattle.is.proofs.TwoAgentEvents.SelectionsOfSegments.{ahead-fewer, chosen-along, is-own, one-counted, suffice-fewer}
 use Rattle.is.proofs.SelectedPaths.SelectedAfterNomination.{apart_at, answered, selected_where}
 
 module _ {H P : Type 0} (mac : H → List ℕ → List ℕ → List ℕ) (answers : P → CandidateRecord → ℕ → ℕ → Type 0) where
   -- ---- what a side does in its rounds
 
-  abbrev pub round_of : Side → SideRound H P → CourseRound P
+  abbrev pub round_of : Side → SideRound H P → ExecutionRound P
   round_of side r = record { now = r.now; timeout = r.timeout.entry.outcome.entry; following = own mac answers side r.following }
 
-  abbrev pub rounds_of : Side → List (SideRound H P) → List (CourseRound P)
+  abbrev pub rounds_of : Side → List (SideRound H P) → List (ExecutionRound P)
   rounds_of side [] = []
   rounds_of side (r ∷ later) = round_of side r ∷ rounds_of side later
 
@@ -129,16 +129,16 @@ module _ {H P : Type 0} (mac : H → List ℕ → List ℕ → List ℕ) (answer
       (subst (λ (w : WorldRecord H P). Suffices by r.now (at side r.timeout.before) (at side w) (at side last) (length later)
       (nominations_ahead (at side r.timeout.before) (selections_of side (all_of (r ∷ later)))) (nominations_ahead (at side w) (selections_of side (all_of later)))) second (search enough))
 
-  abbrev pub are_all : (CourseRound P → Type 0) → Side → List (SideRound H P) → Type 0
-  are_all Q side rounds = (c : CourseRound P) → Has (rounds_of side rounds) c → Q c
+  abbrev pub are_all : (ExecutionRound P → Type 0) → Side → List (SideRound H P) → Type 0
+  are_all Q side rounds = (c : ExecutionRound P) → Has (rounds_of side rounds) c → Q c
 
-  pub each_round : (Q : CourseRound P → Type 0) (side : Side) (rounds : List (SideRound H P)) → ((r : SideRound H P) → Has rounds r → Q (round_of side r)) → are_all Q side rounds
+  pub each_round : (Q : ExecutionRound P → Type 0) (side : Side) (rounds : List (SideRound H P)) → ((r : SideRound H P) → Has rounds r → Q (round_of side r)) → are_all Q side rounds
   each_round Q side [] each c has = absurd has
-  each_round Q side (r ∷ later) each c (inl is) = subst (λ (z : CourseRound P). Q z) is (each r (inl refl))
+  each_round Q side (r ∷ later) each c (inl is) = subst (λ (z : ExecutionRound P). Q z) is (each r (inl refl))
   each_round Q side (r ∷ later) each c (inr has) = each_round Q side later (λ y there. each y (inr there)) c has
 
-  is_passed : (side : Side) (by : ℕ) (r : SideRound H P) → by < r.now → IsKept side r → ((x : Occurrence H P) → Has r.following x → MakesPolls side x.entry.event) → IsPassed by (round_of side r)
-  is_passed side by r later kept polls = record {
+  is_passed : (modern : Bool) (side : Side) (by : ℕ) (r : SideRound H P) → by < r.now → IsKept modern side r → ((x : Occurrence H P) → Has r.following x → MakesPolls side x.entry.event) → IsPassed by (round_of side r)
+  is_passed modern side by r later kept polls = record {
     done = kept.done;
     late = omega (arith, later);
     early = kept.early;
@@ -147,7 +147,7 @@ module _ {H P : Type 0} (mac : H → List ℕ → List ℕ → List ℕ) (answer
 
   pub are_passed : (side : Side) (by : ℕ) (r : SideRound H P) (later : List (SideRound H P)) → AreKept side by r later → AreEachPolled side by r later → are_all (λ c. IsPassed by c) side later
   are_passed side by r later kept each =
-      each_round (λ c. IsPassed by c) side later (λ x has. is_passed side by x (let late = kept.late x has in omega (arith, late)) (kept.kept x (inr has)) (each.polls x (inr has)))
+      each_round (λ c. IsPassed by c) side later (λ x has. is_passed (begins_modern side r) side by x (let late = kept.late x has in omega (arith, late)) (kept.kept x (inr has)) (each.polls x (inr has)))
 
   pub only_polls : (side : Side) (by : ℕ) (r : SideRound H P) (later : List (SideRound H P)) → AreEachPolled side by r later → AreBetween (own mac answers side r.following)
   only_polls side by r later each = own_between mac answers side r.following (λ x has. search (each.polls r (inl refl) x has))
@@ -156,19 +156,19 @@ module _ {H P : Type 0} (mac : H → List ℕ → List ℕ → List ℕ) (answer
   same_times side [] = refl
   same_times side (r ∷ later) = ap (λ ns. r.now ∷ ns) (same_times side later)
 
-  pub is_open : (side : Side) (r : SideRound H P) → IsKept side r → AreInRound (own mac answers side r.following)
-  is_open side r kept = own_in_round mac answers side r.following (λ x has. search (kept.between x has))
+  pub is_open : (modern : Bool) (side : Side) (r : SideRound H P) → IsKept modern side r → AreInRound modern (own mac answers side r.following)
+  is_open modern side r kept = own_in_round mac answers modern side r.following (λ x has. search (kept.between x has))
 
-  pub are_open : (side : Side) (by : ℕ) (r : SideRound H P) (later : List (SideRound H P)) → AreKept side by r later → are_all (λ c. IsOpenRound by c) side later
-  are_open side by r later kept = each_round (λ c. IsOpenRound by c) side later (λ x has. (let k = kept.kept x (inr has) in record {
+  pub are_open : (side : Side) (by : ℕ) (r : SideRound H P) (later : List (SideRound H P)) → AreKept side by r later → are_all (λ c. IsOpenRound (begins_modern side r) by c) side later
+  are_open side by r later kept = each_round (λ c. IsOpenRound (begins_modern side r) by c) side later (λ x has. (let k = kept.kept x (inr has) in record {
     done = k.done;
     late = (let late = kept.late x has in omega (arith, late));
     early = k.early;
-    between = is_open side x k;
+    between = is_open (begins_modern side r) side x k;
   }))
 
   -- a round of the per-agent execution is one of the two-agent network model
-  pub back : (side : Side) (rounds : List (SideRound H P)) (c : CourseRound P) → Has (rounds_of side rounds) c → (r : SideRound H P) × Has rounds r × (round_of side r ≡ c)
+  pub back : (side : Side) (rounds : List (SideRound H P)) (c : ExecutionRound P) → Has (rounds_of side rounds) c → (r : SideRound H P) × Has rounds r × (round_of side r ≡ c)
   back side [] c has = absurd has
   back side (r ∷ later) c (inl is) = (r, inl refl, is)
   back side (r ∷ later) c (inr has) = let k = back side later c has in (k.0, inr k.1, k.2)
@@ -185,10 +185,10 @@ module _ {H P : Type 0} (mac : H → List ℕ → List ℕ → List ℕ) (answer
   abbrev pub Reaches : Side → Path → List (SideRound H P) → Type 0
   Reaches side path rounds = SomeChecks path rounds ⊎ (Answers side path rounds ⊎ MayEndInRounds answers side path rounds)
 
-  pub are_all_open : (side : Side) (by : ℕ) (r : SideRound H P) (later : List (SideRound H P)) → by < r.now → AreKept side by r later → are_all (λ c. IsOpenRound by c) side (r ∷ later)
+  pub are_all_open : (side : Side) (by : ℕ) (r : SideRound H P) (later : List (SideRound H P)) → by < r.now → AreKept side by r later → are_all (λ c. IsOpenRound (begins_modern side r) by c) side (r ∷ later)
   are_all_open side by r later late kept c (inl is) =
       let k = kept.kept r (inl refl) in
-      subst (λ (z : CourseRound P). IsOpenRound by z) is (record { done = k.done; late = omega (arith, late); early = k.early; between = is_open side r k })
+      subst (λ (z : ExecutionRound P). IsOpenRound (begins_modern side r) by z) is (record { done = k.done; late = omega (arith, late); early = k.early; between = is_open (begins_modern side r) side r k })
   are_all_open side by r later late kept c (inr has) = are_open side by r later kept c has
 
   pub lasts_all : (side : Side) (p : PairRecord) (r : SideRound H P) (later : List (SideRound H P)) → IsLasting r.now (at side r.timeout.before) p
@@ -199,19 +199,19 @@ module _ {H P : Type 0} (mac : H → List ℕ → List ℕ → List ℕ) (answer
   -- what checks other pairs before it in the per-agent execution does so in the network model
   pub overtakes_all : (side : Side) (r : SideRound H P) (later : List (SideRound H P)) (second last : AgentRecord H P)
       → (run : (mid next : AgentRecord H P) × (s t : Stream) × Step mac answers (at side r.timeout.before) s (agent.HandleTimeout r.now) r.timeout.entry.outcome.entry mid t
-      × Course mac answers (own mac answers side r.following) mid next × PassRounds mac answers (rounds_of side later) next last)
+      × Execution mac answers (own mac answers side r.following) mid next × PassRounds mac answers (rounds_of side later) next last)
       → ((n k : ℕ) → IsOvertakenAmong mac answers n k (rounds_of side later) run.1 last run.6 → OvertakeIn side n k later) → (n k : ℕ)
       → IsOvertakenAmong mac answers n k (rounds_of side (r ∷ later)) (at side r.timeout.before) last run → OvertakeIn side n k (r ∷ later)
   overtakes_all side r later second last run overtakes n k overtaken = elim overtaken [ inl others ↦ inl (overtakes n k others) | inr (j, is, here, others) ↦ inr (j, is, here, overtakes n j others) ]
 
-  pub reached : CoursesReachFromDue {H = H} {P = P} mac answers → ServedCoursesReach {H = H} {P = P} mac answers → (side : Side) (first last : WorldRecord H P) (s : Streams) (xs : List (agent.Call P × Entry)) (r : SideRound H P) (later : List (SideRound H P)) (p : PairRecord) (by : ℕ)
-      → IsNewAgent (at side first) → Course mac answers xs (at side first) (at side r.timeout.before) → Follow mac answers r.timeout.before (all_of (r ∷ later)) last
+  pub reached : ExecutionsReachFromDue {H = H} {P = P} mac answers → ServedExecutionsReach {H = H} {P = P} mac answers → (side : Side) (first last : WorldRecord H P) (s : Streams) (xs : List (agent.Call P × Entry)) (r : SideRound H P) (later : List (SideRound H P)) (p : PairRecord) (by : ℕ)
+      → IsNewAgent (at side first) → Execution mac answers xs (at side first) (at side r.timeout.before) → Follow mac answers r.timeout.before (all_of (r ∷ later)) last
       → IsInLine r.now by (at side r.timeout.before) p → AreKept side by r later
       → ((x : SideRound H P) → Has later x → IsLasting x.now (at side r.timeout.before) p) → SideRoundsReach side by r later last ⊎ ServedRoundsReach side by p r later
       → Reaches side (path_of (at side r.timeout.before) p) (r ∷ later)
   reached reach serve side first last s xs r later p by n led (same, u, v, happens, more) line kept lasting enough =
       let path : Path = path_of (at side r.timeout.before) p in
-      let own_first : IsKept side r = kept.kept r (inl refl) in
+      let own_first : IsKept (begins_modern side r) side r = kept.kept r (inl refl) in
       let c = cut mac answers r.following (all_of later) r.timeout.following last more in
       let o = owned mac answers side path r.following r.following r.timeout.following c.0 c.1 (λ x has. has) in
       let k = passes side path later c.0 last c.2 (λ x has. (kept.kept x (inr has)).comes) in
@@ -219,7 +219,7 @@ module _ {H P : Type 0} (mac : H → List ℕ → List ℕ → List ℕ) (answer
       let many = as_many side later in
       let second : state_after r.timeout.following r.following ≡ c.0 = state_is mac answers r.following r.timeout.following c.0 c.1 in
       let agent_first : AgentRecord H P = fresh (at side first).provider n.0 n.1 in
-      let to : Course mac answers ((agent.SetControlling n.2, quiet Done) ∷ xs) agent_first (at side r.timeout.before) = (at side first, source_of side s, source_of side s, tt, (Ok _, refl, (refl, n.3), refl), led) in
+      let to : Execution mac answers ((agent.SetControlling n.2, quiet Done) ∷ xs) agent_first (at side r.timeout.before) = (at side first, source_of side s, source_of side s, tt, (refl, n.3, refl), led) in
       let pass : PassRounds mac answers (rounds_of side (r ∷ later)) (at side r.timeout.before) (at side last) = (at side r.timeout.following, at side c.0, source_of side u, moves.0, moves.1, o.0, k.0) in
       let found : IsReached mac answers (rounds_of side (r ∷ later)) (at side r.timeout.before) (at side last) pass path = elim enough [
         | inl suffices ↦
@@ -227,7 +227,7 @@ module _ {H P : Type 0} (mac : H → List ℕ → List ℕ → List ℕ) (answer
             subst (λ i. RoundsSuffice by (at side r.timeout.before) (at side c.0) (at side last) (round_of side r) (rounds_of side later) i) (sym many)
             (rounds_suffice side by r later c.0 last (same, u, v, happens, more) c.2 (λ x has. (kept.kept x has).comes) second suffices) in
             reach agent_first (at side r.timeout.before) (at side last) ((agent.SetControlling n.2, quiet Done) ∷ xs) (round_of side r) (rounds_of side later) p by
-            (n.0, n.1, refl) to line (let from = kept.from in omega (arith, from)) own_first.done own_first.early (is_open side r own_first) pass (are_open side by r later kept)
+            (n.0, n.1, refl) to line (let from = kept.from in omega (arith, from)) own_first.done own_first.early (is_open (begins_modern side r) side r own_first) pass (are_open side by r later kept)
             (each_round (λ c. IsLasting c.now (at side r.timeout.before) p) side later (λ x has. lasting x has)) so_many)
         | inr served ↦ elim (serve agent_first (at side r.timeout.before) (at side last) ((agent.SetControlling n.2, quiet Done) ∷ xs) (round_of side r) (rounds_of side later) p by served.m
             (n.0, n.1, refl) to line (search (served.served)) pass (are_all_open side by r later (let late = served.late in omega (arith, late)) kept) (lasts_all side p r later line.lasting (λ x has. lasting x has))
@@ -237,8 +237,8 @@ module _ {H P : Type 0} (mac : H → List ℕ → List ℕ → List ℕ) (answer
             ]
       ] in
       elim found [
-        | inl (x, id, has, out) ↦ (let z = back side (r ∷ later) x has in inl (z.0, z.1, (id, ap (λ (y : CourseRound P). y.timeout.emitted.issued) z.2 ∙ out)))
-        | inr (inl (x, has, is)) ↦ (let z = back side (r ∷ later) x has in inr (inl (z.0, z.1, subst (λ (y : CourseRound P). IsAnsweredAlong y.following path) (sym z.2) is)))
+        | inl (x, id, has, out) ↦ (let z = back side (r ∷ later) x has in inl (z.0, z.1, (id, ap (λ (y : ExecutionRound P). y.timeout.emitted.issued) z.2 ∙ out)))
+        | inr (inl (x, has, is)) ↦ (let z = back side (r ∷ later) x has in inr (inl (z.0, z.1, subst (λ (y : ExecutionRound P). IsAnsweredAlong y.following path) (sym z.2) is)))
         | inr (inr (inl here)) ↦ inr (inr (r, inl refl, o.1 here))
         | inr (inr (inr others)) ↦ inr (inr (let m = k.1 others in (m.0, inr m.1, m.2)))
       ]
@@ -256,13 +256,13 @@ module _ {H P : Type 0} (mac : H → List ℕ → List ℕ → List ℕ) (answer
         both_hold false b one two = cc
 
   -- the same if no pair is valid, unless a success response is accepted
-  pub reached_unanswered : CoursesReachUnanswered {H = H} {P = P} mac answers → CoursesReachServed {H = H} {P = P} mac answers → (side : Side) (first last : WorldRecord H P) (s : Streams) (xs : List (agent.Call P × Entry)) (r : SideRound H P) (later : List (SideRound H P)) (p : PairRecord) (by : ℕ)
-      → IsNewAgent (at side first) → Course mac answers xs (at side first) (at side r.timeout.before) → Follow mac answers r.timeout.before (all_of (r ∷ later)) last
+  pub reached_unanswered : ExecutionsReachUnanswered {H = H} {P = P} mac answers → ExecutionsReachServed {H = H} {P = P} mac answers → (side : Side) (first last : WorldRecord H P) (s : Streams) (xs : List (agent.Call P × Entry)) (r : SideRound H P) (later : List (SideRound H P)) (p : PairRecord) (by : ℕ)
+      → IsNewAgent (at side first) → Execution mac answers xs (at side first) (at side r.timeout.before) → Follow mac answers r.timeout.before (all_of (r ∷ later)) last
       → (at side r.timeout.before).controlling ≡ true → Awaits r.now by (at side r.timeout.before) p → IsUnanswered (at side r.timeout.before) p → AreKept side by r later
       → SideRoundsSuffice side by r later last ⊎ ServedRoundsSuffice side p r later → Accepts side (r ∷ later) ⊎ Reaches side (path_of (at side r.timeout.before) p) (r ∷ later)
   reached_unanswered reach serve side first last s xs r later p by n led (same, u, v, happens, more) role waits unanswered kept enough =
       let path : Path = path_of (at side r.timeout.before) p in
-      let own_first : IsKept side r = kept.kept r (inl refl) in
+      let own_first : IsKept (begins_modern side r) side r = kept.kept r (inl refl) in
       let c = cut mac answers r.following (all_of later) r.timeout.following last more in
       let o = owned mac answers side path r.following r.following r.timeout.following c.0 c.1 (λ x has. has) in
       let k = passes side path later c.0 last c.2 (λ x has. (kept.kept x (inr has)).comes) in
@@ -270,33 +270,33 @@ module _ {H P : Type 0} (mac : H → List ℕ → List ℕ → List ℕ) (answer
       let many = as_many side later in
       let second : state_after r.timeout.following r.following ≡ c.0 = state_is mac answers r.following r.timeout.following c.0 c.1 in
       let agent_first : AgentRecord H P = fresh (at side first).provider n.0 n.1 in
-      let to : Course mac answers ((agent.SetControlling n.2, quiet Done) ∷ xs) agent_first (at side r.timeout.before) = (at side first, source_of side s, source_of side s, tt, (Ok _, refl, (refl, n.3), refl), led) in
+      let to : Execution mac answers ((agent.SetControlling n.2, quiet Done) ∷ xs) agent_first (at side r.timeout.before) = (at side first, source_of side s, source_of side s, tt, (refl, n.3, refl), led) in
       let pass : PassRounds mac answers (rounds_of side (r ∷ later)) (at side r.timeout.before) (at side last) = (at side r.timeout.following, at side c.0, source_of side u, moves.0, moves.1, o.0, k.0) in
-      let found : ((x : CourseRound P) × Has (rounds_of side (r ∷ later)) x × ((y : agent.Call P × Entry) × Has x.following y × AcceptsSuccess y.0 y.1))
+      let found : ((x : ExecutionRound P) × Has (rounds_of side (r ∷ later)) x × ((y : agent.Call P × Entry) × Has x.following y × AcceptsSuccess y.0 y.1))
       ⊎ IsReached mac answers (rounds_of side (r ∷ later)) (at side r.timeout.before) (at side last) pass path = elim enough [
         | inl suffices ↦
             (let so_many : Suffices by r.now (at side r.timeout.before) (at side c.0) (at side last) (length (rounds_of side later)) 0 0 =
             subst (λ i. Suffices by r.now (at side r.timeout.before) (at side c.0) (at side last) i 0 0) (sym many)
             (subst (λ (w : WorldRecord H P). Suffices by r.now (at side r.timeout.before) (at side w) (at side last) (length later) 0 0) second (search suffices)) in
             reach agent_first (at side r.timeout.before) (at side last) ((agent.SetControlling n.2, quiet Done) ∷ xs) (round_of side r) (rounds_of side later) p by
-            (n.0, n.1, refl) to role waits unanswered (let from = kept.from in omega (arith, from)) own_first.done own_first.early (is_open side r own_first) pass (are_open side by r later kept) so_many)
+            (n.0, n.1, refl) to role waits unanswered (let from = kept.from in omega (arith, from)) own_first.done own_first.early (is_open (begins_modern side r) side r own_first) pass (are_open side by r later kept) so_many)
         | inr served ↦
             serve agent_first (at side r.timeout.before) (at side last) ((agent.SetControlling n.2, quiet Done) ∷ xs) (round_of side r) (rounds_of side later) p by
-            (n.0, n.1, refl) to role waits unanswered (let from = kept.from in omega (arith, from)) own_first.done (is_open side r own_first) pass (are_open side by r later kept)
+            (n.0, n.1, refl) to role waits unanswered (let from = kept.from in omega (arith, from)) own_first.done (is_open (begins_modern side r) side r own_first) pass (are_open side by r later kept)
             (suffices_served side p r later (at side c.0) (at side last) k.0 (λ n i overtaken. k.2 n i overtaken) served)
       ] in
       elim found [
         | inl (x, has, (y, there, accepts)) ↦
             (let z = back side (r ∷ later) x has in let on = on_reverse y.0 y.1 accepts in
-            inl (z.0, z.1, (on.0, subst (λ (q : CourseRound P). IsAnsweredAlong q.following on.0) (sym z.2) (y, there, on.1))))
-        | inr (inl (x, id, has, out)) ↦ (let z = back side (r ∷ later) x has in inr (inl (z.0, z.1, (id, ap (λ (y : CourseRound P). y.timeout.emitted.issued) z.2 ∙ out))))
-        | inr (inr (inl (x, has, is))) ↦ (let z = back side (r ∷ later) x has in inr (inr (inl (z.0, z.1, subst (λ (y : CourseRound P). IsAnsweredAlong y.following path) (sym z.2) is))))
+            inl (z.0, z.1, (on.0, subst (λ (q : ExecutionRound P). IsAnsweredAlong q.following on.0) (sym z.2) (y, there, on.1))))
+        | inr (inl (x, id, has, out)) ↦ (let z = back side (r ∷ later) x has in inr (inl (z.0, z.1, (id, ap (λ (y : ExecutionRound P). y.timeout.emitted.issued) z.2 ∙ out))))
+        | inr (inr (inl (x, has, is))) ↦ (let z = back side (r ∷ later) x has in inr (inr (inl (z.0, z.1, subst (λ (y : ExecutionRound P). IsAnsweredAlong y.following path) (sym z.2) is))))
         | inr (inr (inr (inl here))) ↦ inr (inr (inr (r, inl refl, o.1 here)))
         | inr (inr (inr (inr others))) ↦ inr (inr (inr (let m = k.1 others in (m.0, inr m.1, m.2))))
       ]
 
   -- the rounds of a segment
-  reached_in : CoursesReachFromDue {H = H} {P = P} mac answers → ServedCoursesReach {H = H} {P = P} mac answers → (side : Side) (path : Path) (first start last : WorldRecord H P) (s : Streams) (before part : List (Occurrence H P))
+  reached_in : ExecutionsReachFromDue {H = H} {P = P} mac answers → ServedExecutionsReach {H = H} {P = P} mac answers → (side : Side) (path : Path) (first start last : WorldRecord H P) (s : Streams) (before part : List (Occurrence H P))
       → IsNewAgent (at side first) → Follow mac answers first before start → Follow mac answers start part last → (k : HasRounds side path part last) → Reaches side path (k.first ∷ k.later)
   reached_in reach serve side path first start last s before part n led on k =
       let rounds : List (SideRound H P) = k.first ∷ k.later in
@@ -306,8 +306,8 @@ module _ {H P : Type 0} (mac : H → List ℕ → List ℕ → List ℕ) (answer
       let rest : Follow mac answers begin (all_of rounds) last = subst (λ (w : WorldRecord H P). Follow mac answers w (all_of rounds) last) (sym c.2.0) c.2 in
       subst (λ via. Reaches side via rounds) k.on
       (reached reach serve side first last s (own mac answers side before ++ own mac answers side k.ahead) k.first k.later k.pair k.by n
-      (course_on mac answers (own mac answers side before) (own mac answers side k.ahead) (at side first) (at side start) (at side begin)
-      (own_course mac answers side before first start led) (own_course mac answers side k.ahead start begin to))
+      (execution_on mac answers (own mac answers side before) (own mac answers side k.ahead) (at side first) (at side start) (at side begin)
+      (own_execution mac answers side before first start led) (own_execution mac answers side k.ahead start begin to))
       rest k.line k.kept (λ x has. k.lasting x has) (search k.enough))
 
   -- what follows a `handle_timeout` call is in the rounds
@@ -371,7 +371,7 @@ module _ {H P : Type 0} (mac : H → List ℕ → List ℕ → List ℕ) (answer
 
   -- each side comes to its check in rounds, or sent one
   pub both_connect_by : PathTheorem {H = H} {P = P} mac answers → FreshIsSound H P → CarriedAsk {H = H} {P = P} mac answers → CarriedSucceedLater {H = H} {P = P} mac answers
-      → AcceptedNominationsAreSelected {H = H} {P = P} mac answers → CoursesReachFromDue {H = H} {P = P} mac answers → ServedCoursesReach {H = H} {P = P} mac answers → (first : WorldRecord H P) (s : Streams) (log : List (LoggedEvent P)) (last : WorldRecord H P) (t : Streams)
+      → AcceptedNominationsAreSelected {H = H} {P = P} mac answers → ExecutionsReachFromDue {H = H} {P = P} mac answers → ServedExecutionsReach {H = H} {P = P} mac answers → (first : WorldRecord H P) (s : Streams) (log : List (LoggedEvent P)) (last : WorldRecord H P) (t : Streams)
       → (run : WorldRun mac answers first s 0 log last t) (before part rest : List (Occurrence H P)) (timeout : Occurrence H P) (side : Side) (path its : Path)
       → IsControlledSegment first (occurrences_in mac answers first s 0 log last t run) before part rest timeout side path
       → (asking : AsksInRounds mac side path its part timeout.before ⊎ IsAskedOver mac side path part)
@@ -430,6 +430,6 @@ module _ {H P : Type 0} (mac : H → List ℕ → List ℕ → List ℕ) (answer
               inr (x, Has-front part (timeout ∷ []) x (within answers_in x (in_rounds (answers_in.rounds.first ∷ answers_in.rounds.later) r x has in_round)), ends)
 
   pub both_connect : PathTheorem {H = H} {P = P} mac answers → FreshIsSound H P → CarriedAsk {H = H} {P = P} mac answers → CarriedSucceedLater {H = H} {P = P} mac answers
-      → AcceptedNominationsAreSelected {H = H} {P = P} mac answers → CoursesReachFromDue {H = H} {P = P} mac answers → ServedCoursesReach {H = H} {P = P} mac answers → (first : WorldRecord H P) (s : Streams) (log : List (LoggedEvent P)) → BothConnect mac answers first s log
+      → AcceptedNominationsAreSelected {H = H} {P = P} mac answers → ExecutionsReachFromDue {H = H} {P = P} mac answers → ServedExecutionsReach {H = H} {P = P} mac answers → (first : WorldRecord H P) (s : Streams) (log : List (LoggedEvent P)) → BothConnect mac answers first s log
   both_connect paths new_sound asks succeeds announce reach serve first s log last t run before part rest timeout side path its segment asking answers_in =
       both_connect_by paths new_sound asks succeeds announce reach serve first s log last t run before part rest timeout side path its segment (inl asking) (inl answers_in)

@@ -1,5 +1,5 @@
 -- A side of two agents checks a path in time, if its caller is punctual. What mutants/specifications changes is read by tactics.
-use Rattle.std.proofs.Common.{◌≡◌, ℕ, ◌+◌, ◌*◌, ◌≤◌, Bool, true, false, List, [], ◌∷◌, ◌++◌, length, Option, Some, None, inl, inr, ◌⊎◌, refl, ap, sym, ◌∙◌, subst, arith, if◌then◌else◌, Ok}
+use Rattle.std.proofs.Common.{◌≡◌, ℕ, ◌+◌, ◌*◌, ◌≤◌, Bool, true, false, List, [], ◌∷◌, ◌++◌, length, Option, Some, None, inl, inr, ◌⊎◌, refl, ap, sym, ◌∙◌, subst, arith, if◌then◌else◌}
 use Rattle.std.specs.Prelude.{slice_get}
 use Rattle.is_proto.specs.Lists.{Has}
 use Rattle.is_proto.specs.Packets.{Packet}
@@ -10,26 +10,26 @@ use Rattle.is_rules.specs.Agent.{AgentRecord, fresh}
 use Rattle.is_rules.specs.Sending.{path_of}
 use Rattle.is_rules.specs.Steps as agent
 use Rattle.is_rules.specs.Steps.{Answer, Entry, Rejected, quiet}
-use Rattle.is_theorems.specs.AskedCourses.{IsAnsweredAlong}
-use Rattle.is_theorems.specs.Courses.{CourseRound}
-use Rattle.is_theorems.specs.Exchange.{Course}
+use Rattle.is_theorems.specs.AskedExecutions.{IsAnsweredAlong}
+use Rattle.is_theorems.specs.Executions.{ExecutionRound}
+use Rattle.is_theorems.specs.Exchange.{Execution}
 use Rattle.is_theorems.specs.InTime as law
-use Rattle.is_theorems.specs.InTime.{CoursesReachInTime}
+use Rattle.is_theorems.specs.InTime.{ExecutionsReachInTime}
 use Rattle.is_theorems.specs.Reached.{IsInLine, IsLasting, selects}
-use Rattle.is_theorems.specs.ReachedCourses.{PassRounds}
-use Rattle.is_theorems.specs.ServedSoon.{ServedCoursesReachInTime}
+use Rattle.is_theorems.specs.ReachedExecutions.{PassRounds}
+use Rattle.is_theorems.specs.ServedSoon.{ServedExecutionsReachInTime}
 use Rattle.is.specs.declared.world_events.Side.{Side}
 use Rattle.is.specs.declared.world_events.Side.TheVariants.{A, B}
 use Rattle.is.specs.AcceptedNominationsIn.{Occurrence}
 use Rattle.is.specs.Connections.{ServedRoundsReach, SideRoundsReach, Succeeds}
 use Rattle.is.specs.Punctual.{IsPrompt, IsPunctual, IsTimed, ChecksBy, ChecksComeInTime}
-use Rattle.is.specs.Selections.{SideRound, all_of, state_after, IsKept, AreKept, MayEndInRounds, OvertakeIn}
+use Rattle.is.specs.Selections.{SideRound, all_of, begins_modern, state_after, IsKept, AreKept, MayEndInRounds, OvertakeIn}
 use Rattle.is.specs.Sides.{only, polled_as, received_as, acts}
 use Rattle.is.specs.World as world
 use Rattle.is.specs.World.{WorldRecord, InFlightRecord, Event, LoggedEvent, at, other, in_world, Streams, source_of}
 use Rattle.is.specs.WorldRoles.{IsNewAgent}
-use Rattle.is.proofs.TwoAgentEvents.OwnExecutions.{only_own, course_on}
-use Rattle.is.proofs.TwoAgentEvents.EventsOfSegments.{Follow, follows, cut, state_is, acts_at, own, own_course, own_from, own_has, owned}
+use Rattle.is.proofs.TwoAgentEvents.OwnExecutions.{only_own, execution_on}
+use Rattle.is.proofs.TwoAgentEvents.EventsOfSegments.{Follow, follows, cut, state_is, acts_at, own, own_execution, own_from, own_has, owned}
 use Rattle.is.proofs.SelectedPaths.BothSelectInRounds.{round_of, rounds_of, as_many, moved, passes, each_round, is_open, are_all_open, are_open, back, lasts_all, overtakes_all, rounds_suffice, succeeds_in}
 
 module _ {H P : Type 0} (mac : H → List ℕ → List ℕ → List ℕ) (answers : P → CandidateRecord → ℕ → ℕ → Type 0) where
@@ -87,7 +87,7 @@ module _ {H P : Type 0} (mac : H → List ℕ → List ℕ → List ℕ) (answer
     begins = search k.begins;
     keeps = λ c has y by there is. (
         let z = back mac answers side (r ∷ later) c has in
-        let o = own_from mac answers side z.0.following y (subst (λ (x : CourseRound P). Has x.following y) (sym z.2) there) in
+        let o = own_from mac answers side z.0.following y (subst (λ (x : ExecutionRound P). Has x.following y) (sym z.2) there) in
         search (k.keeps z.0 z.1 o.0 o.1 by (sets side o.0.before o.0.entry.event o.0.entry.outcome.entry y by o.2 is)));
     punctual = punctual side delay r later k.punctual;
   }
@@ -99,14 +99,14 @@ module _ {H P : Type 0} (mac : H → List ℕ → List ℕ → List ℕ) (answer
       ChecksBy path limit rounds
       ⊎ (((r : SideRound H P) × Has rounds r × ((x : Occurrence H P) × Has r.following x × Succeeds side path x)) ⊎ MayEndInRounds answers side path rounds)
 
-  reached : CoursesReachInTime {H = H} {P = P} mac answers → ServedCoursesReachInTime {H = H} {P = P} mac answers → (side : Side) (first last : WorldRecord H P) (s : Streams) (xs : List (agent.Call P × Entry)) (r : SideRound H P) (later : List (SideRound H P))
-      (p : PairRecord) (by pace delay : ℕ) → IsNewAgent (at side first) → Course mac answers xs (at side first) (at side r.timeout.before)
+  reached : ExecutionsReachInTime {H = H} {P = P} mac answers → ServedExecutionsReachInTime {H = H} {P = P} mac answers → (side : Side) (first last : WorldRecord H P) (s : Streams) (xs : List (agent.Call P × Entry)) (r : SideRound H P) (later : List (SideRound H P))
+      (p : PairRecord) (by pace delay : ℕ) → IsNewAgent (at side first) → Execution mac answers xs (at side first) (at side r.timeout.before)
       → Follow mac answers r.timeout.before (all_of (r ∷ later)) last → IsInLine r.now by (at side r.timeout.before) p → AreKept side by r later
       → ((x : SideRound H P) → Has later x → IsLasting x.now (at side r.timeout.before) p) → SideRoundsReach side by r later last ⊎ ServedRoundsReach side by p r later → IsTimed side pace delay r later
       → Comes side (path_of (at side r.timeout.before) p) (r.now + length later * (pace + delay)) (r ∷ later)
   reached reach serve side first last s xs r later p by pace delay n led (same, u, v, happens, more) line kept lasting enough in_time =
       let path : Path = path_of (at side r.timeout.before) p in
-      let own_first : IsKept side r = kept.kept r (inl refl) in
+      let own_first : IsKept (begins_modern side r) side r = kept.kept r (inl refl) in
       let c = cut mac answers r.following (all_of later) r.timeout.following last more in
       let o = owned mac answers side path r.following r.following r.timeout.following c.0 c.1 (λ x has. has) in
       let k = passes mac answers side path later c.0 last c.2 (λ x has. (kept.kept x (inr has)).comes) in
@@ -114,14 +114,14 @@ module _ {H P : Type 0} (mac : H → List ℕ → List ℕ → List ℕ) (answer
       let many = as_many mac answers side later in
       let second : state_after r.timeout.following r.following ≡ c.0 = state_is mac answers r.following r.timeout.following c.0 c.1 in
       let agent_first : AgentRecord H P = fresh (at side first).provider n.0 n.1 in
-      let to : Course mac answers ((agent.SetControlling n.2, quiet agent.Done) ∷ xs) agent_first (at side r.timeout.before) = (at side first, source_of side s, source_of side s, tt, (Ok _, refl, (refl, n.3), refl), led) in
+      let to : Execution mac answers ((agent.SetControlling n.2, quiet agent.Done) ∷ xs) agent_first (at side r.timeout.before) = (at side first, source_of side s, source_of side s, tt, (refl, n.3, refl), led) in
       let pass : PassRounds mac answers (rounds_of mac answers side (r ∷ later)) (at side r.timeout.before) (at side last) = (at side r.timeout.following, at side c.0, source_of side u, moves.0, moves.1, o.0, k.0) in
       let found : law.IsReachedBy mac answers (r.now + length later * (pace + delay)) (rounds_of mac answers side (r ∷ later)) (at side r.timeout.before) (at side last) pass path = elim enough [
         | inl suffices ↦
             (let so_many = rounds_suffice mac answers side by r later c.0 last (same, u, v, happens, more) c.2 (λ x has. (kept.kept x has).comes) second suffices in
             reach agent_first (at side r.timeout.before) (at side last) ((agent.SetControlling n.2, quiet agent.Done) ∷ xs) (round_of mac answers side r)
             (rounds_of mac answers side later) p by pace delay (length later) (n.0, n.1, refl) to line
-            (let from = kept.from in omega (arith, from)) own_first.done own_first.early (is_open mac answers side r own_first) pass (are_open mac answers side by r later kept)
+            (let from = kept.from in omega (arith, from)) own_first.done own_first.early (is_open mac answers (begins_modern side r) side r own_first) pass (are_open mac answers side by r later kept)
             (each_round mac answers (λ c. IsLasting c.now (at side r.timeout.before) p) side later (λ x has. lasting x has)) so_many (omega (arith, many))
             (timed side pace delay r later in_time))
         | inr served ↦ elim (serve agent_first (at side r.timeout.before) (at side last) ((agent.SetControlling n.2, quiet agent.Done) ∷ xs) (round_of mac answers side r)
@@ -136,15 +136,15 @@ module _ {H P : Type 0} (mac : H → List ℕ → List ℕ → List ℕ) (answer
       ] in
       elim found [
         | inl (x, has, (id, sent), soon) ↦ (let z = back mac answers side (r ∷ later) x has in
-            inl (z.0, z.1, (id, ap (λ (y : CourseRound P). y.timeout.emitted.issued) z.2 ∙ sent), search (subst (λ (y : CourseRound P). y.now ≤ r.now + length later * (pace + delay)) (sym z.2) soon)))
+            inl (z.0, z.1, (id, ap (λ (y : ExecutionRound P). y.timeout.emitted.issued) z.2 ∙ sent), search (subst (λ (y : ExecutionRound P). y.now ≤ r.now + length later * (pace + delay)) (sym z.2) soon)))
         | inr (inl (x, has, is)) ↦ (let z = back mac answers side (r ∷ later) x has in
-            let y = succeeds_in mac answers side path z.0.following (subst (λ (u : CourseRound P). IsAnsweredAlong u.following path) (sym z.2) is) in
+            let y = succeeds_in mac answers side path z.0.following (subst (λ (u : ExecutionRound P). IsAnsweredAlong u.following path) (sym z.2) is) in
             inr (inl (z.0, z.1, y)))
         | inr (inr (inl here)) ↦ inr (inr (r, inl refl, o.1 here))
         | inr (inr (inr others)) ↦ inr (inr (let m = k.1 others in (m.0, inr m.1, m.2)))
       ]
 
-  pub checks_in_time : CoursesReachInTime {H = H} {P = P} mac answers → ServedCoursesReachInTime {H = H} {P = P} mac answers → (first : WorldRecord H P) (s : Streams) (log : List (LoggedEvent P)) → ChecksComeInTime mac answers first s log
+  pub checks_in_time : ExecutionsReachInTime {H = H} {P = P} mac answers → ServedExecutionsReachInTime {H = H} {P = P} mac answers → (first : WorldRecord H P) (s : Streams) (log : List (LoggedEvent P)) → ChecksComeInTime mac answers first s log
   checks_in_time reach serve first s log last t run before part rest side path pace delay new split k in_time =
       let rounds : List (SideRound H P) = k.first ∷ k.later in
       let all = subst (λ xs. Follow mac answers first xs last) split (follows mac answers first last s t 0 log run) in
@@ -157,8 +157,8 @@ module _ {H P : Type 0} (mac : H → List ℕ → List ℕ → List ℕ) (answer
       let rest_of : Follow mac answers begin (all_of rounds) on.0 = subst (λ (w : WorldRecord H P). Follow mac answers w (all_of rounds) on.0) (sym c.2.0) c.2 in
       subst (λ via. Comes side via (k.first.now + length k.later * (pace + delay)) rounds) k.on
       (reached reach serve side first on.0 s (own mac answers side before ++ own mac answers side k.ahead) k.first k.later k.pair k.by pace delay (new side)
-      (course_on mac answers (own mac answers side before) (own mac answers side k.ahead) (at side first) (at side led.0) (at side begin)
-      (own_course mac answers side before first led.0 led.1) (own_course mac answers side k.ahead led.0 begin to))
+      (execution_on mac answers (own mac answers side before) (own mac answers side k.ahead) (at side first) (at side led.0) (at side begin)
+      (own_execution mac answers side before first led.0 led.1) (own_execution mac answers side k.ahead led.0 begin to))
       rest_of k.line k.kept (λ x has. k.lasting x has) (subst (λ (w : WorldRecord H P). SideRoundsReach side k.by k.first k.later w ⊎ ServedRoundsReach side k.by k.pair k.first k.later) ends (search k.enough)) in_time)
     where
       after_both : (xs ys : List (Occurrence H P)) (w mid end : WorldRecord H P) → Follow mac answers w xs mid → Follow mac answers mid ys end → state_after w (xs ++ ys) ≡ end

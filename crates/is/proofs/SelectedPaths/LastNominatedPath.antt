@@ -11,20 +11,20 @@ use Rattle.is_rules.specs.declared.emitted.Issued.{Issued}
 use Rattle.is_rules.specs.declared.emitted.Path.{Path}
 use Rattle.is_rules.specs.Agent.{AgentRecord}
 use Rattle.is_theorems.specs.Asked.{IsOnlyPair}
-use Rattle.is_theorems.specs.AskedCourses.{selected_along, EndsAlong, IsAnsweredAlong}
+use Rattle.is_theorems.specs.AskedExecutions.{selected_along, EndsAlong, IsAnsweredAlong}
 use Rattle.is_theorems.specs.Asking.{AreNominatedOn, AcceptsNomination}
 use Rattle.is_rules.specs.Brought.{IsNominatedOn, IsServing}
 use Rattle.is_theorems.specs.Carried.{CarriedAsk, CarriedSucceedLater}
 use Rattle.is_rules.specs.Effects.{PathEffect, PathTheorem}
 use Rattle.is_rules.specs.Emitted.{issued_as, reversed}
-use Rattle.is_theorems.specs.Exchange.{Course}
+use Rattle.is_theorems.specs.Exchange.{Execution}
 use Rattle.is_rules.specs.Queue.{request_at}
 use Rattle.is_rules.specs.Request.{RequestRecord}
 use Rattle.is_rules.specs.Sound.{FreshIsSound}
 use Rattle.is_rules.specs.Steps as agent
 use Rattle.is_rules.specs.Steps.{Answer, Done, Entry, Rejected}
 use Rattle.is_theorems.specs.Numbered.{GreatestAreLast, LeadsByNumber}
-use Rattle.is_theorems.specs.RenominatingCourses.{AcceptsNominationLastAlong, AcceptsNominationOnlyAlong, LastAcceptedNominationsAreLast, NominatedAreLast}
+use Rattle.is_theorems.specs.RenominatingExecutions.{AcceptsNominationLastAlong, AcceptsNominationOnlyAlong, LastAcceptedNominationsAreLast, NominatedAreLast}
 use Rattle.is.specs.declared.world_events.Side.{Side}
 use Rattle.is.specs.declared.world_events.Side.TheVariants.{A, B}
 use Rattle.is.specs.AcceptedNominationsIn.{Occurrence, HandedCheck, IsControlled, IsExchangedOver}
@@ -36,7 +36,7 @@ use Rattle.is.specs.WorldRoles.{IsNewAgent}
 use Rattle.is.proofs.ExternalViews.ViewsOfExecutions.{Has-front, AreSound}
 use Rattle.is.proofs.RolesAndChains.RolesAndChainsOfViews.{sound_new}
 use Rattle.is.proofs.TwoAgentEvents.OwnExecutions.{only_own, sound_on, turn_step, twice}
-use Rattle.is.proofs.TwoAgentEvents.EventsOfSegments.{middle, Follow, follows, cut, meet, sound_along, acts_at, own, own_course, handed_is, checked, sent_in, following_in, Found, Owned, act_owned}
+use Rattle.is.proofs.TwoAgentEvents.EventsOfSegments.{middle, Follow, follows, cut, meet, sound_along, acts_at, own, own_execution, handed_is, checked, sent_in, following_in, Found, Owned, act_owned}
 use Rattle.is.proofs.SelectedPaths.SelectedAfterNomination.{answered, apart_at, accepts_nomination, role_next}
 use Rattle.is.proofs.TwoAgentEvents.OwnLogs.{AtMostOne, acts_once}
 use Rattle.is.proofs.SelectedPaths.LastSelected.{called_not, nominated_selected, selected_call, selected_parts}
@@ -49,9 +49,9 @@ sender_is A side is = ap other is
 sender_is B side is = ap other is
 
 module _ {H P : Type 0} (mac : H → List ℕ → List ℕ → List ℕ) (answers : P → CandidateRecord → ℕ → ℕ → Type 0) where
-  course_join : (xs ys : List (agent.Call P × Entry)) (a b c : AgentRecord H P) → Course mac answers xs a b → Course mac answers ys b c → Course mac answers (xs ++ ys) a c
-  course_join [] ys a b c is on = subst (λ (z : AgentRecord H P). Course mac answers ys z c) is on
-  course_join (x ∷ xs) ys a b c (mid, s, t, given, step, more) on = (mid, s, t, given, step, course_join xs ys mid b c more on)
+  execution_join : (xs ys : List (agent.Call P × Entry)) (a b c : AgentRecord H P) → Execution mac answers xs a b → Execution mac answers ys b c → Execution mac answers (xs ++ ys) a c
+  execution_join [] ys a b c is on = subst (λ (z : AgentRecord H P). Execution mac answers ys z c) is on
+  execution_join (x ∷ xs) ys a b c (mid, s, t, given, step, more) on = (mid, s, t, given, step, execution_join xs ys mid b c more on)
 
   -- ---- the controlled side is nominated no other path
 
@@ -126,10 +126,10 @@ module _ {H P : Type 0} (mac : H → List ℕ → List ℕ → List ℕ) (answer
 
     module _ (whole : List (Occurrence H P)) where
       abbrev Kept : List (agent.Call P × Entry) → AgentRecord H P → AgentRecord H P → Type 0
-      Kept xs a b = (course : Course mac answers xs a b) × (EndsAlong mac answers xs a b course path → Found mac answers side path whole) × AcceptsNominationOnlyAlong mac answers xs a b course path
+      Kept xs a b = (execution : Execution mac answers xs a b) × (EndsAlong mac answers xs a b execution path → Found mac answers side path whole) × AcceptsNominationOnlyAlong mac answers xs a b execution path
 
       abbrev AcceptedNominations : List (agent.Call P × Entry) → AgentRecord H P → AgentRecord H P → Type 0
-      AcceptedNominations xs a b = (course : Course mac answers xs a b) × (EndsAlong mac answers xs a b course path → Found mac answers side path whole) × AcceptsNominationLastAlong mac answers xs a b course path
+      AcceptedNominations xs a b = (execution : Execution mac answers xs a b) × (EndsAlong mac answers xs a b execution path → Found mac answers side path whole) × AcceptsNominationLastAlong mac answers xs a b execution path
 
       kept_on : (xs ys : List (agent.Call P × Entry)) (a b c : AgentRecord H P) → AtMostOne xs → Owned mac answers side path whole xs a b → OnlyAt a xs → Kept ys b c → Kept (xs ++ ys) a c
       kept_on [] ys a b c one (is, ends) only_here more = subst (λ (z : AgentRecord H P). Kept ys z c) is more
@@ -233,8 +233,8 @@ module _ {H P : Type 0} (mac : H → List ℕ → List ℕ → List ℕ) (answer
             let call : agent.Call P × Entry = (agent.HandleTimeout now, timeout.entry.outcome.entry) in
             let turn : TakesTurn mac answers timeout.before u side (agent.HandleTimeout now) timeout.entry.outcome timeout.following v =
             subst (λ (w : Event P). Happens mac answers timeout.before u w timeout.entry.outcome timeout.following v) comes happens in
-            let whole : Course mac answers (earlier ++ here) (at side first) (at side timeout.before) =
-            course_join earlier here (at side first) (at side start) (at side timeout.before) (own_course mac answers side before first start led) (own_course mac answers side part start timeout.before on) in
+            let whole : Execution mac answers (earlier ++ here) (at side first) (at side timeout.before) =
+            execution_join earlier here (at side first) (at side start) (at side timeout.before) (own_execution mac answers side before first start led) (own_execution mac answers side part start timeout.before on) in
             selected_call mac answers side before part timeout now comes
             ∙ (ap (λ xs. selected_along None xs) (sym (append_assoc earlier here (call ∷ [])))
             ∙ leads_last (at side first) (at side timeout.before) (at side timeout.following) (earlier ++ here) (source_of side u) turn.left now timeout.entry.outcome.entry number (reversed over) (new side)
@@ -272,7 +272,7 @@ module _ {H P : Type 0} (mac : H → List ℕ → List ℕ → List ℕ) (answer
             elim (replies start sound on) [
               | inr found ↦ inr found
               | inl replied ↦ elim (follows_last (at side first) (at side start) (at side timeout.before) (at side timeout.following) earlier here (source_of side u) turn.left now timeout.entry.outcome.entry path (new side)
-                  (own_course mac answers side before first start led) g.0 (turn_step mac answers timeout.before timeout.following u v side (agent.HandleTimeout now) timeout.entry.outcome turn) done idle
+                  (own_execution mac answers side before first start led) g.0 (turn_step mac answers timeout.before timeout.following u v side (agent.HandleTimeout now) timeout.entry.outcome turn) done idle
                   (set timeout (middle part [] timeout) side) plain role g.2 replied only_pair) [
                     | inr ends ↦ inr (elim ends [
                       | inl e ↦ g.1 e

@@ -7,7 +7,7 @@ use Rattle.is_proto.specs.Lists.{Has}
 use Rattle.is_proto.specs.Packets.{Packet}
 use Rattle.is_candidate.specs.Candidates.{CandidateRecord}
 use Rattle.is_rules.specs.declared.emitted.Path.{Path}
-use Rattle.is_theorems.specs.AskedCourses.{selected_along}
+use Rattle.is_theorems.specs.AskedExecutions.{selected_along}
 use Rattle.is_theorems.specs.Asking.{AreNominatedOn}
 use Rattle.is_rules.specs.Effects.{PathTheorem, clears, last_of}
 use Rattle.is_rules.specs.Issuing.{via_out}
@@ -15,7 +15,7 @@ use Rattle.is_theorems.specs.Logs as agent_log
 use Rattle.is_theorems.specs.Logs.{last_selected}
 use Rattle.is_rules.specs.Steps as agent
 use Rattle.is_rules.specs.Steps.{Answer, Entry, Rejected}
-use Rattle.is_theorems.specs.RenominatingCourses.{NominatedAreLast}
+use Rattle.is_theorems.specs.RenominatingExecutions.{NominatedAreLast}
 use Rattle.is.specs.declared.world_events.Side.{Side}
 use Rattle.is.specs.declared.world_events.Side.TheVariants.{A, B}
 use Rattle.is.specs.AcceptedNominationsIn.{Occurrence, HandedCheck}
@@ -25,8 +25,8 @@ use Rattle.is.specs.World as world
 use Rattle.is.specs.World.{WorldRecord, InFlightRecord, Event, Outcome, TakesTurn, Persists, Happens, at, other, in_world, Streams}
 use Rattle.is.specs.WorldRoles.{IsNewAgent}
 use Rattle.is.proofs.ExternalViews.ViewsOfExecutions.{AreSound}
-use Rattle.is.proofs.TwoAgentEvents.OwnExecutions.{course_on, only_none}
-use Rattle.is.proofs.TwoAgentEvents.EventsOfSegments.{Follow, meet, acts_at, own, own_course, checked}
+use Rattle.is.proofs.TwoAgentEvents.OwnExecutions.{execution_on, only_none}
+use Rattle.is.proofs.TwoAgentEvents.EventsOfSegments.{Follow, meet, acts_at, own, own_execution, checked}
 use Rattle.is.proofs.TwoAgentEvents.OwnLogs.{AtMostOne, acts_once}
 
 -- ---- the path that was selected last
@@ -173,8 +173,8 @@ module _ {H P : Type 0} (mac : H → List ℕ → List ℕ → List ℕ) (answer
         let named : AreNominatedOn (at from k.sent.following) (via_out k.check) = subst (λ w. AreNominatedOn (at from k.sent.following) w) (sym k.on) nominated in
         let is : selected_along None ((earlier ++ up_to) ++ call ∷ []) ≡ Some (via_out k.check) =
         nominates (at from first) (at from k.sent.before) (at from k.sent.following) (earlier ++ up_to) c.s c.t k.now k.sent.entry.outcome.entry k.check k.id new
-        (course_on mac answers earlier up_to (at from first) (at from start) (at from k.sent.before) (own_course mac answers from before first start led)
-        (own_course mac answers from k.before start k.sent.before m.led)) c.step k.sends set named in
+        (execution_on mac answers earlier up_to (at from first) (at from start) (at from k.sent.before) (own_execution mac answers from before first start led)
+        (own_execution mac answers from k.before start k.sent.before m.led)) c.step k.sends set named in
         let reached : selected_along (selected_along (selected_along None earlier) up_to) (call ∷ []) ≡ Some its =
         ap (λ o. selected_along o (call ∷ [])) (sym (selected_both None earlier up_to)) ∙ (sym (selected_both None (earlier ++ up_to) (call ∷ [])) ∙ (is ∙ ap Some k.on)) in
         ap (λ xs. selected_along (selected_along None earlier) (own mac answers from xs)) k.split

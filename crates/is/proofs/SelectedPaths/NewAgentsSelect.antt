@@ -5,16 +5,16 @@ use Rattle.is_candidate.specs.Candidates.{CandidateRecord}
 use Rattle.is_stun.specs.declared.header.Class.TheVariants.{Success}
 use Rattle.is_rules.specs.declared.emitted.Path.{Path}
 use Rattle.is_theorems.specs.Asking.{AreNominatedOn}
-use Rattle.is_theorems.specs.AskedCourses.{AcceptedNominationsAreSelected, SuccessesSelect}
+use Rattle.is_theorems.specs.AskedExecutions.{AcceptedNominationsAreSelected, SuccessesSelect}
 use Rattle.is_theorems.specs.Carried.{CarriedAsk, CarriedSucceedLater, CarriedSettle}
 use Rattle.is_rules.specs.Effects.{PathTheorem}
 use Rattle.is_rules.specs.Emitted.{reversed}
 use Rattle.is_theorems.specs.RoleView.{RoleTheorem}
-use Rattle.is_theorems.specs.ServedSoon.{CoursesReachServed, ServedCoursesReach}
+use Rattle.is_theorems.specs.ServedSoon.{ExecutionsReachServed, ServedExecutionsReach}
 use Rattle.is_rules.specs.Sending.{path_of}
 use Rattle.is_rules.specs.Sound.{FreshIsSound}
-use Rattle.is_theorems.specs.FirstChecks.{CoursesCheckFromDue}
-use Rattle.is_theorems.specs.FirstTimeouts.{CoursesReachFromDue, CoursesReachUnanswered}
+use Rattle.is_theorems.specs.FirstChecks.{ExecutionsCheckFromDue}
+use Rattle.is_theorems.specs.FirstTimeouts.{ExecutionsReachFromDue, ExecutionsReachUnanswered}
 use Rattle.is.specs.declared.world_events.Side.{Side}
 use Rattle.is.specs.Connections.{Asks, AsksInRounds, IsAnsweredInRounds, RoundIsAnswered}
 use Rattle.is.specs.Connects.{ByDelivery, ByRounds, ChecksAreDelivered, ComesToCheck, IsDelivered, rounds_needed, StartsToSelect, InRounds, Already, SelectsByOpening, BothSelect}
@@ -54,8 +54,8 @@ module _ {H P : Type 0} (mac : H → List ℕ → List ℕ → List ℕ) (answer
   -- ---- both
 
   pub both_select : PathTheorem {H = H} {P = P} mac answers → RoleTheorem {H = H} {P = P} mac answers → FreshIsSound H P → CarriedSettle {H = H} {P = P} mac answers
-      → CarriedAsk {H = H} {P = P} mac answers → CarriedSucceedLater {H = H} {P = P} mac answers → AcceptedNominationsAreSelected {H = H} {P = P} mac answers → CoursesCheckFromDue {H = H} {P = P} mac answers
-      → CoursesReachFromDue {H = H} {P = P} mac answers → ServedCoursesReach {H = H} {P = P} mac answers → CoursesReachUnanswered {H = H} {P = P} mac answers → CoursesReachServed {H = H} {P = P} mac answers → SuccessesSelect {H = H} {P = P} mac answers → (first : WorldRecord H P) (s : Streams) (log : List (LoggedEvent P)) → BothSelect mac answers first s log
+      → CarriedAsk {H = H} {P = P} mac answers → CarriedSucceedLater {H = H} {P = P} mac answers → AcceptedNominationsAreSelected {H = H} {P = P} mac answers → ExecutionsCheckFromDue {H = H} {P = P} mac answers
+      → ExecutionsReachFromDue {H = H} {P = P} mac answers → ServedExecutionsReach {H = H} {P = P} mac answers → ExecutionsReachUnanswered {H = H} {P = P} mac answers → ExecutionsReachServed {H = H} {P = P} mac answers → SuccessesSelect {H = H} {P = P} mac answers → (first : WorldRecord H P) (s : Streams) (log : List (LoggedEvent P)) → BothSelect mac answers first s log
   both_select paths roles new_sound resolves asks succeeds announce checks reach served unanswered serves selects first s log last t run meeting opening part rest timeout side path its is = (opened is.starts, connected) where
     following : List (Occurrence H P)
     following = opening ++ ((part ++ timeout ∷ []) ++ rest)

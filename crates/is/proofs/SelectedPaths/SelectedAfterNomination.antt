@@ -1,7 +1,7 @@
 -- A path of the controlled one of two agents that was nominated by the peer and answered is selected by its next
 -- `handle_timeout` call. The preconditions that mutants/specifications changes are read by tactics where they are used: if one
 -- of them is weaker, that goal stays unproved.
-use Rattle.std.proofs.Common.{◌≡◌, ℕ, true, false, not, List, [], ◌∷◌, ◌++◌, Option, Some, None, is_some, inl, inr, ◌⊎◌, refl, ap, sym, ◌∙◌, subst, append_assoc, Ok}
+use Rattle.std.proofs.Common.{◌≡◌, ℕ, true, false, not, List, [], ◌∷◌, ◌++◌, Option, Some, None, is_some, inl, inr, ◌⊎◌, refl, ap, sym, ◌∙◌, subst, append_assoc}
 use Rattle.is_proto.specs.Lists.{Has}
 use Rattle.is_proto.specs.Packets.{Packet}
 use Rattle.is_candidate.specs.Candidates.{CandidateRecord}
@@ -9,12 +9,12 @@ use Rattle.is_stun.specs.declared.header.Class.TheVariants.{Success}
 use Rattle.is_rules.specs.declared.emitted.Path.{Path}
 use Rattle.is_rules.specs.Agent.{AgentRecord, fresh}
 use Rattle.is_theorems.specs.Asked.{IsOnlyPair}
-use Rattle.is_theorems.specs.AskedCourses.{IsAnsweredAlong, SelectsAlong, EndsAlong, AcceptsNominationAlong, AcceptedNominationsAreSelected}
+use Rattle.is_theorems.specs.AskedExecutions.{IsAnsweredAlong, SelectsAlong, EndsAlong, AcceptsNominationAlong, AcceptedNominationsAreSelected}
 use Rattle.is_theorems.specs.Asking.{AreNominatedOn, AcceptsNomination}
 use Rattle.is_theorems.specs.Carried.{CarriedAsk, CarriedSucceedLater}
 use Rattle.is_theorems.specs.Delivery.{IsTaken}
 use Rattle.is_rules.specs.Effects.{PathTheorem, last_of}
-use Rattle.is_theorems.specs.Exchange.{Course}
+use Rattle.is_theorems.specs.Exchange.{Execution}
 use Rattle.is_rules.specs.Issuing.{via_out}
 use Rattle.is_theorems.specs.Pending.{IsValidBy}
 use Rattle.is_rules.specs.Points.{HasSelected}
@@ -35,7 +35,7 @@ use Rattle.is.proofs.ExternalViews.ViewsOfExecutions.{Has-front, Has-rear, AreSo
 use Rattle.is.proofs.RolesAndChains.RolesAndChainsOfViews.{sound_new}
 use Rattle.is.proofs.TwoAgentEvents.OwnExecutions.{either_has, turn_step, acts_emitted}
 use Rattle.is.proofs.TwoAgentEvents.DeliveredPackets.{rewritten, handed_has}
-use Rattle.is.proofs.TwoAgentEvents.EventsOfSegments.{middle, Follow, follows, cut, meet, sound_along, acts_at, own, own_course, own_has, handed_is, Checked, checked, sent_in, following_in, Found, Owned, act_owned, owned, awaited, Awaited, awaits, removed, awaited_in}
+use Rattle.is.proofs.TwoAgentEvents.EventsOfSegments.{middle, Follow, follows, cut, meet, sound_along, acts_at, own, own_execution, own_has, handed_is, Checked, checked, sent_in, following_in, Found, Owned, act_owned, owned, awaited, Awaited, awaits, removed, awaited_in}
 use Rattle.is.proofs.TwoAgentEvents.ExchangedChecks.{sent-check, carried-check, carried-back}
 use Rattle.is.proofs.SelectedPaths.LastSelected.{selected_call}
 
@@ -67,7 +67,7 @@ module _ {H P : Type 0} (mac : H → List ℕ → List ℕ → List ℕ) (answer
 
   module _ (side : Side) (path : Path) (whole : List (Occurrence H P)) where
     abbrev AcceptedNominations : List (agent.Call P × Entry) → AgentRecord H P → AgentRecord H P → Type 0
-    AcceptedNominations xs a b = (course : Course mac answers xs a b) × (EndsAlong mac answers xs a b course path → Found mac answers side path whole) × AcceptsNominationAlong mac answers xs a b course path
+    AcceptedNominations xs a b = (execution : Execution mac answers xs a b) × (EndsAlong mac answers xs a b execution path → Found mac answers side path whole) × AcceptsNominationAlong mac answers xs a b execution path
 
     accepted_on : (xs ys : List (agent.Call P × Entry)) (a b c : AgentRecord H P) → Owned mac answers side path whole xs a b → AcceptedNominations ys b c → AcceptedNominations (xs ++ ys) a c
     accepted_on [] ys a b c (is, ends) more = subst (λ (z : AgentRecord H P). AcceptedNominations ys z c) is more
@@ -131,7 +131,7 @@ module _ {H P : Type 0} (mac : H → List ℕ → List ℕ → List ℕ) (answer
       returned : (side : Side) (path over : Path) → (k : HandedCheck mac side path over part) → (reply : Packet) → (r : IsReturned mac side path over part k reply)
           → (z : Awaited mac answers side path whole over part last k reply r)
           → (IsTaken mac answers (rewritten r.via reply) r.comes.hands.now r.comes.handed.entry.outcome.entry Success × IsValidBy mac answers (at side r.comes.handed.following) r.via)
-          ⊎ EndsAlong mac answers (own mac answers side (awaited mac answers side path whole over part k reply r)) (at side k.sent.following) (at side r.comes.handed.before) z.course.0 (via_out k.check)
+          ⊎ EndsAlong mac answers (own mac answers side (awaited mac answers side path whole over part k reply r)) (at side k.sent.following) (at side r.comes.handed.before) z.execution.0 (via_out k.check)
           → IsAnsweredAlong (own mac answers side part) path ⊎ Found mac answers side path whole
       returned side path over k reply r z (inl (taken, valid)) =
           let again = r.comes.handed in
@@ -198,7 +198,7 @@ module _ {H P : Type 0} (mac : H → List ℕ → List ℕ → List ℕ) (answer
       elim h.1 [
         | inl replied ↦ elim (announce (fresh (at side first).provider n.0 n.1) (at side start) (at side timeout.before) (at side timeout.following) ((agent.SetControlling n.2, quiet Done) ∷ own mac answers side before)
             (own mac answers side part) (source_of side m.s) turn.left now timeout.entry.outcome.entry path (n.0, n.1, refl)
-            (at side first, source_of side s, source_of side s, tt, (Ok _, refl, (refl, n.3), refl), own_course mac answers side before first start led.1)
+            (at side first, source_of side s, source_of side s, tt, (refl, n.3, refl), own_execution mac answers side before first start led.1)
             g.0 (turn_step mac answers timeout.before timeout.following m.s m.t side (agent.HandleTimeout now) timeout.entry.outcome turn) done none g.2 replied only_pair) [
               | inl emitted ↦ inl (record {
                 selects = emitted_back side before part timeout first start timeout.before (agent.SetControlling n.2) (agent.HandleTimeout now) led.1 m.led turn.side_is emitted.0;

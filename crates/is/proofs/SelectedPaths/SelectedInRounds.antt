@@ -1,7 +1,7 @@
 -- In rounds that suffice for one of its pairs, a controlling side sends a check on the pair's path, or selects a path, unless a
 -- candidate that it adds may remove the pair. If a check is answered while it is pending, it selects one. The preconditions that mutants/specifications changes are read by tactics where they are used:
 -- if one of them is weaker, that goal stays unproved.
-use Rattle.std.proofs.Common.{◌≡◌, ℕ, ◌⊎◌, Bool, true, false, not, List, [], ◌∷◌, ◌++◌, is_some, inl, inr, refl, ap, sym, ◌∙◌, subst, arith, append_assoc, Ok}
+use Rattle.std.proofs.Common.{◌≡◌, ℕ, ◌⊎◌, Bool, true, false, not, List, [], ◌∷◌, ◌++◌, is_some, inl, inr, refl, ap, sym, ◌∙◌, subst, arith, append_assoc}
 use Rattle.is_proto.specs.Lists.{Has}
 use Rattle.is_proto.specs.Packets.{Packet}
 use Rattle.is_candidate.specs.Candidates.{CandidateRecord}
@@ -9,26 +9,26 @@ use Rattle.is_pair.specs.Pairs.{PairRecord, is_valid}
 use Rattle.is_stun.specs.declared.header.Class.TheVariants.{Success}
 use Rattle.is_rules.specs.declared.emitted.Path.{Path}
 use Rattle.is_rules.specs.Agent.{fresh}
-use Rattle.is_theorems.specs.AskedCourses.{EndsAlong, IsAnsweredAlong, SuccessesSelect}
-use Rattle.is_theorems.specs.FirstTimeouts.{CoursesReachUnanswered}
+use Rattle.is_theorems.specs.AskedExecutions.{EndsAlong, IsAnsweredAlong, SuccessesSelect}
+use Rattle.is_theorems.specs.FirstTimeouts.{ExecutionsReachUnanswered}
 use Rattle.is_theorems.specs.Carried.{CarriedSucceedLater}
-use Rattle.is_theorems.specs.Courses.{CourseRound, SelectsAmong, CourseRounds}
+use Rattle.is_theorems.specs.Executions.{ExecutionRound, SelectsAmong, ExecutionRounds}
 use Rattle.is_theorems.specs.Delivery.{IsTaken}
 use Rattle.is_rules.specs.Effects.{PathTheorem, last_of}
 use Rattle.is_rules.specs.Issuing.{via_out}
 use Rattle.is_theorems.specs.Pending.{IsValidBy}
 use Rattle.is_theorems.specs.Progress.{Awaits, IsUnanswered}
-use Rattle.is_theorems.specs.ServedSoon.{CoursesReachServed}
+use Rattle.is_theorems.specs.ServedSoon.{ExecutionsReachServed}
 use Rattle.is_rules.specs.Sending.{path_of}
 use Rattle.is_rules.specs.Sound.{FreshIsSound}
 use Rattle.is_rules.specs.Steps as agent
 use Rattle.is_rules.specs.Steps.{Entry, Done, quiet}
-use Rattle.is_theorems.specs.FirstChecks.{SufficeForDue, CoursesCheckFromDue, times_of}
+use Rattle.is_theorems.specs.FirstChecks.{SufficeForDue, ExecutionsCheckFromDue, times_of}
 use Rattle.is.specs.declared.world_events.Side.{Side}
 use Rattle.is.specs.Connections.{Succeeds}
 use Rattle.is.specs.Deliveries.{Hands, SelectsPath}
 use Rattle.is.specs.AcceptedNominationsIn.{Occurrence, HandedCheck, IsReturned, IsReturnedInTime, MayEndAt}
-use Rattle.is.specs.Selections.{SideRound, all_of, times_in, state_after, IsKept, AreKept, SideRoundsSuffice, AreEachPolled, IsControlling, IsAnsweredInTime, DeliveredRoundsSelect}
+use Rattle.is.specs.Selections.{SideRound, all_of, begins_modern, times_in, state_after, IsKept, AreKept, SideRoundsSuffice, AreEachPolled, IsControlling, IsAnsweredInTime, DeliveredRoundsSelect}
 use Rattle.is.specs.World as world
 use Rattle.is.specs.World.{WorldRecord, Event, LoggedEvent, TakesTurn, Happens, at, other, Streams, source_of}
 use Rattle.is.specs.WorldRoles.{IsNewAgent}
@@ -36,7 +36,7 @@ use Rattle.is.proofs.ExternalViews.ViewsOfExecutions.{Has-front, Has-rear, AreSo
 use Rattle.is.proofs.RolesAndChains.RolesAndChainsOfViews.{sound_new}
 use Rattle.is.proofs.TwoAgentEvents.OwnExecutions.{either_has, turn_step, Steered, steered_on, acts_steered}
 use Rattle.is.proofs.TwoAgentEvents.DeliveredPackets.{rewritten, handed}
-use Rattle.is.proofs.TwoAgentEvents.EventsOfSegments.{middle, Follow, follows, following_in, cut, state_is, meet, sound_along, acts_at, own, own_course, checked, Awaited, awaits, removed}
+use Rattle.is.proofs.TwoAgentEvents.EventsOfSegments.{middle, Follow, follows, following_in, cut, state_is, meet, sound_along, acts_at, own, own_execution, checked, Awaited, awaits, removed}
 use Rattle.is.proofs.TwoAgentEvents.ExchangedChecks.{sent-check, carried-check, carried-back}
 use Rattle.is.proofs.SelectedPaths.SelectedAfterNomination.{own_emitted}
 use Rattle.is.proofs.SelectedPaths.BothSelectInRounds.{round_of, rounds_of, Moves, moved, are_passed, only_polls, same_times, back, SomeChecks, reached_unanswered, in_rounds, succeeds_in}
@@ -68,14 +68,14 @@ module _ {H P : Type 0} (mac : H → List ℕ → List ℕ → List ℕ) (answer
         (steered_on mac answers (acts_at mac answers side x) (own mac answers side rest) (at side x.before) (at side x.following) (at side last)
         (acts_steered mac answers x.before x.following s t side x.entry happens (roles x (inl refl))) (steered rest x.following last more (λ y has. roles y (inr has))))
 
-    pub courses : (rounds : List (SideRound H P)) (w last : WorldRecord H P) → Follow mac answers w (all_of rounds) last → ((r : SideRound H P) → Has rounds r → Moves mac answers side r)
-        → ((x : Occurrence H P) → Has (all_of rounds) x → (at side x.following).controlling ≡ true) → CourseRounds mac answers (rounds_of mac answers side rounds) (at side w) (at side last)
-    courses [] w last is comes roles = ap (λ (v : WorldRecord H P). at side v) is
-    courses (r ∷ later) w last (from, s, t, happens, more) comes roles =
+    pub executions : (rounds : List (SideRound H P)) (w last : WorldRecord H P) → Follow mac answers w (all_of rounds) last → ((r : SideRound H P) → Has rounds r → Moves mac answers side r)
+        → ((x : Occurrence H P) → Has (all_of rounds) x → (at side x.following).controlling ≡ true) → ExecutionRounds mac answers (rounds_of mac answers side rounds) (at side w) (at side last)
+    executions [] w last is comes roles = ap (λ (v : WorldRecord H P). at side v) is
+    executions (r ∷ later) w last (from, s, t, happens, more) comes roles =
         let c = cut mac answers r.following (all_of later) r.timeout.following last more in
         let k = steered r.following r.timeout.following c.0 c.1 (λ x has. roles x (inr (Has-front r.following (all_of later) x has))) in
         let moves = moved mac answers side r s t (comes r (inl refl)) happens in
-        subst (λ (v : WorldRecord H P). CourseRounds mac answers (rounds_of mac answers side (r ∷ later)) (at side v) (at side last)) from (
+        subst (λ (v : WorldRecord H P). ExecutionRounds mac answers (rounds_of mac answers side (r ∷ later)) (at side v) (at side last)) from (
           at side r.timeout.following,
           at side c.0,
           source_of side s,
@@ -84,7 +84,7 @@ module _ {H P : Type 0} (mac : H → List ℕ → List ℕ → List ℕ) (answer
           roles r.timeout (inl refl),
           k.0,
           k.1,
-          courses later c.0 last c.2 (λ y has. comes y (inr has)) (λ x has. roles x (inr (Has-rear r.following (all_of later) x has))),
+          executions later c.0 last c.2 (λ y has. comes y (inr has)) (λ x has. roles x (inr (Has-rear r.following (all_of later) x has))),
         )
 
     -- what a round of the per-agent execution selects, one of the network model selects
@@ -93,7 +93,7 @@ module _ {H P : Type 0} (mac : H → List ℕ → List ℕ → List ℕ) (answer
     selected_in [] w last is (c, has, rest) = absurd has
     selected_in (r ∷ later) w last (from, s, t, happens, more) (c, inl is, (y, there, success, emitted)) =
         let k = cut mac answers r.following (all_of later) r.timeout.following last more in
-        let m = own_emitted mac answers side r.following r.timeout.following k.0 k.1 y (subst (λ (z : CourseRound P). Has z.following y) (sym is) there) emitted in
+        let m = own_emitted mac answers side r.following r.timeout.following k.0 k.1 y (subst (λ (z : ExecutionRound P). Has z.following y) (sym is) there) emitted in
         (m.0, inr (Has-front r.following (all_of later) m.0 m.1), m.2)
     selected_in (r ∷ later) w last (from, s, t, happens, more) (c, inr has, rest) =
         let k = cut mac answers r.following (all_of later) r.timeout.following last more in
@@ -129,7 +129,7 @@ module _ {H P : Type 0} (mac : H → List ℕ → List ℕ → List ℕ) (answer
             let n = new in
             let said = selects (fresh (at side first).provider n.0 n.1) (at side start) (at side again.before) (at side again.following)
             ((agent.SetControlling n.2, quiet Done) ∷ own mac answers side before) (own mac answers side ahead) (source_of side u) turn.left now via reply.contents again.entry.outcome.entry m (n.0, n.1, refl)
-            (at side first, source_of side s, source_of side s, tt, (Ok _, refl, (refl, n.3), refl), own_course mac answers side before first start led) invalid (own_course mac answers side ahead start again.before on)
+            (at side first, source_of side s, source_of side s, tt, (refl, n.3, refl), own_execution mac answers side before first start led) invalid (own_execution mac answers side ahead start again.before on)
             (turn_step mac answers again.before again.following u v side call again.entry.outcome turn) brings success (roles again (subst (λ xs. Has xs again) (sym split) (middle ahead rest again))) in
             let y = said.0 in
             elim (either_has (own mac answers side ahead) ((call, again.entry.outcome.entry) ∷ []) y.0 y.1) [
@@ -169,7 +169,7 @@ module _ {H P : Type 0} (mac : H → List ℕ → List ℕ → List ℕ) (answer
                   → ((x : Occurrence H P) → Has (k.comes.between ++ k.comes.handed ∷ r.comes.between) x → MayEndAt answers side path x → ⊥)
                   → (z : Awaited mac answers side path (k.comes.between ++ k.comes.handed ∷ r.comes.between) over part last k reply r)
                   → (IsTaken mac answers (rewritten r.via reply) r.comes.hands.now r.comes.handed.entry.outcome.entry Success × IsValidBy mac answers (at side r.comes.handed.following) r.via)
-                  ⊎ EndsAlong mac answers (own mac answers side (k.comes.between ++ k.comes.handed ∷ r.comes.between)) (at side k.sent.following) (at side r.comes.handed.before) z.course.0 (via_out k.check)
+                  ⊎ EndsAlong mac answers (own mac answers side (k.comes.between ++ k.comes.handed ∷ r.comes.between)) (at side k.sent.following) (at side r.comes.handed.before) z.execution.0 (via_out k.check)
                   → (ahead rest : List (Occurrence H P)) × (again : Occurrence H P) × (reply : Packet) × (via : Path) × (part ≡ ahead ++ again ∷ rest)
                   × (h : Hands side via reply again.before again.entry) × IsTaken mac answers (rewritten via reply) h.now again.entry.outcome.entry Success
               by k reply r stays z (inr ends) =
@@ -191,13 +191,13 @@ module _ {H P : Type 0} (mac : H → List ℕ → List ℕ → List ℕ) (answer
 
     -- ---- a check is sent in one of the rounds, or a path is selected
 
-    polled : CoursesCheckFromDue {H = H} {P = P} mac answers → (first last : WorldRecord H P) (s : Streams) (before : List (Occurrence H P)) (r : SideRound H P) (rounds : List (SideRound H P)) (p : PairRecord) (by : ℕ)
+    polled : ExecutionsCheckFromDue {H = H} {P = P} mac answers → (first last : WorldRecord H P) (s : Streams) (before : List (Occurrence H P)) (r : SideRound H P) (rounds : List (SideRound H P)) (p : PairRecord) (by : ℕ)
         → IsNewAgent (at side first) → Follow mac answers first before r.timeout.before → Follow mac answers r.timeout.before (all_of (r ∷ rounds)) last → (at side r.timeout.before).controlling ≡ true
         → ((x : Occurrence H P) → Has (all_of (r ∷ rounds)) x → (at side x.following).controlling ≡ true) → Awaits r.now by (at side r.timeout.before) p → IsUnanswered (at side r.timeout.before) p
         → AreKept side by r rounds → AreEachPolled side by r rounds
         → SomeChecks mac answers (path_of (at side r.timeout.before) p) (r ∷ rounds) ⊎ ((x : Occurrence H P) × Has (all_of (r ∷ rounds)) x × SelectsPath side x.entry)
     polled checks first last s before r rounds p by n led (same, u, v, happens, more) role roles waits unanswered kept each =
-        let own_first : IsKept side r = kept.kept r (inl refl) in
+        let own_first : IsKept (begins_modern side r) side r = kept.kept r (inl refl) in
         let c = cut mac answers r.following (all_of rounds) r.timeout.following last more in
         let k = steered r.following r.timeout.following c.0 c.1 (λ x has. roles x (inr (Has-front r.following (all_of rounds) x has))) in
         let moves = moved mac answers side r u v own_first.comes happens in
@@ -207,7 +207,7 @@ module _ {H P : Type 0} (mac : H → List ℕ → List ℕ → List ℕ) (answer
         (subst (λ (w : WorldRecord H P). SufficeForDue by r.now (at side r.timeout.before) (at side w) (times_in rounds)) second (search each.few)) in
         elim (checks (fresh (at side first).provider n.0 n.1) (at side r.timeout.before) (at side last) ((agent.SetControlling n.2, quiet Done) ∷ own mac answers side before)
         (round_of mac answers side r) (rounds_of mac answers side rounds) p by (n.0, n.1, refl)
-        (at side first, source_of side s, source_of side s, tt, (Ok _, refl, (refl, n.3), refl), own_course mac answers side before first r.timeout.before led)
+        (at side first, source_of side s, source_of side s, tt, (refl, n.3, refl), own_execution mac answers side before first r.timeout.before led)
         role waits unanswered (let from = kept.from in omega (arith, from)) own_first.done own_first.early (only_polls mac answers side by r rounds each) (
           at side r.timeout.following,
           at side c.0,
@@ -217,16 +217,16 @@ module _ {H P : Type 0} (mac : H → List ℕ → List ℕ → List ℕ) (answer
           roles r.timeout (inl refl),
           k.0,
           k.1,
-          courses rounds c.0 last c.2 (λ x has. (kept.kept x (inr has)).comes) (λ x has. roles x (inr (Has-rear r.following (all_of rounds) x has))),
+          executions rounds c.0 last c.2 (λ x has. (kept.kept x (inr has)).comes) (λ x has. roles x (inr (Has-rear r.following (all_of rounds) x has))),
         )
         (are_passed mac answers side by r rounds kept each) enough) [
           | inl (z, id, has, out) ↦
-              (let x = back mac answers side (r ∷ rounds) z has in inl (x.0, x.1, (id, ap (λ (y : CourseRound P). y.timeout.emitted.issued) x.2 ∙ out)))
+              (let x = back mac answers side (r ∷ rounds) z has in inl (x.0, x.1, (id, ap (λ (y : ExecutionRound P). y.timeout.emitted.issued) x.2 ∙ out)))
           | inr among ↦ inr (selected_in (r ∷ rounds) r.timeout.before last (same, u, v, happens, more) among)
         ]
 
-  pub rounds_select : PathTheorem {H = H} {P = P} mac answers → FreshIsSound H P → CarriedSucceedLater {H = H} {P = P} mac answers → CoursesCheckFromDue {H = H} {P = P} mac answers
-      → CoursesReachUnanswered {H = H} {P = P} mac answers → CoursesReachServed {H = H} {P = P} mac answers → SuccessesSelect {H = H} {P = P} mac answers
+  pub rounds_select : PathTheorem {H = H} {P = P} mac answers → FreshIsSound H P → CarriedSucceedLater {H = H} {P = P} mac answers → ExecutionsCheckFromDue {H = H} {P = P} mac answers
+      → ExecutionsReachUnanswered {H = H} {P = P} mac answers → ExecutionsReachServed {H = H} {P = P} mac answers → SuccessesSelect {H = H} {P = P} mac answers
       → (first : WorldRecord H P) (s : Streams) (log : List (LoggedEvent P)) → DeliveredRoundsSelect mac answers first s log
   rounds_select paths new_sound succeeds checks unanswered serves selects first s log last t run before more rest side r rounds p by segment answers_so =
       elim segment.enough [
@@ -235,7 +235,7 @@ module _ {H P : Type 0} (mac : H → List ℕ → List ℕ → List ℕ) (answer
               | inl sent ↦ sends sent
               | inr (x, has, selected_paths) ↦ (x, Has-front (all_of (r ∷ rounds)) more x has, selected_paths)
             ])
-        | inr many ↦ elim (reached_unanswered mac answers unanswered serves side first begun.0 s (own mac answers side before) r rounds p by (segment.new side) (own_course mac answers side before first start to) begun.1
+        | inr many ↦ elim (reached_unanswered mac answers unanswered serves side first begun.0 s (own mac answers side before) r rounds p by (segment.new side) (own_execution mac answers side before first start to) begun.1
             segment.role segment.waits segment.unanswered segment.kept
             (elim many [
               | inl suffices ↦ inl (subst (λ (w : WorldRecord H P). SideRoundsSuffice side by r rounds w) (state_is mac answers (all_of (r ∷ rounds)) start begun.0 begun.1) suffices)

@@ -1,6 +1,6 @@
 -- A controlling side of two agents selects its first path in time, if its caller is punctual and a check is answered within a round trip.
 -- What mutants/specifications changes is read by tactics.
-use Rattle.std.proofs.Common.{◌≡◌, ℕ, ◌+◌, ◌*◌, ◌≤◌, ◌⊎◌, true, List, [], ◌∷◌, ◌++◌, length, inl, inr, refl, ap, sym, ◌∙◌, subst, arith, append_assoc, Ok}
+use Rattle.std.proofs.Common.{◌≡◌, ℕ, ◌+◌, ◌*◌, ◌≤◌, ◌⊎◌, true, List, [], ◌∷◌, ◌++◌, length, inl, inr, refl, ap, sym, ◌∙◌, subst, arith, append_assoc}
 use Rattle.is_proto.specs.Lists.{Has}
 use Rattle.is_candidate.specs.Candidates.{CandidateRecord}
 use Rattle.is_rules.specs.declared.emitted.Path.{Path}
@@ -10,21 +10,21 @@ use Rattle.is_rules.specs.Sending.{path_of}
 use Rattle.is_rules.specs.Sound.{FreshIsSound}
 use Rattle.is_rules.specs.Steps as agent
 use Rattle.is_rules.specs.Steps.{Entry, quiet}
-use Rattle.is_theorems.specs.AskedCourses.{EndsAlong, SuccessesSelect}
+use Rattle.is_theorems.specs.AskedExecutions.{EndsAlong, SuccessesSelect}
 use Rattle.is_theorems.specs.Carried.{CarriedSucceedLater}
-use Rattle.is_theorems.specs.Courses.{AcceptsSuccess, ControlsAlong, CourseRound, CourseRounds}
-use Rattle.is_theorems.specs.Exchange.{AreBetween, Course}
+use Rattle.is_theorems.specs.Executions.{AcceptsSuccess, ControlsAlong, ExecutionRound, ExecutionRounds}
+use Rattle.is_theorems.specs.Exchange.{AreBetween, Execution}
 use Rattle.is_theorems.specs.FirstChecks.{SufficeForDue, times_of}
 use Rattle.is_theorems.specs.FirstTimeouts.{AreInRound, EndsAmong, Suffices}
 use Rattle.is_theorems.specs.Progress.{Awaits, IsUnanswered}
 use Rattle.is_theorems.specs.SelectedInTime as law
 use Rattle.is_theorems.specs.ServedSoon.{IsOvertakenAmong}
-use Rattle.is_theorems.specs.SelectedInTime.{CoursesSelectInTime, in_any_role}
+use Rattle.is_theorems.specs.SelectedInTime.{ExecutionsSelectInTime, in_any_role}
 use Rattle.is.specs.declared.world_events.Side.{Side}
 use Rattle.is.specs.AcceptedNominationsIn.{Occurrence}
 use Rattle.is.specs.Punctual.{IsTimed}
 use Rattle.is.specs.PunctualSelections.{IsAnsweredBy, rounds_in, SelectsBy, SelectionsComeInTime}
-use Rattle.is.specs.Selections.{SideRound, all_of, times_in, state_after, MayEndInRounds, OvertakeIn, RoundChecks, SideRoundsSuffice}
+use Rattle.is.specs.Selections.{SideRound, all_of, begins_modern, times_in, state_after, MayEndInRounds, OvertakeIn, RoundChecks, SideRoundsSuffice}
 use Rattle.is.specs.World as world
 use Rattle.is.specs.World.{WorldRecord, LoggedEvent, at, Streams, source_of}
 use Rattle.is.proofs.ExternalViews.ViewsOfExecutions.{Has-front, Has-rear, AreSound}
@@ -34,7 +34,7 @@ use Rattle.is.proofs.SelectedPaths.ChecksInTime.{timed}
 use Rattle.is.proofs.SelectedPaths.SelectedAfterNomination.{own_emitted}
 use Rattle.is.proofs.SelectedPaths.SelectedInRounds.{returned}
 use Rattle.is.proofs.TwoAgentEvents.DeliveredPackets.{handed_has}
-use Rattle.is.proofs.TwoAgentEvents.EventsOfSegments.{middle, ends_at, Follow, follows, Found, cut, state_is, sound_along, acts_at, own, own_course, own_between, own_in_round, own_has}
+use Rattle.is.proofs.TwoAgentEvents.EventsOfSegments.{middle, ends_at, Follow, follows, Found, cut, state_is, sound_along, acts_at, own, own_execution, own_between, own_in_round, own_has}
 use Rattle.is.proofs.TwoAgentEvents.OwnExecutions.{acts_steered, either_has}
 
 module _ {H P : Type 0} (mac : H → List ℕ → List ℕ → List ℕ) (answers : P → CandidateRecord → ℕ → ℕ → Type 0) where
@@ -71,8 +71,8 @@ module _ {H P : Type 0} (mac : H → List ℕ → List ℕ → List ℕ) (answer
   selects_by side [] w last limit is (c, has, selects, in_time) = absurd has
   selects_by side (r ∷ later) w last limit (from, s, t, happens, more) (c, inl is, (y, there, success, emitted), in_time) =
       let k = cut mac answers r.following (all_of later) r.timeout.following last more in
-      let m = own_emitted mac answers side r.following r.timeout.following k.0 k.1 y (subst (λ (z : CourseRound P). Has z.following y) (sym is) there) emitted in
-      (r, inl refl, m, subst (λ (z : CourseRound P). z.now ≤ limit) (sym is) in_time)
+      let m = own_emitted mac answers side r.following r.timeout.following k.0 k.1 y (subst (λ (z : ExecutionRound P). Has z.following y) (sym is) there) emitted in
+      (r, inl refl, m, subst (λ (z : ExecutionRound P). z.now ≤ limit) (sym is) in_time)
   selects_by side (r ∷ later) w last limit (from, s, t, happens, more) (c, inr has, selects, in_time) =
       let k = cut mac answers r.following (all_of later) r.timeout.following last more in
       let m = selects_by side later k.0 last limit k.2 (c, has, selects, in_time) in
@@ -82,7 +82,7 @@ module _ {H P : Type 0} (mac : H → List ℕ → List ℕ → List ℕ) (answer
 
   module _ (side : Side) (path : Path) where
     abbrev Guided : (whole : List (Occurrence H P)) → List (agent.Call P × Entry) → AgentRecord H P → AgentRecord H P → Type 0
-    Guided whole xs a b = (course : Course mac answers xs a b) × ControlsAlong mac answers xs a b course × (EndsAlong mac answers xs a b course path → Found mac answers side path whole)
+    Guided whole xs a b = (execution : Execution mac answers xs a b) × ControlsAlong mac answers xs a b execution × (EndsAlong mac answers xs a b execution path → Found mac answers side path whole)
 
     guided_on : (whole : List (Occurrence H P)) (xs ys : List (agent.Call P × Entry)) (a b c : AgentRecord H P) → Guided whole xs a b → Guided whole ys b c → Guided whole (xs ++ ys) a c
     guided_on whole [] ys a b c (is, along, ends) more = subst (λ (z : AgentRecord H P). Guided whole ys z c) is more
@@ -102,7 +102,7 @@ module _ {H P : Type 0} (mac : H → List ℕ → List ℕ → List ℕ) (answer
 
     abbrev GuidedRounds : List (SideRound H P) → AgentRecord H P → AgentRecord H P → Type 0
     GuidedRounds rounds a b =
-        (run : CourseRounds mac answers (rounds_of mac answers side rounds) a b)
+        (run : ExecutionRounds mac answers (rounds_of mac answers side rounds) a b)
         × (EndsAmong mac answers (rounds_of mac answers side rounds) a b (in_any_role mac answers (rounds_of mac answers side rounds) a b run) path → MayEndInRounds answers side path rounds)
         × ((n k : ℕ) → IsOvertakenAmong mac answers n k (rounds_of mac answers side rounds) a b (in_any_role mac answers (rounds_of mac answers side rounds) a b run) → OvertakeIn side n k rounds)
 
@@ -123,7 +123,7 @@ module _ {H P : Type 0} (mac : H → List ℕ → List ℕ → List ℕ) (answer
   -- ---- the rounds of a segment
 
   pub selections_in_time : PathTheorem {H = H} {P = P} mac answers → FreshIsSound H P → CarriedSucceedLater {H = H} {P = P} mac answers → SuccessesSelect {H = H} {P = P} mac answers
-      → CoursesSelectInTime {H = H} {P = P} mac answers → (first : WorldRecord H P) (s : Streams) (log : List (LoggedEvent P)) → SelectionsComeInTime mac answers first s log
+      → ExecutionsSelectInTime {H = H} {P = P} mac answers → (first : WorldRecord H P) (s : Streams) (log : List (LoggedEvent P)) → SelectionsComeInTime mac answers first s log
   selections_in_time paths new_sound succeeds selects reach first s log last t run side pace delay trip k answered = by front.1 where
     rounds : List (SideRound H P)
     rounds = rounds_in k
@@ -230,16 +230,16 @@ module _ {H P : Type 0} (mac : H → List ℕ → List ℕ → List ℕ) (answer
         let m = moved mac answers side k.first u v own_first.comes happens in
         elim (reach (fresh (at side first).provider n.0 n.1) (at side start) (at side front.0) (at side on.0) ((agent.SetControlling n.2, quiet agent.Done) ∷ own mac answers side k.before) (round_of mac answers side k.first)
         (rounds_of mac answers side k.later) (rounds_of mac answers side k.more) k.pair k.by pace delay trip (n.0, n.1, refl)
-        (at side first, source_of side s, source_of side s, tt, (Ok _, refl, (refl, n.3), refl), own_course mac answers side k.before first start to)
-        role waits unanswered (let from = k.kept.from in omega (arith, from)) own_first.done own_first.early (is_open mac answers side k.first own_first)
+        (at side first, source_of side s, source_of side s, tt, (refl, n.3, refl), own_execution mac answers side k.before first start to)
+        role waits unanswered (let from = k.kept.from in omega (arith, from)) own_first.done own_first.early (is_open mac answers (begins_modern side k.first) side k.first own_first)
         (at side k.first.timeout.following, at side c.0, source_of side u, m.0, m.1, steady_first k.first.timeout (inl refl), g.0, g.1, l.0) o.0
         (are_open mac answers side k.by k.first k.later k.kept)
-        (each_round mac answers (λ c. AreInRound c.following) side k.more (λ x has. own_in_round mac answers side x.following (λ y there. search (k.between x has y there))))
+        (each_round mac answers (λ c. AreInRound (begins_modern side k.first) c.following) side k.more (λ x has. own_in_round mac answers (begins_modern side k.first) side x.following (λ y there. search (k.between x has y there))))
         (suffice c.0 (state_is mac answers k.first.following k.first.timeout.following c.0 c.1) l) (timed mac answers side pace delay k.first k.later on_time)
         (subst (λ xs. law.IsAnsweredWithin trip (round_of mac answers side k.first ∷ xs) path) (rounds_on side k.later k.more) (λ q has sent. (
         let x = back mac answers side rounds q has in
-        subst (λ (y : CourseRound P). law.AcceptsBy (y.now + trip) (rounds_of mac answers side rounds)) x.2
-        (accepted x.0 x.1 (sent.0, ap (λ (y : CourseRound P). y.timeout.emitted.issued) x.2 ∙ sent.1)))))) [
+        subst (λ (y : ExecutionRound P). law.AcceptsBy (y.now + trip) (rounds_of mac answers side rounds)) x.2
+        (accepted x.0 x.1 (sent.0, ap (λ (y : ExecutionRound P). y.timeout.emitted.issued) x.2 ∙ sent.1)))))) [
           | inl found ↦ inl (bounded found)
           | inr (inl here) ↦ (let ends : MayEndInRounds answers side path (k.first ∷ k.later) = (k.first, inl refl, g.2 here) in inr (search ends))
           | inr (inr others) ↦ (let z = l.1 others in let ends : MayEndInRounds answers side path (k.first ∷ k.later) = (z.0, inr z.1, z.2) in inr (search ends))

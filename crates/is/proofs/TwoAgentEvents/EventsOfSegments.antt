@@ -8,11 +8,11 @@ use Rattle.is_proto.specs.Packets.{Packet}
 use Rattle.is_candidate.specs.Candidates.{CandidateRecord}
 use Rattle.is_rules.specs.declared.emitted.Path.{Path}
 use Rattle.is_rules.specs.Agent.{AgentRecord}
-use Rattle.is_rules.specs.Answers.{goes_back}
-use Rattle.is_theorems.specs.AskedCourses.{Ends, EndsAlong}
+use Rattle.is_rules.specs.Answers.{is_reverse}
+use Rattle.is_theorems.specs.AskedExecutions.{Ends, EndsAlong}
 use Rattle.is_theorems.specs.Delivery.{KnowEachOther, IsReachedBy, Delivered}
 use Rattle.is_rules.specs.Effects.{PathTheorem}
-use Rattle.is_theorems.specs.Exchange.{AreBetween, Course}
+use Rattle.is_theorems.specs.Exchange.{AreBetween, Execution}
 use Rattle.is_rules.specs.Issuing.{via_out}
 use Rattle.is_theorems.specs.Pending.{is_check_on, checks_on, KeepsAlong}
 use Rattle.is_theorems.specs.Reached.{is_in_round}
@@ -28,7 +28,7 @@ use Rattle.rand_core.specs.Stream.{Stream}
 use Rattle.is.specs.World as world
 use Rattle.is.specs.World.{WorldRecord, InFlightRecord, Event, Outcome, LoggedEvent, TakesTurn, Persists, Happens, WorldRun, at, other, in_world, Streams, source_of}
 use Rattle.is.proofs.ExternalViews.ViewsOfExecutions.{Has-front, Has-rear, AreSound}
-use Rattle.is.proofs.TwoAgentEvents.OwnExecutions.{either_has, only_none, acts_between, acts_in_round, course_on, turn_step, acts_course, sound_on}
+use Rattle.is.proofs.TwoAgentEvents.OwnExecutions.{either_has, only_none, acts_between, acts_in_round, execution_on, turn_step, acts_execution, sound_on}
 use Rattle.is.proofs.TwoAgentEvents.DeliveredPackets.{rewritten, delivered}
 
 pub middle : {X : Type 0} (xs ys : List X) (x : X) → Has (xs ++ x ∷ ys) x
@@ -86,12 +86,12 @@ module _ {H P : Type 0} (mac : H → List ℕ → List ℕ → List ℕ) (answer
   own side [] = []
   own side (x ∷ rest) = acts_at side x ++ own side rest
 
-  pub own_course : (side : Side) (xs : List (Occurrence H P)) (w last : WorldRecord H P) → Follow w xs last → Course mac answers (own side xs) (at side w) (at side last)
-  own_course side [] w last is = ap (λ (v : WorldRecord H P). at side v) is
-  own_course side (x ∷ rest) w last (from, s, t, happens, more) =
-      subst (λ (v : WorldRecord H P). Course mac answers (own side (x ∷ rest)) (at side v) (at side last)) from
-      (course_on mac answers (acts_at side x) (own side rest) (at side x.before) (at side x.following) (at side last)
-      (acts_course mac answers x.before x.following s t side x.entry happens) (own_course side rest x.following last more))
+  pub own_execution : (side : Side) (xs : List (Occurrence H P)) (w last : WorldRecord H P) → Follow w xs last → Execution mac answers (own side xs) (at side w) (at side last)
+  own_execution side [] w last is = ap (λ (v : WorldRecord H P). at side v) is
+  own_execution side (x ∷ rest) w last (from, s, t, happens, more) =
+      subst (λ (v : WorldRecord H P). Execution mac answers (own side (x ∷ rest)) (at side v) (at side last)) from
+      (execution_on mac answers (acts_at side x) (own side rest) (at side x.before) (at side x.following) (at side last)
+      (acts_execution mac answers x.before x.following s t side x.entry happens) (own_execution side rest x.following last more))
 
   -- a call of the side occurs in one of the events
   pub own_from : (side : Side) (xs : List (Occurrence H P)) (y : agent.Call P × Entry) → Has (own side xs) y → (x : Occurrence H P) × Has xs x × Has (acts_at side x) y
@@ -104,9 +104,9 @@ module _ {H P : Type 0} (mac : H → List ℕ → List ℕ → List ℕ) (answer
   pub own_between : (side : Side) (xs : List (Occurrence H P)) → ((x : Occurrence H P) → Has xs x → MakesPolls side x.entry.event) → AreBetween (own side xs)
   own_between side xs polls y has = let o = own_from side xs y has in acts_between side o.0.before o.0.entry.event o.0.entry.outcome.entry (polls o.0 o.1) y o.2
 
-  pub own_in_round : (side : Side) (xs : List (Occurrence H P)) → ((x : Occurrence H P) → Has xs x → MakesInRound side x.entry.event)
-      → (y : agent.Call P × Entry) → Has (own side xs) y → is_in_round y.0 ≡ true
-  own_in_round side xs calls y has = let o = own_from side xs y has in acts_in_round side o.0.before o.0.entry.event o.0.entry.outcome.entry (calls o.0 o.1) y o.2
+  pub own_in_round : (modern : Bool) (side : Side) (xs : List (Occurrence H P)) → ((x : Occurrence H P) → Has xs x → MakesInRound modern side x.entry.event)
+      → (y : agent.Call P × Entry) → Has (own side xs) y → is_in_round modern y.0 ≡ true
+  own_in_round modern side xs calls y has = let o = own_from side xs y has in acts_in_round modern side o.0.before o.0.entry.event o.0.entry.outcome.entry (calls o.0 o.1) y o.2
 
   pub own_has : (side : Side) (xs : List (Occurrence H P)) (x : Occurrence H P) (y : agent.Call P × Entry) → Has xs x → Has (acts_at side x) y → Has (own side xs) y
   own_has side [] x y has there = absurd has
@@ -233,7 +233,7 @@ module _ {H P : Type 0} (mac : H → List ℕ → List ℕ → List ℕ) (answer
     Found = (x : Occurrence H P) × Has whole x × MayEndAt answers side path x
 
     abbrev pub Owned : List (agent.Call P × Entry) → AgentRecord H P → AgentRecord H P → Type 0
-    Owned xs a b = (course : Course mac answers xs a b) × (EndsAlong mac answers xs a b course path → Found)
+    Owned xs a b = (execution : Execution mac answers xs a b) × (EndsAlong mac answers xs a b execution path → Found)
 
     pub owned_on : (xs ys : List (agent.Call P × Entry)) (a b c : AgentRecord H P) → Owned xs a b → Owned ys b c → Owned (xs ++ ys) a c
     owned_on [] ys a b c (is, ends) more = subst (λ (z : AgentRecord H P). Owned ys z c) is more
@@ -241,44 +241,44 @@ module _ {H P : Type 0} (mac : H → List ℕ → List ℕ → List ℕ) (answer
         let k = owned_on xs ys mid b c (on, λ e. ends (inr e)) more in
         ((mid, s, t, based, step, k.0), λ e. elim e [ inl here ↦ ends (inl here) | inr later ↦ k.1 later ])
 
-    ends_only : (z s : Side) (xs : List (agent.Call P × Entry)) (a b : AgentRecord H P) → (course : Course mac answers (only z s xs) a b) → EndsAlong mac answers (only z s xs) a b course path
-        → (s ≡ z) × ((c : Course mac answers xs a b) × EndsAlong mac answers xs a b c path)
-    ends_only A A xs a b course ends = (refl, (course, ends))
-    ends_only B B xs a b course ends = (refl, (course, ends))
-    ends_only A B xs a b course ends = absurd ends
-    ends_only B A xs a b course ends = absurd ends
+    ends_only : (z s : Side) (xs : List (agent.Call P × Entry)) (a b : AgentRecord H P) → (execution : Execution mac answers (only z s xs) a b) → EndsAlong mac answers (only z s xs) a b execution path
+        → (s ≡ z) × ((c : Execution mac answers xs a b) × EndsAlong mac answers xs a b c path)
+    ends_only A A xs a b execution ends = (refl, (execution, ends))
+    ends_only B B xs a b execution ends = (refl, (execution, ends))
+    ends_only A B xs a b execution ends = absurd ends
+    ends_only B A xs a b execution ends = absurd ends
 
-    ends_polled : (answer : Answer) (ps : List Packet) (a b : AgentRecord H P) → (course : Course mac answers (polled_as answer ps) a b) → EndsAlong mac answers (polled_as answer ps) a b course path → ⊥
-    ends_polled (Rejected error) ps a b course ends = ends
-    ends_polled _ ps a b course (inl (p, has, joins, none)) = none
-    ends_polled _ ps a b course (inr none) = none
+    ends_polled : (answer : Answer) (ps : List Packet) (a b : AgentRecord H P) → (execution : Execution mac answers (polled_as answer ps) a b) → EndsAlong mac answers (polled_as answer ps) a b execution path → ⊥
+    ends_polled (Rejected error) ps a b execution ends = ends
+    ends_polled _ ps a b execution (inl (p, has, joins, none)) = none
+    ends_polled _ ps a b execution (inr none) = none
 
-    pub ends_at : (w : WorldRecord H P) (v : Event P) (e : Entry) (b : AgentRecord H P) → (course : Course mac answers (acts side w v e) (at side w) b)
-        → EndsAlong mac answers (acts side w v e) (at side w) b course path → (c : agent.Call P) × (v ≡ world.Call side c) × Ends answers (at side w) c e path
-    ends_at w (world.Call s c) e b course ends = by (in_world c) course ends where
-      by : (within : Bool) (on : Course mac answers (only side s (if within then (c, e) ∷ [] else [])) (at side w) b)
+    pub ends_at : (w : WorldRecord H P) (v : Event P) (e : Entry) (b : AgentRecord H P) → (execution : Execution mac answers (acts side w v e) (at side w) b)
+        → EndsAlong mac answers (acts side w v e) (at side w) b execution path → (c : agent.Call P) × (v ≡ world.Call side c) × Ends answers (at side w) c e path
+    ends_at w (world.Call s c) e b execution ends = by (in_world c) execution ends where
+      by : (within : Bool) (on : Execution mac answers (only side s (if within then (c, e) ∷ [] else [])) (at side w) b)
           → EndsAlong mac answers (only side s (if within then (c, e) ∷ [] else [])) (at side w) b on path → (d : agent.Call P) × (world.Call s c ≡ world.Call side d) × Ends answers (at side w) d e path
       by true on there = let k = ends_only side s ((c, e) ∷ []) (at side w) b on there in elim k.1.1 [
         | inl here ↦ (c, ap (λ z. world.Call z c) k.0, here)
         | inr none ↦ absurd none
       ]
       by false on there = absurd (ends_only side s [] (at side w) b on there).1.1
-    ends_at w (world.Poll s) e b course ends =
-        let k = ends_only side s (polled_as e.answer (at side w).packets) (at side w) b course ends in absurd (ends_polled e.answer (at side w).packets (at side w) b k.1.0 k.1.1)
-    ends_at w (world.Deliver place now via) e b course ends = by (slice_get w.network place) course ends where
-      by : (o : Option InFlightRecord) (on : Course mac answers (received_as side now via e o) (at side w) b)
+    ends_at w (world.Poll s) e b execution ends =
+        let k = ends_only side s (polled_as e.answer (at side w).packets) (at side w) b execution ends in absurd (ends_polled e.answer (at side w).packets (at side w) b k.1.0 k.1.1)
+    ends_at w (world.Deliver place now via) e b execution ends = by (slice_get w.network place) execution ends where
+      by : (o : Option InFlightRecord) (on : Execution mac answers (received_as side now via e o) (at side w) b)
           → EndsAlong mac answers (received_as side now via e o) (at side w) b on path → (d : agent.Call P) × (world.Deliver place now via ≡ world.Call side d) × Ends answers (at side w) d e path
       by None on there = absurd there
       by (Some l) on there = elim (ends_only side (other l.sender) ((agent.ReceivePacket now via l.packet.contents, e) ∷ []) (at side w) b on there).1.1 [
         | inl here ↦ absurd here.3
         | inr none ↦ absurd none
       ]
-    ends_at w (world.Stray s now via bytes) e b course ends = absurd ends
+    ends_at w (world.Stray s now via bytes) e b execution ends = absurd ends
 
     pub act_owned : (x : Occurrence H P) (s t : Streams) → Happens mac answers x.before s x.entry.event x.entry.outcome x.following t → Has whole x → Owned (acts_at side x) (at side x.before) (at side x.following)
     act_owned x s t happens has =
-        let course = acts_course mac answers x.before x.following s t side x.entry happens in
-        (course, λ e. (x, has, ends_at x.before x.entry.event x.entry.outcome.entry (at side x.following) course e))
+        let execution = acts_execution mac answers x.before x.following s t side x.entry happens in
+        (execution, λ e. (x, has, ends_at x.before x.entry.event x.entry.outcome.entry (at side x.following) execution e))
 
     pub owned : (xs : List (Occurrence H P)) (w last : WorldRecord H P) → Follow w xs last → ((x : Occurrence H P) → Has xs x → Has whole x) → Owned (own side xs) (at side w) (at side last)
     owned [] w last is among = (ap (λ (v : WorldRecord H P). at side v) is, λ none. absurd none)
@@ -290,7 +290,7 @@ module _ {H P : Type 0} (mac : H → List ℕ → List ℕ → List ℕ) (answer
     -- the same, while the side stores so many checks of a pair
     abbrev pub Kept : ℕ → List (agent.Call P × Entry) → AgentRecord H P → AgentRecord H P → Type 0
     Kept limit xs a b =
-        (course : Course mac answers xs a b) × (EndsAlong mac answers xs a b course path → Found) × KeepsAlong mac answers limit xs a b course
+        (execution : Execution mac answers xs a b) × (EndsAlong mac answers xs a b execution path → Found) × KeepsAlong mac answers limit xs a b execution
 
     pub kept_on : (limit : ℕ) (xs ys : List (agent.Call P × Entry)) (a b c : AgentRecord H P) → Kept limit xs a b → Kept limit ys b c → Kept limit (xs ++ ys) a c
     kept_on limit [] ys a b c (is, ends, keeps) more = subst (λ (z : AgentRecord H P). Kept limit ys z c) is more
@@ -298,40 +298,40 @@ module _ {H P : Type 0} (mac : H → List ℕ → List ℕ → List ℕ) (answer
         let k = kept_on limit xs ys mid b c (on, (λ e. ends (inr e)), keeps) more in
         ((mid, s, t, based, step, k.0), (λ e. elim e [ inl here ↦ ends (inl here) | inr later ↦ k.1 later ]), (least, k.2))
 
-    keeps_one : (limit : ℕ) (side' z : Side) (x : agent.Call P × Entry) (a b : AgentRecord H P) → limit ≤ a.timing.max_retransmits → (course : Course mac answers (only side' z (x ∷ [])) a b)
-        → KeepsAlong mac answers limit (only side' z (x ∷ [])) a b course
-    keeps_one limit A A x a b least course = (least, tt)
-    keeps_one limit B B x a b least course = (least, tt)
-    keeps_one limit A B x a b least course = tt
-    keeps_one limit B A x a b least course = tt
+    keeps_one : (limit : ℕ) (side' z : Side) (x : agent.Call P × Entry) (a b : AgentRecord H P) → limit ≤ a.timing.max_retransmits → (execution : Execution mac answers (only side' z (x ∷ [])) a b)
+        → KeepsAlong mac answers limit (only side' z (x ∷ [])) a b execution
+    keeps_one limit A A x a b least execution = (least, tt)
+    keeps_one limit B B x a b least execution = (least, tt)
+    keeps_one limit A B x a b least execution = tt
+    keeps_one limit B A x a b least execution = tt
 
-    keeps_none : (limit : ℕ) (side' z : Side) (a b : AgentRecord H P) → (course : Course mac answers (only side' z []) a b) → KeepsAlong mac answers limit (only side' z []) a b course
-    keeps_none limit A A a b course = tt
-    keeps_none limit B B a b course = tt
-    keeps_none limit A B a b course = tt
-    keeps_none limit B A a b course = tt
+    keeps_none : (limit : ℕ) (side' z : Side) (a b : AgentRecord H P) → (execution : Execution mac answers (only side' z []) a b) → KeepsAlong mac answers limit (only side' z []) a b execution
+    keeps_none limit A A a b execution = tt
+    keeps_none limit B B a b execution = tt
+    keeps_none limit A B a b execution = tt
+    keeps_none limit B A a b execution = tt
 
     keeps_polled : (limit : ℕ) (side' z : Side) (answer : Answer) (ps : List Packet) (a b : AgentRecord H P) → limit ≤ a.timing.max_retransmits
-        → (course : Course mac answers (only side' z (polled_as answer ps)) a b) → KeepsAlong mac answers limit (only side' z (polled_as answer ps)) a b course
-    keeps_polled limit side' z (Rejected error) ps a b least course = keeps_none limit side' z a b course
-    keeps_polled limit A A _ ps a b least course = (least, tt)
-    keeps_polled limit B B _ ps a b least course = (least, tt)
-    keeps_polled limit A B _ ps a b least course = tt
-    keeps_polled limit B A _ ps a b least course = tt
+        → (execution : Execution mac answers (only side' z (polled_as answer ps)) a b) → KeepsAlong mac answers limit (only side' z (polled_as answer ps)) a b execution
+    keeps_polled limit side' z (Rejected error) ps a b least execution = keeps_none limit side' z a b execution
+    keeps_polled limit A A _ ps a b least execution = (least, tt)
+    keeps_polled limit B B _ ps a b least execution = (least, tt)
+    keeps_polled limit A B _ ps a b least execution = tt
+    keeps_polled limit B A _ ps a b least execution = tt
 
-    keeps_at : (limit : ℕ) (w : WorldRecord H P) (v : Event P) (e : Entry) (b : AgentRecord H P) → limit ≤ (at side w).timing.max_retransmits → (course : Course mac answers (acts side w v e) (at side w) b)
-        → KeepsAlong mac answers limit (acts side w v e) (at side w) b course
-    keeps_at limit w (world.Call z c) e b least course = by (in_world c) course where
-      by : (within : Bool) (on : Course mac answers (only side z (if within then (c, e) ∷ [] else [])) (at side w) b)
+    keeps_at : (limit : ℕ) (w : WorldRecord H P) (v : Event P) (e : Entry) (b : AgentRecord H P) → limit ≤ (at side w).timing.max_retransmits → (execution : Execution mac answers (acts side w v e) (at side w) b)
+        → KeepsAlong mac answers limit (acts side w v e) (at side w) b execution
+    keeps_at limit w (world.Call z c) e b least execution = by (in_world c) execution where
+      by : (within : Bool) (on : Execution mac answers (only side z (if within then (c, e) ∷ [] else [])) (at side w) b)
           → KeepsAlong mac answers limit (only side z (if within then (c, e) ∷ [] else [])) (at side w) b on
       by true on = keeps_one limit side z (c, e) (at side w) b least on
       by false on = keeps_none limit side z (at side w) b on
-    keeps_at limit w (world.Poll z) e b least course = keeps_polled limit side z e.answer (at side w).packets (at side w) b least course
-    keeps_at limit w (world.Deliver place now via) e b least course = by (slice_get w.network place) course where
-      by : (o : Option InFlightRecord) (on : Course mac answers (received_as side now via e o) (at side w) b) → KeepsAlong mac answers limit (received_as side now via e o) (at side w) b on
+    keeps_at limit w (world.Poll z) e b least execution = keeps_polled limit side z e.answer (at side w).packets (at side w) b least execution
+    keeps_at limit w (world.Deliver place now via) e b least execution = by (slice_get w.network place) execution where
+      by : (o : Option InFlightRecord) (on : Execution mac answers (received_as side now via e o) (at side w) b) → KeepsAlong mac answers limit (received_as side now via e o) (at side w) b on
       by None on = tt
       by (Some l) on = keeps_one limit side (other l.sender) (agent.ReceivePacket now via l.packet.contents, e) (at side w) b least on
-    keeps_at limit w (world.Stray z now via bytes) e b least course = tt
+    keeps_at limit w (world.Stray z now via bytes) e b least execution = tt
 
     pub kept : (limit : ℕ) (xs : List (Occurrence H P)) (w last : WorldRecord H P) → Follow w xs last → ((x : Occurrence H P) → Has xs x → Has whole x)
         → ((x : Occurrence H P) → Has xs x → limit ≤ (at side x.before).timing.max_retransmits) → Kept limit (own side xs) (at side w) (at side last)
@@ -352,11 +352,11 @@ module _ {H P : Type 0} (mac : H → List ℕ → List ℕ → List ℕ) (answer
     pub record Awaited (over : Path) (all : List (Occurrence H P)) (last : WorldRecord H P) (k : HandedCheck mac side path over all) (reply : Packet) (r : IsReturned mac side path over all k reply) : Type 0 where
       pub met : Met k.sent.following last (awaited over all k reply r) r.comes.handed r.comes.rest
       pub inside : Has all r.comes.handed
-      pub course : Kept r.pending.limit (own side (awaited over all k reply r)) (at side k.sent.following) (at side r.comes.handed.before)
+      pub execution : Kept r.pending.limit (own side (awaited over all k reply r)) (at side k.sent.following) (at side r.comes.handed.before)
       pub few : checks_on (via_out k.check) (own side (awaited over all k reply r)) < r.pending.limit
       pub know : KnowEachOther mac (at side r.comes.handed.before) (at (other side) k.comes.handed.before)
-      pub back : goes_back r.via path ≡ true
-      pub goes : goes_back r.via (via_out k.check) ≡ true
+      pub back : is_reverse r.via path ≡ true
+      pub goes : is_reverse r.via (via_out k.check) ≡ true
       pub comes : Delivered mac answers (rewritten r.via reply) r.comes.hands.now (at side r.comes.handed.before) r.comes.handed.entry.outcome.entry (at side r.comes.handed.following)
 
     pub awaits : (over : Path) (all : List (Occurrence H P)) (last : WorldRecord H P) (k : HandedCheck mac side path over all) (reply : Packet) (r : IsReturned mac side path over all k reply)
@@ -364,12 +364,12 @@ module _ {H P : Type 0} (mac : H → List ℕ → List ℕ → List ℕ) (answer
     awaits over all last k reply r onward among = record {
       met = m;
       inside = after_in side path over all k again (subst (λ xs. Has xs again) (sym split) (middle between r.comes.rest again));
-      course = kept r.pending.limit between k.sent.following again.before m.led among (λ x has. search (r.pending.kept x has));
+      execution = kept r.pending.limit between k.sent.following again.before m.led among (λ x has. search (r.pending.kept x has));
       few = subst (λ p. checks_on p (own side between) < r.pending.limit) (sym k.on)
           (let most = counts side path between k.sent.following again.before m.led in let less = r.pending.few in omega (arith, most, less));
       know = search r.know;
       back = back;
-      goes = subst (λ p. goes_back r.via p ≡ true) (sym k.on) back;
+      goes = subst (λ p. is_reverse r.via p ≡ true) (sym k.on) back;
       comes = delivered mac answers side r.via reply again.before again.following m.s m.t again.entry r.comes.hands m.happens;
     } where
       again : Occurrence H P
@@ -384,15 +384,15 @@ module _ {H P : Type 0} (mac : H → List ℕ → List ℕ → List ℕ) (answer
       m : Met k.sent.following last between again r.comes.rest
       m = meet between r.comes.rest again k.sent.following last (subst (λ xs. Follow k.sent.following xs last) split onward)
 
-      back : goes_back r.via path ≡ true
+      back : is_reverse r.via path ≡ true
       back = search r.back
 
     -- a call in between that may end a pair of the path is found
     pub removed : (over : Path) (all : List (Occurrence H P)) (last : WorldRecord H P) (k : HandedCheck mac side path over all) (reply : Packet) (r : IsReturned mac side path over all k reply)
         (z : Awaited over all last k reply r)
-        → EndsAlong mac answers (own side (awaited over all k reply r)) (at side k.sent.following) (at side r.comes.handed.before) z.course.0 (via_out k.check) → Found
+        → EndsAlong mac answers (own side (awaited over all k reply r)) (at side k.sent.following) (at side r.comes.handed.before) z.execution.0 (via_out k.check) → Found
     removed over all last k reply r z ends =
-        z.course.1 (subst (λ p. EndsAlong mac answers (own side (awaited over all k reply r)) (at side k.sent.following) (at side r.comes.handed.before) z.course.0 p) k.on ends)
+        z.execution.1 (subst (λ p. EndsAlong mac answers (own side (awaited over all k reply r)) (at side k.sent.following) (at side r.comes.handed.before) z.execution.0 p) k.on ends)
 
     -- the awaited ones are in the segment
     pub awaited_in : (over : Path) (all : List (Occurrence H P)) (k : HandedCheck mac side path over all) (reply : Packet) (r : IsReturned mac side path over all k reply) (x : Occurrence H P)

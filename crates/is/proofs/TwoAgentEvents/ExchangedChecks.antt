@@ -57,9 +57,9 @@ module _ {H P : Type 0} (mac : H → List ℕ → List ℕ → List ℕ) (answer
     receipt = record {
       mid = at side r.comes.handed.before;
       calls = own mac answers side (awaited mac answers side path whole over all k reply r);
-      course = z.course.0;
+      execution = z.execution.0;
       limit = r.pending.limit;
-      keeps = z.course.2;
+      keeps = z.execution.2;
       few = z.few;
       know = z.know;
       taken = at side r.comes.handed.following;

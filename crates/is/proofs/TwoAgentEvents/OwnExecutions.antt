@@ -7,9 +7,9 @@ use Rattle.is_proto.specs.Packets.{Packet}
 use Rattle.is_candidate.specs.Candidates.{CandidateRecord}
 use Rattle.is_rules.specs.declared.emitted.Path.{Path}
 use Rattle.is_rules.specs.Agent.{AgentRecord}
-use Rattle.is_theorems.specs.Courses.{ControlsAlong}
+use Rattle.is_theorems.specs.Executions.{ControlsAlong}
 use Rattle.is_rules.specs.Effects.{PathTheorem, last_of}
-use Rattle.is_theorems.specs.Exchange.{AreBetween, Course}
+use Rattle.is_theorems.specs.Exchange.{AreBetween, Execution}
 use Rattle.is_rules.specs.Polls.{PollsTransmit, IsPolled}
 use Rattle.is_theorems.specs.Reached.{is_in_round}
 use Rattle.is_theorems.specs.Rounds.{is_between, is_poll}
@@ -67,11 +67,11 @@ polls_pass side (world.Poll s) polls = tt
 polls_pass side (world.Deliver place now path) polls = tt
 polls_pass side (world.Stray s now path bytes) polls = tt
 
-in_round_passes : {P : Type 0} (side : Side) (v : Event P) → MakesInRound side v → Passes is_in_round side v
-in_round_passes side (world.Call s c) calls = calls
-in_round_passes side (world.Poll s) calls = tt
-in_round_passes side (world.Deliver place now path) calls = tt
-in_round_passes side (world.Stray s now path bytes) calls = tt
+in_round_passes : {P : Type 0} (modern : Bool) (side : Side) (v : Event P) → MakesInRound modern side v → Passes (λ c. is_in_round modern c) side v
+in_round_passes modern side (world.Call s c) calls = calls
+in_round_passes modern side (world.Poll s) calls = tt
+in_round_passes modern side (world.Deliver place now path) calls = tt
+in_round_passes modern side (world.Stray s now path bytes) calls = tt
 
 -- ---- what a side does at an event
 
@@ -109,34 +109,34 @@ module _ {H P : Type 0} where
   pub acts_between : (side : Side) (w : WorldRecord H P) (v : Event P) (e : Entry) → MakesPolls side v → AreBetween (acts side w v e)
   acts_between side w v e polls = acts_pass is_between (λ now via bytes. refl) refl side w v e (polls_pass side v polls)
 
-  pub acts_in_round : (side : Side) (w : WorldRecord H P) (v : Event P) (e : Entry) → MakesInRound side v → (y : agent.Call P × Entry) → Has (acts side w v e) y → is_in_round y.0 ≡ true
-  acts_in_round side w v e calls = acts_pass is_in_round (λ now via bytes. refl) refl side w v e (in_round_passes side v calls)
+  pub acts_in_round : (modern : Bool) (side : Side) (w : WorldRecord H P) (v : Event P) (e : Entry) → MakesInRound modern side v → (y : agent.Call P × Entry) → Has (acts side w v e) y → is_in_round modern y.0 ≡ true
+  acts_in_round modern side w v e calls = acts_pass (λ c. is_in_round modern c) (λ now via bytes. refl) refl side w v e (in_round_passes modern side v calls)
 
   module _ (mac : H → List ℕ → List ℕ → List ℕ) (answers : P → CandidateRecord → ℕ → ℕ → Type 0) where
     -- ---- per-agent executions
 
-    pub course_on : (xs ys : List (agent.Call P × Entry)) (a b c : AgentRecord H P) → Course mac answers xs a b → Course mac answers ys b c → Course mac answers (xs ++ ys) a c
-    course_on [] ys a b c is more = subst (λ (z : AgentRecord H P). Course mac answers ys z c) is more
-    course_on (x ∷ xs) ys a b c (mid, s, t, based, step, on) more = (mid, s, t, based, step, course_on xs ys mid b c on more)
+    pub execution_on : (xs ys : List (agent.Call P × Entry)) (a b c : AgentRecord H P) → Execution mac answers xs a b → Execution mac answers ys b c → Execution mac answers (xs ++ ys) a c
+    execution_on [] ys a b c is more = subst (λ (z : AgentRecord H P). Execution mac answers ys z c) is more
+    execution_on (x ∷ xs) ys a b c (mid, s, t, based, step, on) more = (mid, s, t, based, step, execution_on xs ys mid b c on more)
 
     -- controlling after each call
     abbrev pub Steered : List (agent.Call P × Entry) → AgentRecord H P → AgentRecord H P → Type 0
-    Steered xs a b = (course : Course mac answers xs a b) × ControlsAlong mac answers xs a b course
+    Steered xs a b = (execution : Execution mac answers xs a b) × ControlsAlong mac answers xs a b execution
 
     pub steered_on : (xs ys : List (agent.Call P × Entry)) (a b c : AgentRecord H P) → Steered xs a b → Steered ys b c → Steered (xs ++ ys) a c
     steered_on [] ys a b c (is, along) more = subst (λ (z : AgentRecord H P). Steered ys z c) is more
     steered_on (x ∷ xs) ys a b c ((mid, s, t, based, step, on), (role, along)) more =
         let k = steered_on xs ys mid b c (on, along) more in ((mid, s, t, based, step, k.0), (role, k.1))
 
-    pub sound_course : PathTheorem {H = H} {P = P} mac answers → (xs : List (agent.Call P × Entry)) (a b : AgentRecord H P) → IsSound a → Course mac answers xs a b → IsSound b
-    sound_course paths [] a b sound is = subst (λ (z : AgentRecord H P). IsSound z) (sym is) sound
-    sound_course paths (x ∷ xs) a b sound (mid, s, t, based, step, more) = sound_course paths xs mid b (paths a mid s t x.0 x.1 sound based step).1 more
+    pub sound_execution : PathTheorem {H = H} {P = P} mac answers → (xs : List (agent.Call P × Entry)) (a b : AgentRecord H P) → IsSound a → Execution mac answers xs a b → IsSound b
+    sound_execution paths [] a b sound is = subst (λ (z : AgentRecord H P). IsSound z) (sym is) sound
+    sound_execution paths (x ∷ xs) a b sound (mid, s, t, based, step, more) = sound_execution paths xs mid b (paths a mid s t x.0 x.1 sound based step).1 more
 
     -- ---- one event
 
     -- a per-agent execution, and one in the controlling role if the agent is controlling after it
     abbrev Acts : List (agent.Call P × Entry) → AgentRecord H P → AgentRecord H P → Type 0
-    Acts xs a b = (course : Course mac answers xs a b) × (b.controlling ≡ true → ControlsAlong mac answers xs a b course)
+    Acts xs a b = (execution : Execution mac answers xs a b) × (b.controlling ≡ true → ControlsAlong mac answers xs a b execution)
 
     pub turn_new : (w w' : WorldRecord H P) (s t : Streams) (side : Side) (c : agent.Call P) (e : Outcome) → (k : TakesTurn mac answers w s side c e w' t) → at side w' ≡ k.new
     turn_new w w' s t A c e k = ap (λ (v : WorldRecord H P). at A v) k.world
@@ -248,11 +248,11 @@ module _ {H P : Type 0} where
     -- ---- an execution
 
     pub sound_on : PathTheorem {H = H} {P = P} mac answers → (w w' : WorldRecord H P) (s t : Streams) (x : LoggedEvent P) → AreSound w → Happens mac answers w s x.event x.outcome w' t → AreSound w'
-    sound_on paths w w' s t x sound h z = sound_course paths (acts z w x.event x.outcome.entry) (at z w) (at z w') (sound z) (act w w' s t z x.event x.outcome h).0
+    sound_on paths w w' s t x sound h z = sound_execution paths (acts z w x.event x.outcome.entry) (at z w) (at z w') (sound z) (act w w' s t z x.event x.outcome h).0
 
-    pub acts_course : (w w' : WorldRecord H P) (s t : Streams) (side : Side) (x : LoggedEvent P) → Happens mac answers w s x.event x.outcome w' t
-        → Course mac answers (acts side w x.event x.outcome.entry) (at side w) (at side w')
-    acts_course w w' s t side x h = (act w w' s t side x.event x.outcome h).0
+    pub acts_execution : (w w' : WorldRecord H P) (s t : Streams) (side : Side) (x : LoggedEvent P) → Happens mac answers w s x.event x.outcome w' t
+        → Execution mac answers (acts side w x.event x.outcome.entry) (at side w) (at side w')
+    acts_execution w w' s t side x h = (act w w' s t side x.event x.outcome h).0
 
     pub acts_steered : (w w' : WorldRecord H P) (s t : Streams) (side : Side) (x : LoggedEvent P) → Happens mac answers w s x.event x.outcome w' t → (at side w').controlling ≡ true
         → Steered (acts side w x.event x.outcome.entry) (at side w) (at side w')

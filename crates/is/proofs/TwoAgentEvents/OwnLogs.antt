@@ -6,7 +6,7 @@ use Rattle.is_proto.specs.Packets.{Packet}
 use Rattle.is_candidate.specs.Candidates.{CandidateRecord}
 use Rattle.is_rules.specs.declared.emitted.Path.{Path}
 use Rattle.is_rules.specs.Agent.{AgentRecord}
-use Rattle.is_theorems.specs.Exchange.{Course}
+use Rattle.is_theorems.specs.Exchange.{Execution}
 use Rattle.is_theorems.specs.Logs as agent_log
 use Rattle.is_rules.specs.Steps as agent
 use Rattle.is_rules.specs.Steps.{Answer, Entry, Rejected}
@@ -18,7 +18,7 @@ use Rattle.is.specs.Sides.{only, polled_as, received_as, acts, own_at, own_log}
 use Rattle.is.specs.World as world
 use Rattle.is.specs.World.{WorldRecord, InFlightRecord, Event, at, other, in_world}
 use Rattle.is.proofs.TwoAgentEvents.EventsOfSegments.{Follow}
-use Rattle.is.proofs.TwoAgentEvents.OwnExecutions.{acts_course}
+use Rattle.is.proofs.TwoAgentEvents.OwnExecutions.{acts_execution}
 
 -- ---- one event: at most one call
 
@@ -62,13 +62,13 @@ module _ {H P : Type 0} (mac : H → List ℕ → List ℕ → List ℕ) (answer
     abbrev pub Led : List (agent_log.Logged P) → AgentRecord H P → Type 0
     Led log last = (run : SharedRun mac answers first log last) × BeforeEach mac answers Fits first log last run
 
-    longer : (n : ℕ) (xs : List (agent.Call P × Entry)) (log : List (agent_log.Logged P)) (old new : AgentRecord H P) → AtMostOne xs → Course mac answers xs old new
+    longer : (n : ℕ) (xs : List (agent.Call P × Entry)) (log : List (agent_log.Logged P)) (old new : AgentRecord H P) → AtMostOne xs → Execution mac answers xs old new
         → ((y : agent_log.Logged P) → Has (numbered n xs) y → Fits old y) → Led log old → Led (numbered n xs ++ log) new
     longer n [] log old new one is fits led = subst (λ (a : AgentRecord H P). Led log a) (sym is) led
     longer n (x ∷ []) log old new one (mid, s, t, based, step, is) fits led =
         subst (λ (a : AgentRecord H P). Led (numbered n (x ∷ []) ++ log) a) (sym is)
         ((old, s, t, led.0, based, step), (fits (record { number = n; call = x.0; entry = x.1 }) (inl refl), led.1))
-    longer n (x ∷ y ∷ rest) log old new one course fits led = absurd one
+    longer n (x ∷ y ∷ rest) log old new one execution fits led = absurd one
 
     pub along : (side : Side) (xs : List (Occurrence H P)) (w last : WorldRecord H P) (log : List (agent_log.Logged P)) → Follow mac answers w xs last
         → ((z : Occurrence H P) → Has xs z → (y : agent_log.Logged P) → Has (own_at side z) y → Fits (at side z.before) y)
@@ -77,7 +77,7 @@ module _ {H P : Type 0} (mac : H → List ℕ → List ℕ → List ℕ) (answer
     along side (x ∷ rest) w last log (from, s, t, happens, more) fits led =
         along side rest x.following last (own_at side x ++ log) more (λ z has. fits z (inr has))
         (longer x.entry.number (acts side x.before x.entry.event x.entry.outcome.entry) log (at side x.before) (at side x.following)
-        (acts_once side x.before x.entry.event x.entry.outcome.entry) (acts_course mac answers x.before x.following s t side x.entry happens)
+        (acts_once side x.before x.entry.event x.entry.outcome.entry) (acts_execution mac answers x.before x.following s t side x.entry happens)
         (fits x (inl refl)) (subst (λ (v : WorldRecord H P). Led log (at side v)) (sym from) led))
 
   pub ends : (xs : List (Occurrence H P)) (x : Occurrence H P) (w last : WorldRecord H P) → Follow mac answers w (xs ++ x ∷ []) last → last ≡ x.following

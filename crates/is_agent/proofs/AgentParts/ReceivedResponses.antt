@@ -23,8 +23,8 @@ use Rattle.is_rules.specs.Roles.{keeps_role, switched}
 use Rattle.is_rules.specs.Sending.{path_of}
 use Rattle.is_rules.specs.Serving.{Drops}
 use Rattle.is_rules.specs.Accepting.{IsAcceptedAs, IsAcceptedOn, Arrives}
-use Rattle.is_rules.specs.Answers.{after_error, error_noted, goes_back, is_role_conflict, keeps_check_on, local_with, success_counted}
-use Rattle.is_rules.specs.Answers.{Concludes, LeavesRole, TakesFailure, TakesSuccess}
+use Rattle.is_rules.specs.Answers.{after_error, error_noted, is_reverse, is_role_conflict, keeps_check_on, local_with, success_counted}
+use Rattle.is_rules.specs.Answers.{Concludes, LeavesRole, HandlesFailure, HandlesSuccess}
 
 -- a 487 to a check that the pair stores switches the role or not
 role-left : {H P : Type 0} (old new : AgentRecord H P) (m : Message) (p : PairRecord) (present keeps : Bool)
@@ -97,14 +97,14 @@ pub error-awaited : {H P : Type 0} (old noted : AgentRecord H P) (via : Path) (m
     → IfSome (pair_numbered number noted.pairs) (λ (p : PairRecord). IsTrue (is_kept m.id p.checks))
 error-awaited {H = H} {P = P} old noted via m number (p, found, on) is =
     let at : pair_numbered number noted.pairs ≡ Some (after_error m p) = ap (λ (a : AgentRecord H P). pair_numbered number a.pairs) is ∙ error-found number m old.pairs p found in
-    let kept : is_kept m.id p.checks ≡ true = (both (keeps_check m.id p) (goes_back via (path_of old p)) on).0 in
+    let kept : is_kept m.id p.checks ≡ true = (both (keeps_check m.id p) (is_reverse via (path_of old p)) on).0 in
     subst (λ (o : Option PairRecord). IfSome o (λ (x : PairRecord). IsTrue (is_kept m.id x.checks))) (sym at)
     (subst (λ (cs : List Check). IsTrue (is_kept m.id cs)) (sym (error-checks m p)) kept)
 
 -- it takes the error response
 pub failure-taken : {H P : Type 0} (old noted new : AgentRecord H P) (via : Path) (m : Message) (number : ℕ) → KeepsCheckOn old via m.id number → noted ≡ error_noted number m old
     → MatchBool (is_role_conflict m) (IfSome (pair_numbered number noted.pairs) (λ (p : PairRecord). LeavesRole p m noted nothing_emitted new)) (new ≡ noted)
-    → TakesFailure old via m nothing_emitted new
+    → HandlesFailure old via m nothing_emitted new
 failure-taken {H = H} {P = P} old noted new via m number (p, found, on) is h =
     let at : pair_numbered number noted.pairs ≡ Some (after_error m p) = ap (λ (a : AgentRecord H P). pair_numbered number a.pairs) is ∙ error-found number m old.pairs p found in
     let has = find-Some (is_numbered number) old.pairs p found in
@@ -135,7 +135,7 @@ same-pair number ps p q one other = ap (λ o. unwrap_or o p) (sym other ∙ one)
 pub success-taken : {H P : Type 0} (now : ℕ) (old recorded new : AgentRecord H P) (path : Path) (m : Message) (emitted : Emitted) (number : ℕ) (p : PairRecord) (local : List CandidateRecord)
     → rises old.pairs ≡ true → pair_numbered number old.pairs ≡ Some p → keeps_check_on old path m.id p ≡ true
     → local ≡ local_with p m.attributes.xor_mapped_address (success_counted old)
-    → IsRecorded number now m.id local old recorded → Concludes now recorded emitted new → TakesSuccess now old path m emitted new
+    → IsRecorded number now m.id local old recorded → Concludes now recorded emitted new → HandlesSuccess now old path m emitted new
 success-taken now old recorded new path m emitted number p local rising found kept new_mapped_candidate (pairs, (q, after, there, takes, put), is) concludes =
     let same = same-pair number old.pairs p q found there in
     let taken = subst (λ (x : PairRecord). TakesAnswer x now m.id after) same takes in

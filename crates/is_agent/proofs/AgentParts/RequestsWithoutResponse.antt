@@ -25,8 +25,8 @@ use Rattle.is_rules.specs.Request.{RequestRecord, request_in}
 use Rattle.is_stun.specs.Message.{Message}
 use Rattle.is_rules.specs.Roles.{conflict_of, switched, switched_sides, with_priority_in}
 use Rattle.is_rules.specs.Serving.{Drops, Queues, Joins, FindsOrAddsPair, RecordsAndResponds, AddsPairAndResponds, AddsUnknownSender, FindsSender}
-use Rattle.is_rules.specs.Serving.{CountsAndServes, ResolvesRoleConflictBy, ResolvesRoleConflict, ServesHere, Serves, TakesRequest, Chooses}
-use Rattle.is_rules.specs.Serving.{is_misled, names_another, request_counted, with_sender, with_sender_at}
+use Rattle.is_rules.specs.Serving.{CountsAndServes, ResolvesRoleConflictBy, ResolvesRoleConflict, ServesHere, Serves, HandlesRequest, Chooses}
+use Rattle.is_rules.specs.Serving.{is_misled, is_for_other_peer, request_counted, with_sender, with_sender_at}
 use Rattle.is_agent.specs.declared.unserved.Unserved.{Unserved}
 use Rattle.is_agent.specs.declared.unserved.Unserved.TheVariants.{Early, OtherDestination, UseCandidate, SenderInvalidated, SendersAtLimit, LocalInvalidated}
 use Rattle.is_agent.specs.Ready.{NamesPeer}
@@ -196,7 +196,7 @@ module _ {H P : Type 0} (mac : H → List ℕ → List ℕ → List ℕ) where
 
   -- by the local candidate
   here : (emitted : Emitted) (new a : AgentRecord H P) (q : RequestRecord) (why : Option Unserved) (place : Option ℕ) → local_place a.local q ≡ place
-      → names_another a q ≡ false → HasOneReason a q → MatchOption place (why ≡ Some OtherDestination) (λ _. IsUnservedIn a q why)
+      → is_for_other_peer a q ≡ false → HasOneReason a q → MatchOption place (why ≡ Some OtherDestination) (λ _. IsUnservedIn a q why)
       → MatchOption place (Drops a emitted new) (λ l. ResolvesRoleConflict mac q l a emitted new) → Says emitted why
   here emitted new a q why None e names one because h = drops emitted why OtherDestination h.0 because
   here emitted new a q why (Some l) e names one (at, chosen, is) h =
@@ -205,10 +205,10 @@ module _ {H P : Type 0} (mac : H → List ℕ → List ℕ → List ℕ) where
 
   pub reports : (a : AgentRecord H P) (q : RequestRecord) (why : Option Unserved) → NamesPeer a q → IsUnserved a q why → ReportsResponse mac a q why
   reports a q why names is one emitted new h = by a.remote_creds names is h where
-    by : (creds : Option IceCreds) → IfSome creds (λ _. names_another a q ≡ false) → MatchOption creds (why ≡ Some Early) (λ _. IsUnservedHere a q why)
+    by : (creds : Option IceCreds) → IfSome creds (λ _. is_for_other_peer a q ≡ false) → MatchOption creds (why ≡ Some Early) (λ _. IsUnservedHere a q why)
         → MatchOption creds (Queues q a emitted new) (λ _. Serves mac q a emitted new) → Says emitted why
     by None names because queues = drops emitted why Early queues.0 because
-    by (Some creds) names is serves = past (names_another a q) names serves where
+    by (Some creds) names is serves = past (is_for_other_peer a q) names serves where
       past : (b : Bool) → b ≡ false → MatchBool b (Drops a emitted new) (ServesHere mac q a emitted new) → Says emitted why
       past false refused served = here emitted new a q why (local_place a.local q) refl names one is served
       past true another served = absurd (cc)

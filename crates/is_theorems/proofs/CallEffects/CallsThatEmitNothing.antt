@@ -6,14 +6,14 @@ use Rattle.rand_core.specs.Stream.{Stream}
 use Rattle.is_proto.specs.declared.error.IceError.{IceError}
 use Rattle.is_candidate.specs.Candidates.{CandidateRecord, IsBased, candidate_at}
 use Rattle.is_stun.specs.declared.timing.StunTiming.{StunTiming}
-use Rattle.is_rules.specs.Steps.{Answer, Done, Flag, Polled, Happened, NextTimeout, NotCalled, Rejected, Entry, quiet, added, done}
+use Rattle.is_rules.specs.Steps.{Answer, Done, Flag, Polled, Happened, NextTimeout, NotCalled, Rejected, Entry, quiet, added, answer_by, done}
 use Rattle.is_rules.specs.declared.emitted.Emitted.{Emitted}
 use Rattle.is_rules.specs.declared.emitted.Path.{Path}
 use Rattle.is_rules.specs.Emitted.{nothing_emitted, selected_only}
 use Rattle.is_rules.specs.Sound.{KeepsChecks}
 use Rattle.is_rules.specs.Agent.{AgentRecord}
 use Rattle.is_rules.specs.Forming.{Combination, FormsAll}
-use Rattle.is_rules.specs.Settings.{with_consent, with_profile, SetsControlling, SetsMtu, with_rtos, with_retransmits, with_lite_timeout}
+use Rattle.is_rules.specs.Settings.{with_consent, with_profile, SetsMtu, with_rtos, with_retransmits, with_lite_timeout}
 use Rattle.is_rules.specs.Credentials.{SetsLocal, SetsRemote}
 use Rattle.is_rules.specs.Discarding.{change_place, discarded, local_discarded, remote_discarded, local_to_discard, remote_to_discard, InvalidatesAt, Invalidates}
 use Rattle.is_rules.specs.Nominating.{with_selection, nominated_emitted}
@@ -23,7 +23,7 @@ use Rattle.is_rules.specs.Remote.{as_remote, with_remote, AddsRemote}
 use Rattle.is_rules.specs.Restarting.{with_ufrag, kept_local, restarted, emptied, Restarts, Recreates}
 use Rattle.is_rules.specs.Steps.{Call, SetMtu, SetControlTieBreaker, SetMaxCandidatePairs, SetMaxDiscovered, SetIceLite, SetRenomination, SetConsent, SetProfile, SetTimingAdvance, SetInitialStunRto, SetMaxStunRto, SetMaxStunRetransmits, SetLiteTimeout, SetLocalPreference, SetControlling, SetLocalCredentials, SetRemoteCredentials, SkipPairIds, AddLocalCandidate, AddRemoteCandidate, InvalidateCandidate, RestartIce, RecreateCandidatePairs, ReceivePacket, HandleTimeout, PollTransmit, PollTimeout, PollEvent, Becomes, MayDo, MaySelect, Step}
 use Rattle.is_rules.specs.Sound.{GivesBased}
-use Rattle.is_theorems.proofs.CallEffects.FailedCallsAndNewAgents.{mtu_kept, controlling_kept, local_kept, remote_kept, restart_kept, recreation_kept, enrolment_kept, storing_kept, discard_kept}
+use Rattle.is_theorems.proofs.CallEffects.FailedCallsAndNewAgents.{mtu_kept, local_kept, remote_kept, restart_kept, recreation_kept, enrolment_kept, storing_kept}
 use Rattle.is_theorems.proofs.CallEffects.AddedCandidates.{by_adding_local, by_adding_remote, by_waking}
 use Rattle.is_theorems.proofs.RuleEffects.EarlierAndNewPairs.{Has-push}
 use Rattle.is_theorems.proofs.RuleEffects.ChangedPairs.{Has-map}
@@ -156,9 +156,8 @@ module _ {H P : Type 0} where
       becoming (Unit {0}) old (remote_discarded place old) new (local_alike (Unit {0}) old _ refl refl refl refl) h.1
   invalidates_at old new None None found h = same (Unit {0}) old new h.1
 
-  pub invalidates : (old new : AgentRecord H P) (c : CandidateRecord) (r : Result Bool IceError) → Invalidates old c r new → Keeps (Unit {0}) old new
-  invalidates old new c (Ok found) h = invalidates_at old new (local_to_discard c old) (remote_to_discard c old) found h
-  invalidates old new c (Err error) h = same (Unit {0}) old new (discard_kept old new c error h)
+  pub invalidates : (old new : AgentRecord H P) (c : CandidateRecord) (found : Bool) → Invalidates old c found new → Keeps (Unit {0}) old new
+  invalidates old new c found h = invalidates_at old new (local_to_discard c old) (remote_to_discard c old) found h
 
   recreates : (old new : AgentRecord H P) → Recreates old (Ok _) new → Keeps (Unit {0}) old new
   recreates old new (enough, forms) = forming (Unit {0}) old (emptied old) new _ (local_alike (Unit {0}) old _ refl refl refl refl) forms
@@ -203,8 +202,7 @@ module _ {H P : Type 0} where
     silent (SetMaxStunRetransmits n) is other h = retransmits (n == 0) n refl h
     silent (SetLiteTimeout by) is other h = becomes (SetLiteTimeout by) (with_lite_timeout by old) (record { selected_paths = refl; last = refl; checks = λ k. k; based = λ _ b. b }) h
     silent (SetLocalPreference object) is other h = becomes (SetLocalPreference object) _ (local_alike (Unit {0}) old _ refl refl refl refl) h
-    silent (SetControlling controlling) is other h = done_or (SetControlling controlling) (SetsControlling old controlling)
-        (λ k. becoming (Unit {0}) old _ new (local_alike (Unit {0}) old _ refl refl refl refl) k.1) (λ error k. controlling_kept old new controlling error k) h
+    silent (SetControlling controlling) is other h = becomes (SetControlling controlling) _ (local_alike (Unit {0}) old _ refl refl refl refl) h
     silent (SetLocalCredentials creds) is other h = done_or (SetLocalCredentials creds) (SetsLocal old creds)
         (λ k. becoming (Unit {0}) old _ new (local_alike (Unit {0}) old _ refl refl refl refl) k.1) (λ error k. local_kept old new creds error k) h
     silent (SetRemoteCredentials creds) is other h = done_or (SetRemoteCredentials creds) (SetsRemote old creds)
@@ -227,8 +225,8 @@ module _ {H P : Type 0} where
     silent PollEvent is other (given, emitted, (polled, made), drawn) = by PollEvent (Happened given) emitted (becoming (Unit {0}) old (record old { events = new.events }) new (local_alike (Unit {0}) old _ refl refl refl refl) made)
 
     -- a candidate is added or invalidated
-    selecting : {A : Type 0} (call : Call P) (to_answer : A → Answer) (Does : Result A IceError → AgentRecord H P → Type 0)
-        → ((mid : AgentRecord H P) (r : Result A IceError) → Does r mid → Keeps (GivesBased call) old mid)
+    selecting : {A : Type 0} (call : Call P) (to_answer : A → Answer) (Does : A → AgentRecord H P → Type 0)
+        → ((mid : AgentRecord H P) (r : A) → Does r mid → Keeps (GivesBased call) old mid)
         → MaySelect to_answer Does old s e new t → Reselected call old e new
     selecting call to_answer Does does (r, emitted, is, (path, mid, h, again, out), drawn) = record {
       mid = mid;
@@ -239,8 +237,8 @@ module _ {H P : Type 0} where
     }
 
     pub reselected : (call : Call P) → is_of_candidate call ≡ true → Step mac answers old s call e new t → Reselected call old e new
-    reselected (AddLocalCandidate c) is h = selecting (AddLocalCandidate c) added (AddsLocal answers old c) (λ mid r k. adds_local answers old mid c r k) h
-    reselected (AddRemoteCandidate c) is h = selecting (AddRemoteCandidate c) done (AddsRemote old c) (λ mid r k. adds_remote old mid c r k) h
+    reselected (AddLocalCandidate c) is h = selecting (AddLocalCandidate c) (answer_by added) (AddsLocal answers old c) (λ mid r k. adds_local answers old mid c r k) h
+    reselected (AddRemoteCandidate c) is h = selecting (AddRemoteCandidate c) (answer_by done) (AddsRemote old c) (λ mid r k. adds_remote old mid c r k) h
     reselected (InvalidateCandidate c) is h = selecting (InvalidateCandidate c) Flag (Invalidates old c) (λ mid r k. invalidates old mid c r k) h
     reselected call is h = never is
 

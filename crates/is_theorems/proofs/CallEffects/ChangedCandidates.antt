@@ -207,10 +207,9 @@ module _ (asks : Path → ℕ → Type 0) (met : Path → Type 0) (sent : Path �
     remote_goes old new c (Ok _) fit h = adds_remote_goes old new c fit h
     remote_goes old new c (Err error) fit h = same_goes old new fit (storing_kept old new c error h)
 
-    pub without_goes : (old new : AgentRecord H P) (c : CandidateRecord) (r : Result Bool IceError)
-        → Fit (parts_of asks met sent old) → Invalidates old c r new → Goes old new
-    without_goes old new c (Ok found) fit h = invalidates_goes old new (local_to_discard c old) (remote_to_discard c old) found fit h
-    without_goes old new c (Err error) fit h = same_goes old new fit h.1
+    pub without_goes : (old new : AgentRecord H P) (c : CandidateRecord) (found : Bool)
+        → Fit (parts_of asks met sent old) → Invalidates old c found new → Goes old new
+    without_goes old new c found fit h = invalidates_goes old new (local_to_discard c old) (remote_to_discard c old) found fit h
 
     -- another path may be selected after that
     pub reselects_goes : (loses : Bool) (old new : AgentRecord H P) (path : Option Path)

@@ -7,7 +7,7 @@ use Rattle.is_stun.specs.Message.{AttributesRecord}
 use Rattle.is_rules.specs.declared.emitted.Emitted.{Emitted}
 use Rattle.is_rules.specs.declared.roles.Conflict.TheVariants.{Absent, Send487, SwitchRole}
 use Rattle.is_rules.specs.Roles.{conflict_by, keeps_role, rival}
-use Rattle.is_rules.specs.Serving.{names_another}
+use Rattle.is_rules.specs.Serving.{is_for_other_peer}
 use Rattle.is_rules.specs.Issuing.{Says, IsIssued, via_out}
 use Rattle.is_theorems.proofs.CallEffects.PathAndTradeEffects.{path_theorem, trade_theorem}
 use Rattle.is_proto.specs.Lists.{Has}
@@ -350,8 +350,8 @@ module _ {H P : Type 0} (mac : H → List ℕ → List ℕ → List ℕ) (old ne
       ]
     ];
     settled = λ q is passes. (
-        let two = both (not (names_another old q)) (is_some (local_place old.local q)) passes in
-        t.settled q (serves_is old call e q is) (not_it (names_another old q) two.0, placed_at (local_place old.local q) two.1) ∙ role_by (keeps_role old) old.tie_breaker (rival old q) old.controlling);
+        let two = both (not (is_for_other_peer old q)) (is_some (local_place old.local q)) passes in
+        t.settled q (serves_is old call e q is) (not_it (is_for_other_peer old q) two.0, placed_at (local_place old.local q) two.1) ∙ role_by (keeps_role old) old.tie_breaker (rival old q) old.controlling);
     expired = λ unkept x is failure conflict. (
         let k = brings_is call e x is in
         rejected (t.expired unkept k.0 k.1 k.2 k.3 (ap (λ (y : Mail). y.class) k.4 ∙ failure) (ap (λ (y : Mail). y.is_conflict) k.4 ∙ conflict)));

@@ -8,9 +8,9 @@ use Rattle.is_candidate.specs.Candidates.{CandidateRecord}
 use Rattle.is_rules.specs.declared.credentials.IceCreds.{IceCreds}
 use Rattle.is_rules.specs.declared.emitted.Path.{Path}
 use Rattle.is_rules.specs.Emitted.{nothing_emitted, selected_only}
-use Rattle.is_rules.specs.Steps.{Answer, Done, Flag, Polled, Happened, NextTimeout, NotCalled, Entry, quiet, done, added, is_rejection}
+use Rattle.is_rules.specs.Steps.{Answer, Done, Flag, Polled, Happened, NextTimeout, NotCalled, Entry, quiet, done, added, answer_by, is_rejection}
 use Rattle.is_rules.specs.Agent.{AgentRecord}
-use Rattle.is_rules.specs.Settings.{SetsControlling, SetsMtu, with_retransmits}
+use Rattle.is_rules.specs.Settings.{SetsMtu, with_retransmits}
 use Rattle.is_rules.specs.Credentials.{SetsLocal, SetsRemote}
 use Rattle.is_rules.specs.Remote.{as_remote, is_ignored, JoinsRemote, AddsRemote}
 use Rattle.is_rules.specs.Restarting.{Restarts, Recreates}
@@ -20,7 +20,7 @@ use Rattle.is_rules.specs.Effects.{RejectionKeeps}
 use Rattle.is_candidate.specs.Candidates.{candidate_at}
 use Rattle.is_candidate.specs.Priorities.{candidate_priority}
 use Rattle.is_candidate.specs.Equality.{is_same_place}
-use Rattle.is_rules.specs.Discarding.{local_discarded, Invalidates}
+use Rattle.is_rules.specs.Discarding.{local_discarded}
 use Rattle.is_rules.specs.Local.{is_too_high, is_unwanted, comes_again, enabled, enabled_again, appended, as_own, preferred, Enters, EnrolsAt, AddsLocal}
 use Rattle.is_rules.specs.Settling.{settles, has_selected, loses_selected, Reselects}
 use Rattle.is_theorems.proofs.RuleEffects.UnchangedSettings.{either}
@@ -45,15 +45,6 @@ module _ {H P : Type 0} where
   mtu_kept old new target warn CredentialsTooLong h = absurd h
   mtu_kept old new target warn PriorityTooHigh h = absurd h
   mtu_kept old new target warn LiteStaysControlled h = absurd h
-
-  pub controlling_kept : (old new : AgentRecord H P) (controlling : Bool) (error : IceError) → SetsControlling old controlling (Err error) new → new ≡ old
-  controlling_kept old new controlling LiteStaysControlled h = h.1
-  controlling_kept old new controlling (BadCandidate text) h = absurd h
-  controlling_kept old new controlling OutOfMemory h = absurd h
-  controlling_kept old new controlling PairIdsExhausted h = absurd h
-  controlling_kept old new controlling MtuTooSmall h = absurd h
-  controlling_kept old new controlling CredentialsTooLong h = absurd h
-  controlling_kept old new controlling PriorityTooHigh h = absurd h
 
   pub local_kept : (old new : AgentRecord H P) (creds : IceCreds) (error : IceError) → SetsLocal old creds (Err error) new → new ≡ old
   local_kept old new creds CredentialsTooLong h = h.1
@@ -128,9 +119,6 @@ module _ {H P : Type 0} where
   pub storing_kept : (old new : AgentRecord H P) (c : CandidateRecord) (error : IceError) → AddsRemote old c (Err error) new → new ≡ old
   storing_kept old new c error h = either (is_ignored old c) h (λ _ k. absurd k) (λ _ k. joining_kept old new (as_remote c) error k)
 
-  pub discard_kept : (old new : AgentRecord H P) (c : CandidateRecord) (error : IceError) → Invalidates old c (Err error) new → new ≡ old
-  discard_kept old new c error h = h.1
-
   -- a call that changes nothing selects no path
   loses-none : (a : AgentRecord H P) → loses_selected a a ≡ false
   loses-none a = by (settles a) (has_selected a) where
@@ -159,7 +147,7 @@ module _ {H P : Type 0} where
     -- a call that may select another path
     pub selects : {A : Type 0} (to_answer : A → Answer) (Does : Result A IceError → AgentRecord H P → Type 0) → ((x : A) → is_rejection (to_answer x) ≡ false)
         → ((mid : AgentRecord H P) (error : IceError) → Does (Err error) mid → mid ≡ old)
-        → MaySelect to_answer Does old s e new t → is_rejection e.answer ≡ true → Kept × (e.emitted ≡ nothing_emitted)
+        → MaySelect (answer_by to_answer) Does old s e new t → is_rejection e.answer ≡ true → Kept × (e.emitted ≡ nothing_emitted)
     selects to_answer Does isnt kept (Ok x, emitted, is, h, same) r = no_rejection e (to_answer x) (ap (λ (y : Entry). y.answer) is) (isnt x) r
     selects to_answer Does isnt kept (Err error, emitted, is, (path, mid, h, again, out), same) r =
         let k = stays_same old mid new path (kept mid error h) again in
@@ -175,7 +163,7 @@ module _ {H P : Type 0} where
 
     pub selects_without : (c : CandidateRecord) → Step mac answers old s (InvalidateCandidate c) e new t
         → is_rejection e.answer ≡ true → Kept × (e.emitted ≡ nothing_emitted)
-    selects_without c h r = selects Flag (Invalidates old c) (λ b. refl) (λ mid error k. discard_kept old mid c error k) h r
+    selects_without c (found, emitted, is, h, same) r = no_rejection e (Flag found) (ap (λ (x : Entry). x.answer) is) refl r
 
     receives : (now : ℕ) (path : Path) (bytes : List ℕ) → Receives mac answers now old path bytes e new → is_rejection e.answer ≡ true → new ≡ old
     receives now path bytes (inl (fault, has, is, same)) r = same
@@ -202,7 +190,7 @@ module _ {H P : Type 0} where
     kept (SetMaxStunRetransmits n) h r = retransmits (n == 0) n h r
     kept (SetLiteTimeout by) h r = silent Done h.0 refl r
     kept (SetLocalPreference object) h r = silent Done h.0 refl r
-    kept (SetControlling controlling) h r = does (SetsControlling old controlling) (controlling_kept old new controlling) h r
+    kept (SetControlling controlling) h r = silent Done h.0 refl r
     kept (SetLocalCredentials creds) h r = does (SetsLocal old creds) (local_kept old new creds) h r
     kept (SetRemoteCredentials creds) h r = does (SetsRemote old creds) (remote_kept old new creds) h r
     kept (SkipPairIds n) h r = silent Done h.0 refl r

@@ -27,7 +27,7 @@ use Rattle.is_rules.specs.declared.roles.Conflict.TheVariants.{Send487}
 use Rattle.is_rules.specs.Agent.{AgentRecord}
 use Rattle.is_rules.specs.Sending.{path_of, carried}
 use Rattle.is_rules.specs.Roles.{conflict_by, conflict_of, switched, keeps_role}
-use Rattle.is_rules.specs.Settings.{SetsControlling, SetsMtu, with_retransmits}
+use Rattle.is_rules.specs.Settings.{SetsMtu, with_retransmits}
 use Rattle.is_rules.specs.Credentials.{SetsLocal, SetsRemote}
 use Rattle.is_rules.specs.Discarding.{Invalidates}
 use Rattle.is_rules.specs.Local.{AddsLocal}
@@ -37,14 +37,14 @@ use Rattle.is_rules.specs.Restarting.{Restarts, Recreates}
 use Rattle.is_rules.specs.Serving.{Drops, Serves, as_taken}
 use Rattle.is_rules.specs.Queue.{queued, first_taken, request_at}
 use Rattle.is_pair.specs.Multiset.{keeps_check}
-use Rattle.is_rules.specs.Answers.{keeps_check_on, goes_back, TakesSuccess, TakesFailure}
+use Rattle.is_rules.specs.Answers.{keeps_check_on, is_reverse, HandlesSuccess, HandlesFailure}
 use Rattle.is_rules.specs.Accepting.{Takes, IsAcceptedAs, IsAcceptedOn, discovered_emitted}
 use Rattle.is_rules.specs.Timeouts.{at_request, timeout_begun, MaintainsPairs, ServesQueued, TimesOut}
 use Rattle.is_rules.specs.Steps.{Call, SetMtu, SetControlTieBreaker, SetMaxCandidatePairs, SetMaxDiscovered, SetIceLite, SetRenomination, SetConsent, SetProfile, SetTimingAdvance, SetInitialStunRto, SetMaxStunRto, SetMaxStunRetransmits, SetLiteTimeout, SetLocalPreference, SetControlling, SetLocalCredentials, SetRemoteCredentials, SkipPairIds, AddLocalCandidate, AddRemoteCandidate, InvalidateCandidate, RestartIce, RecreateCandidatePairs, ReceivePacket, HandleTimeout, PollTransmit, PollTimeout, PollEvent, Becomes, MayDo, MaySelect, Receives, Step}
 use Rattle.is_rules.specs.Sound.{IsSound}
 use Rattle.is_rules.specs.Brought.{Brings, IsServing, IsAnswered}
 use Rattle.is_theorems.specs.Numbered.{IsNumberedByPeer, given}
-use Rattle.is_theorems.proofs.CallEffects.FailedCallsAndNewAgents.{mtu_kept, controlling_kept, local_kept, remote_kept, restart_kept, recreation_kept}
+use Rattle.is_theorems.proofs.CallEffects.FailedCallsAndNewAgents.{mtu_kept, local_kept, remote_kept, restart_kept, recreation_kept}
 use Rattle.is_theorems.proofs.RuleEffects.UnchangedSettings.{Frame, frame_of, packet_along}
 use Rattle.is_theorems.proofs.CallEffects.SettingsRoleAndQueues as frames
 use Rattle.is_theorems.proofs.RuleEffects.EarlierAndNewPairs.{Parts, Fit, IsNominatedIn, Onward, here, onward}
@@ -131,10 +131,10 @@ module _ {H P : Type 0} (mac : H → List ℕ → List ℕ → List ℕ) (answer
     done_or Does goes kept calm (Err error, is, h, drawn) = quietly (Rejected error) is calm (unmoved (kept error h))
 
     -- a candidate is added or invalidated, and then another path may be selected
-    selects : {A : Type 0} (to_answer : A → Answer) (Does : Result A IceError → AgentRecord H P → Type 0)
-        → ((mid : AgentRecord H P) (r : Result A IceError) → Does r mid → (frame_of mid ≡ frame_of old) × (mid.packets ≡ old.packets))
-        → ((mid : AgentRecord H P) (r : Result A IceError) → Does r mid → Moves call mid)
-        → ((mid : AgentRecord H P) (r : Result A IceError) → Does r mid → mid.selected_pair ≡ old.selected_pair)
+    selects : {A : Type 0} (to_answer : A → Answer) (Does : A → AgentRecord H P → Type 0)
+        → ((mid : AgentRecord H P) (r : A) → Does r mid → (frame_of mid ≡ frame_of old) × (mid.packets ≡ old.packets))
+        → ((mid : AgentRecord H P) (r : A) → Does r mid → Moves call mid)
+        → ((mid : AgentRecord H P) (r : A) → Does r mid → mid.selected_pair ≡ old.selected_pair)
         → MaySelect to_answer Does old s e new t → PairEffect call
     selects to_answer Does frames goes number (r, emitted, is, (path, mid, h, again, out), drawn) =
         let frame = (frames mid r h).0 in
@@ -313,10 +313,10 @@ module _ {H P : Type 0} (mac : H → List ℕ → List ℕ → List ℕ) (answer
         → Met packet (path_of old p)
     answers_path is p c has on keeps id_is =
         let peer = signed_by old.remote_creds refl (awaited class.Success is).1 in
-        let goes = both (keeps_check m.id p) (goes_back via (path_of old p)) on in
+        let goes = both (keeps_check m.id p) (is_reverse via (path_of old p)) on in
         inl (now, via, m, c.controlling, peer.0, brought, is, (p, c, has, keeps, id_is, refl, refl), peer.1, peer.2, goes.1)
 
-    failure_pairs : TakesFailure old via m emitted mid → PairEffect packet
+    failure_pairs : HandlesFailure old via m emitted mid → PairEffect packet
     failure_pairs h =
         let k : (emitted ≡ nothing_emitted) × (mid.selected_pair ≡ old.selected_pair) × Moves packet mid =
         by_failure (λ x a. (x ≡ nothing_emitted) × (a.selected_pair ≡ old.selected_pair) × Moves packet a) old mid via m emitted
@@ -324,7 +324,7 @@ module _ {H P : Type 0} (mac : H → List ℕ → List ℕ → List ℕ) (answer
         (λ code. (refl, refl, notes_and_switches (Asks packet) (Met packet) Sent code old fit)) h in
         drops_pairs mid k.2 k.1 (k.0, refl)
 
-    quiet_success : TakesSuccess now old via m emitted mid → emitted.issued ≡ None
+    quiet_success : HandlesSuccess now old via m emitted mid → emitted.issued ≡ None
     quiet_success (recorded, records_it, (path, named, nominating, is, done)) = ap (λ (x : Emitted). x.issued) is
 
     taken : (c : Class) → m.class ≡ c → Takes mac c now old via m emitted mid → PairEffect packet
@@ -390,8 +390,7 @@ module _ {H P : Type 0} (mac : H → List ℕ → List ℕ → List ℕ) (answer
   paired (SetMaxStunRetransmits n) sound h = retransmits (n == 0) n (fits (SetMaxStunRetransmits n) sound) (calms (SetMaxStunRetransmits n) refl refl h) h
   paired (SetLiteTimeout by) sound h = becomes (SetLiteTimeout by) (fits (SetLiteTimeout by) sound) _ (as_it_was (SetLiteTimeout by) sound) (calms (SetLiteTimeout by) refl refl h) h
   paired (SetLocalPreference object) sound h = becomes (SetLocalPreference object) (fits (SetLocalPreference object) sound) _ (as_it_was (SetLocalPreference object) sound) (calms (SetLocalPreference object) refl refl h) h
-  paired (SetControlling controlling) sound h = done_or (SetControlling controlling) (fits (SetControlling controlling) sound) (SetsControlling old controlling)
-      (λ k. subst (λ (a : AgentRecord H P). Moves (SetControlling controlling) a) (sym k.1) (as_it_was (SetControlling controlling) sound)) (λ error k. controlling_kept old new controlling error k) (calms (SetControlling controlling) refl refl h) h
+  paired (SetControlling controlling) sound h = becomes (SetControlling controlling) (fits (SetControlling controlling) sound) _ (as_it_was (SetControlling controlling) sound) (calms (SetControlling controlling) refl refl h) h
   paired (SetLocalCredentials creds) sound h = done_or (SetLocalCredentials creds) (fits (SetLocalCredentials creds) sound) (SetsLocal old creds)
       (λ k. subst (λ (a : AgentRecord H P). Moves (SetLocalCredentials creds) a) (sym k.1) (as_it_was (SetLocalCredentials creds) sound)) (λ error k. local_kept old new creds error k) (calms (SetLocalCredentials creds) refl refl h) h
   paired (SetRemoteCredentials creds) sound h = done_or (SetRemoteCredentials creds) (fits (SetRemoteCredentials creds) sound) (SetsRemote old creds)
@@ -401,12 +400,12 @@ module _ {H P : Type 0} (mac : H → List ℕ → List ℕ → List ℕ) (answer
       becomes call (fits call sound) _ (skips_goes (Asks call) (Met call) Sent old n (fits call sound)) (calms (SkipPairIds n) refl refl h) h
   paired (AddLocalCandidate c) sound h =
       let call : Call P = AddLocalCandidate c in
-      selects call (fits call sound) added (AddsLocal answers old c) (λ mid r k. frames.adds_local answers old mid c r k)
+      selects call (fits call sound) (answer_by added) (AddsLocal answers old c) (λ mid r k. frames.adds_local answers old mid c r k)
       (λ mid r k. local_goes (Asks call) (Met call) Sent answers old mid c r (fits call sound) k)
       (λ mid r k. (calls.adds_local answers old mid c r k).selected_paths) h
   paired (AddRemoteCandidate c) sound h =
       let call : Call P = AddRemoteCandidate c in
-      selects call (fits call sound) done (AddsRemote old c) (λ mid r k. frames.adds_remote old mid c r k)
+      selects call (fits call sound) (answer_by done) (AddsRemote old c) (λ mid r k. frames.adds_remote old mid c r k)
       (λ mid r k. remote_goes (Asks call) (Met call) Sent old mid c r (fits call sound) k) (λ mid r k. (calls.adds_remote old mid c r k).selected_paths) h
   paired (InvalidateCandidate c) sound h =
       let call : Call P = InvalidateCandidate c in

@@ -21,7 +21,7 @@ use Rattle.is_rules.specs.Emitted.{nothing_emitted, reversed}
 use Rattle.is_rules.specs.Sound.{KeepsChecks}
 use Rattle.is_rules.specs.Agent.{AgentRecord}
 use Rattle.is_rules.specs.Queue.{request_at, first_taken, queued}
-use Rattle.is_rules.specs.Answers.{is_left_out, local_with, mapped_candidate, success_counted, TakesSuccess, TakesFailure}
+use Rattle.is_rules.specs.Answers.{is_left_out, local_with, mapped_candidate, success_counted, HandlesSuccess, HandlesFailure}
 use Rattle.is_rules.specs.Accepting.{Takes}
 use Rattle.is_rules.specs.Serving.{Drops, Serves}
 use Rattle.is_rules.specs.Timeouts.{at_request, timeout_begun, MaintainsPairs, ServesQueued}
@@ -70,7 +70,7 @@ module _ {H P : Type 0} (mac : H → List ℕ → List ℕ → List ℕ) (answer
   new_mapped_candidate true cs c own h = h
   new_mapped_candidate false cs c own h = pushed_based cs c own h
 
-  success_persists : (now : ℕ) (old new : AgentRecord H P) (via : Path) (m : Message) (emitted : Emitted) → TakesSuccess now old via m emitted new → Persists old new
+  success_persists : (now : ℕ) (old new : AgentRecord H P) (via : Path) (m : Message) (emitted : Emitted) → HandlesSuccess now old via m emitted new → Persists old new
   success_persists now old new via m emitted (recorded, (i, p, after, found, on, takes, made), (path, mid, nominating, is, done)) =
       by_made old mid new (by_made old recorded mid recorded_persists (nominates_rest recorded mid path nominating)) (ap (λ (a : AgentRecord H P). rest_of a) done) where
         by_address : (address : Option _) → m.attributes.xor_mapped_address ≡ address → Persists old recorded
@@ -90,7 +90,7 @@ module _ {H P : Type 0} (mac : H → List ℕ → List ℕ → List ℕ) (answer
   drops_persist : (old new : AgentRecord H P) (emitted : Emitted) → Drops old emitted new → Persists old new
   drops_persist old new emitted h = rests old new (ap (λ (a : AgentRecord H P). rest_of a) h.1)
 
-  failure_persists : (old new : AgentRecord H P) (via : Path) (m : Message) (emitted : Emitted) → TakesFailure old via m emitted new → Persists old new
+  failure_persists : (old new : AgentRecord H P) (via : Path) (m : Message) (emitted : Emitted) → HandlesFailure old via m emitted new → Persists old new
   failure_persists old new via m emitted h =
       by_failure (λ _ a. Persists old a) old new via m emitted (λ code. rests old (recoded code old) refl) (λ code. rests old (switched (recoded code old)) refl) h
 

@@ -1,7 +1,7 @@
 -- Each transition queues a `NominatedSend` only for a path that it selects. What mutants/specifications changes is read by tactics.
 use Rattle.is_stun.specs.declared.header.Class.TheVariants as class
 use Rattle.is_theorems.proofs.CallEffects.AddedCandidates.{by_adding_local, by_adding_remote, by_waking}
-use Rattle.is_theorems.proofs.CallEffects.FailedCallsAndNewAgents.{controlling_kept, enrolment_kept, local_kept, mtu_kept, recreation_kept, remote_kept, restart_kept, storing_kept}
+use Rattle.is_theorems.proofs.CallEffects.FailedCallsAndNewAgents.{enrolment_kept, local_kept, mtu_kept, recreation_kept, remote_kept, restart_kept, storing_kept}
 use Rattle.is_theorems.proofs.RuleEffects.EarlierAndNewPairs.{Has-filter}
 use Rattle.is_theorems.proofs.RuleEffects.UnchangedSettings.{either}
 use Rattle.is_theorems.specs.Reporting.{EventsAreSelected, selecting}
@@ -11,7 +11,7 @@ use Rattle.is_pair.specs.Pairs.{PairRecord}
 use Rattle.is_proto.specs.Lists.{Has}
 use Rattle.is_rules.specs.Accepting.{Takes, discovered_emitted, is_passed_over}
 use Rattle.is_rules.specs.Agent.{AgentRecord}
-use Rattle.is_rules.specs.Answers.{TakesFailure, TakesSuccess}
+use Rattle.is_rules.specs.Answers.{HandlesFailure, HandlesSuccess}
 use Rattle.is_rules.specs.Checking.{ChecksTop, MayCheck, all_asked}
 use Rattle.is_rules.specs.Discarding.{InvalidatesAt, local_to_discard, remote_to_discard}
 use Rattle.is_rules.specs.Emitted.{selected_in, selected_only}
@@ -23,7 +23,7 @@ use Rattle.is_rules.specs.Queue.{first_taken, request_at}
 use Rattle.is_rules.specs.Request.{RequestRecord, request_in}
 use Rattle.is_rules.specs.Restarting.{cleared, emptied, events_kept, is_selection, restarted, unpaired}
 use Rattle.is_rules.specs.Roles.{conflict_of, switched}
-use Rattle.is_rules.specs.Serving.{AddsUnknownSender, CountsAndServes, Drops, FindsOrAddsPair, Queues, RecordsAndResponds, ResolvesRoleConflict, ResolvesRoleConflictBy, Serves, is_misled, names_another, pair_served, request_counted, selects_at_requests, trigger_time, with_sender, with_sender_at}
+use Rattle.is_rules.specs.Serving.{AddsUnknownSender, CountsAndServes, Drops, FindsOrAddsPair, Queues, RecordsAndResponds, ResolvesRoleConflict, ResolvesRoleConflictBy, Serves, is_misled, is_for_other_peer, pair_served, request_counted, selects_at_requests, trigger_time, with_sender, with_sender_at}
 use Rattle.is_rules.specs.Settings.{with_retransmits}
 use Rattle.is_rules.specs.Settling.{Reselects, loses_selected, settled, started, state_at_start, state_settled}
 use Rattle.is_rules.specs.States.{evaluated, has_nominated, has_possible, next_state, same_state, with_state}
@@ -175,7 +175,7 @@ module _ {H P : Type 0} (In : Path → Type 0) where
   -- ---- responses
 
   success_adds : (now : ℕ) (old new : AgentRecord H P) (via : Path) (m : Message) (emitted : Emitted)
-      → ((path : Path) → Has emitted.selected_paths (Some path) → In path) → TakesSuccess now old via m emitted new → Adds old new
+      → ((path : Path) → Has emitted.selected_paths (Some path) → In path) → HandlesSuccess now old via m emitted new → Adds old new
   success_adds now old new via m emitted may (recorded, (i, p, after, found, keeps, took, made), (o, mid, nominates, is, done)) =
       as-made old (evaluated now mid) new done
       (more old mid (evaluated now mid)
@@ -183,7 +183,7 @@ module _ {H P : Type 0} (In : Path → Type 0) where
       (nominates_adds recorded mid o (λ path x. may path (subst (λ (y : Emitted). Has y.selected_paths (Some path)) (sym is) (inl x))) nominates))
       (evaluated_adds now mid))
 
-  failure_adds : (old new : AgentRecord H P) (via : Path) (m : Message) (emitted : Emitted) → TakesFailure old via m emitted new → Adds old new
+  failure_adds : (old new : AgentRecord H P) (via : Path) (m : Message) (emitted : Emitted) → HandlesFailure old via m emitted new → Adds old new
   failure_adds old new via m emitted h = by_failure (λ _ a. Adds old a) old new via m emitted (λ code. same old (recoded code old) refl) (λ code. same old (switched (recoded code old)) refl) h
 
   forms_adds : (old new : AgentRecord H P) (all : List Combination) → FormsAll old all new → Adds old new
@@ -226,7 +226,7 @@ module _ {H P : Type 0} (In : Path → Type 0) where
     here (Some l) s new h = resolves (conflict_of s q) l s new h
 
     serves_adds : (s new : AgentRecord H P) → Serves mac q s emitted new → Adds s new
-    serves_adds s new h = either (names_another s q) h (λ _ k. kept s new k.1) (λ _ k. here (local_place s.local q) s new k)
+    serves_adds s new h = either (is_for_other_peer s q) h (λ _ k. kept s new k.1) (λ _ k. here (local_place s.local q) s new k)
 
     requested_adds : (remote : Option IceCreds) (s new : AgentRecord H P) → MatchOption remote (Queues q s emitted new) (λ _. Serves mac q s emitted new) → Adds s new
     requested_adds None s new h = same s new (ap (λ (a : AgentRecord H P). a.events) h.1)
@@ -313,8 +313,7 @@ module _ {H P : Type 0} (In : Path → Type 0) where
     steps old new s t (SetMaxStunRetransmits n) e may h = retransmits (n == 0) n old new s t e h
     steps old new s t (SetLiteTimeout by) e may h = same old new (ap (λ (a : AgentRecord H P). a.events) h.1)
     steps old new s t (SetLocalPreference object) e may h = same old new (ap (λ (a : AgentRecord H P). a.events) h.1)
-    steps old new s t (SetControlling controlling) e may (Ok _, reported, h, drawn) = same old new (ap (λ (a : AgentRecord H P). a.events) h.1)
-    steps old new s t (SetControlling controlling) e may (Err error, reported, h, drawn) = kept old new (controlling_kept old new controlling error h)
+    steps old new s t (SetControlling controlling) e may h = same old new (ap (λ (a : AgentRecord H P). a.events) h.1)
     steps old new s t (SetLocalCredentials creds) e may (Ok _, reported, h, drawn) = same old new (ap (λ (a : AgentRecord H P). a.events) h.1)
     steps old new s t (SetLocalCredentials creds) e may (Err error, reported, h, drawn) = kept old new (local_kept old new creds error h)
     steps old new s t (SetRemoteCredentials creds) e may (Ok _, reported, h, drawn) = same old new (ap (λ (a : AgentRecord H P). a.events) h.1)
@@ -330,10 +329,8 @@ module _ {H P : Type 0} (In : Path → Type 0) where
         (λ made. kept old mid made) (λ f. forms_adds _ mid _ f) (λ k _ addr f. forms_adds _ mid _ f))
     steps old new s t (AddRemoteCandidate c) e may (Err error, emitted, reported, (path, mid, h, again, is), drawn) =
         reselected old mid new path e _ emitted reported is may again (kept old mid (storing_kept old mid c error h))
-    steps old new s t (InvalidateCandidate c) e may (Ok found, emitted, reported, (path, mid, h, again, is), drawn) =
+    steps old new s t (InvalidateCandidate c) e may (found, emitted, reported, (path, mid, h, again, is), drawn) =
         reselected old mid new path e _ emitted reported is may again (invalidates old mid (local_to_discard c old) (remote_to_discard c old) found h)
-    steps old new s t (InvalidateCandidate c) e may (Err error, emitted, reported, (path, mid, h, again, is), drawn) =
-        reselected old mid new path e _ emitted reported is may again (kept old mid h.1)
     steps old new s t (RestartIce creds keep) e may (Ok _, reported, h, drawn) = restarts creds keep old new h.1
     steps old new s t (RestartIce creds keep) e may (Err error, reported, h, drawn) = kept old new (restart_kept old new creds keep error h)
     steps old new s t RecreateCandidatePairs e may (Ok _, reported, (some, h), drawn) = more old (unpaired old) new (unpaired_adds old) (more (unpaired old) (emptied old) new (state_adds Checking (unpaired old)) (forms_adds (emptied old) new _ h))

@@ -26,7 +26,7 @@ use Rattle.is_rules.specs.Sending.{path_of}
 use Rattle.is_rules.specs.Forming.{Combination, FormsAll}
 use Rattle.is_rules.specs.declared.roles.Conflict.TheVariants.{Absent, Send487, SwitchRole}
 use Rattle.is_rules.specs.Roles.{conflict_by, conflict_of, keeps_role, rival, switched}
-use Rattle.is_rules.specs.Settings.{SetsControlling, SetsMtu, with_retransmits, with_rtos}
+use Rattle.is_rules.specs.Settings.{controlling_set, SetsMtu, with_retransmits, with_rtos}
 use Rattle.is_rules.specs.Credentials.{SetsLocal, SetsRemote}
 use Rattle.is_rules.specs.Discarding.{InvalidatesAt, Invalidates, local_to_discard, remote_to_discard}
 use Rattle.is_rules.specs.Discarding.{local_discarded, remote_discarded}
@@ -36,7 +36,7 @@ use Rattle.is_rules.specs.Settling.{loses_selected, Reselects}
 use Rattle.is_rules.specs.Restarting.{Restarts, Recreates, restarted, emptied}
 use Rattle.is_rules.specs.Serving.{Drops, Serves}
 use Rattle.is_rules.specs.Queue.{queue_left, next_request, first_taken, request_at, queued, is_outdated}
-use Rattle.is_rules.specs.Answers.{error_noted, TakesFailure, LeavesRole, is_role_conflict}
+use Rattle.is_rules.specs.Answers.{error_noted, HandlesFailure, LeavesRole, is_role_conflict}
 use Rattle.is_rules.specs.Accepting.{Takes, discovered_emitted}
 use Rattle.is_rules.specs.Checking.{all_asked, MayCheck, ChecksTop, check_message}
 use Rattle.is_rules.specs.Timeouts.{at_request, timeout_begun, at_timeout, MaintainsPairs, ServesQueued, TimesOut}
@@ -44,8 +44,8 @@ use Rattle.is_rules.specs.Steps.{Call, SetMtu, SetControlTieBreaker, SetMaxCandi
 use Rattle.is_rules.specs.Brought.{Brings, IsServing, IsServedPastTests, SwitchesRoleFor, IsRejectedBy, IsRoleSet, role_once}
 use Rattle.is_rules.specs.Issuing.{QueuesPackets, Waits, WaitsPast, IsQueued}
 use Rattle.is_rules.specs.Effects.{tie_set_by, lite_set_by, keeping_set_by, local_after, remote_after}
-use Rattle.is_theorems.proofs.CallEffects.FailedCallsAndNewAgents.{mtu_kept, controlling_kept, local_kept, remote_kept, restart_kept, recreation_kept, enrolment_kept, storing_kept}
-use Rattle.is_theorems.proofs.RuleEffects.UnchangedSettings.{Frame, either, frame_of, packet_along, nominates_frame, Stays, Turns, drops, serves, serves_role, takes_success, removes_expired}
+use Rattle.is_theorems.proofs.CallEffects.FailedCallsAndNewAgents.{mtu_kept, local_kept, remote_kept, restart_kept, recreation_kept, enrolment_kept, storing_kept}
+use Rattle.is_theorems.proofs.RuleEffects.UnchangedSettings.{Frame, either, frame_of, packet_along, nominates_frame, Stays, Turns, drops, serves, serves_role, handles_success, removes_expired}
 use Rattle.is_theorems.proofs.CallEffects.AddedCandidates.{by_adding_local, by_adding_remote, by_waking}
 use Rattle.is_pair.specs.Due.{asked}
 use Rattle.std.specs.Prelude.{map}
@@ -103,6 +103,11 @@ same-either false x = refl
 -- the entry of a call that issues nothing, and may select this path
 abbrev choosing : Answer → Option Path → Entry
 choosing answer path = record { answer = answer; emitted = selected_only path }
+
+-- the role that `set_controlling` leaves or sets
+set-or-left : (keeps was role : Bool) → ((if keeps then was else role) ≡ was) ⊎ ((if keeps then was else role) ≡ role)
+set-or-left true was role = inl refl
+set-or-left false was role = inr refl
 
 -- an agent that keeps its role does not switch it
 never-switches : (keeps : Bool) (own : ℕ) (o : Option ℕ) → keeps ≡ true → conflict_by keeps own o ≡ SwitchRole → ⊥
@@ -206,9 +211,8 @@ module _ {H P : Type 0} where
   invalidates_at old new None (Some place) found h = same_record (remote_discarded place old) new h.1
   invalidates_at old new None None found h = same_record old new h.1
 
-  pub invalidates : (old new : AgentRecord H P) (c : CandidateRecord) (r : Result Bool IceError) → Invalidates old c r new → Alike old new
-  invalidates old new c (Ok found) h = invalidates_at old new (local_to_discard c old) (remote_to_discard c old) found h
-  invalidates old new c (Err error) h = same_record old new h.1
+  pub invalidates : (old new : AgentRecord H P) (c : CandidateRecord) (found : Bool) → Invalidates old c found new → Alike old new
+  invalidates old new c found h = invalidates_at old new (local_to_discard c old) (remote_to_discard c old) found h
 
   -- another path may be selected after the call
   reselects : (loses : Bool) (old mid new : AgentRecord H P) (path : Option Path) → Alike old mid → Reselects loses mid path new → Alike old new
@@ -421,7 +425,7 @@ module _ {H P : Type 0} where
       no_request c is differs request known = differs (sym is ∙ request)
 
       -- an error response: a 487 to a check of the present role switches it
-      failed : m.class ≡ class.Failure → TakesFailure old path m emitted mid → FrameEffect old call entry new
+      failed : m.class ≡ class.Failure → HandlesFailure old path m emitted mid → FrameEffect old call entry new
       failed is (p, has, on, h) = either (is_role_conflict m) h
           (λ conflict k. gives k conflict)
           (λ other k. still class.Failure is (but_queue (drops (error_noted p.number m old) mid emitted k)) (inl (ap (λ (f : Frame H). f.queue) (drops (error_noted p.number m old) mid emitted k).0)) (no_request class.Failure is (λ x. cc))
@@ -485,7 +489,7 @@ module _ {H P : Type 0} where
       taken : (c : Class) → m.class ≡ c → Takes mac c now old path m emitted mid → FrameEffect old call entry new
       taken class.Request is h = requested_by old.remote_creds refl is h
       taken class.Success is h =
-          let k = takes_success now old mid path m emitted h in
+          let k = handles_success now old mid path m emitted h in
           still class.Success is (but_queue k) (inl (ap (λ (f : Frame H). f.queue) k.0)) (no_request class.Success is (λ x. cc))
           (λ failure _. (let no : class.Success ≡ class.Failure = sym is ∙ failure in cc))
       taken class.Failure is h = failed is h
@@ -508,14 +512,14 @@ module _ {H P : Type 0} where
     done_or Does call done kept rejected (Err error, is, h, drawn) = unmoved call (quiet (Rejected error)) is (kept error h) (rejected error)
 
     -- a call that may select another path
-    chosen : {A : Type 0} (to_answer : A → Answer) (Does : Result A IceError → AgentRecord H P → Type 0) (call : Call P)
-        → ((mid : AgentRecord H P) (r : Result A IceError) → Does r mid → Alike old mid)
+    chosen : {A : Type 0} (to_answer : A → Answer) (Does : A → AgentRecord H P → Type 0) (call : Call P)
+        → ((mid : AgentRecord H P) (r : A) → Does r mid → Alike old mid)
         → ((answer : Answer) (path : Option Path) → Alike old new → FrameEffect old call (choosing answer path) new)
         → MaySelect to_answer Does old s e new t → FrameEffect old call e new
     chosen to_answer Does call does effect (r, emitted, is, (path, mid, h, again, out), drawn) =
         subst (λ (x : Entry). FrameEffect old call x new)
-        (sym (is ∙ ap (λ (x : Emitted). let f : Entry = record { answer = answer_by to_answer r; emitted = x } in f) out))
-        (effect (answer_by to_answer r) path (reselects (loses_selected old mid) old mid new path (does mid r h) again))
+        (sym (is ∙ ap (λ (x : Emitted). let f : Entry = record { answer = to_answer r; emitted = x } in f) out))
+        (effect (to_answer r) path (reselects (loses_selected old mid) old mid new path (does mid r h) again))
 
     alike_done : (call : Call P) (answer : Answer) → e ≡ quiet answer → FrameEffect old call (quiet answer) new → FrameEffect old call e new
     alike_done call answer is h = subst (λ (x : Entry). FrameEffect old call x new) (sym is) h
@@ -581,10 +585,8 @@ module _ {H P : Type 0} where
     framed (SetMaxStunRetransmits n) h = retransmits (n == 0) n h
     framed (SetLiteTimeout by) (is, made, drawn) = moved old new _ _ e _ is made (plain old _ _ _ refl refl refl refl refl refl refl (inl refl) (inl refl) (λ q h. absurd h.3) (λ at by m h. absurd h))
     framed (SetLocalPreference object) (is, made, drawn) = moved old new _ _ e _ is made (plain old _ _ _ refl refl refl refl refl refl refl (inl refl) (inl refl) (λ q h. absurd h.3) (λ at by m h. absurd h))
-    framed (SetControlling controlling) h = done_or (SetsControlling old controlling) (SetControlling controlling)
-        (λ k. moved old new _ _ _ _ refl k.1 (plain old _ _ _ refl refl refl refl refl refl refl (inl refl) (inr refl) (λ q h. absurd h.3) (λ at by m h. absurd h)))
-        (λ error k. controlling_kept old new controlling error k)
-        (λ error. plain old old _ _ refl refl refl refl refl refl refl (inl refl) (inl refl) (λ q h. absurd h.3) (λ at by m h. absurd h)) h
+    framed (SetControlling controlling) (is, made, drawn) = moved old new (controlling_set controlling old) _ e _ is made
+        (plain old (controlling_set controlling old) _ _ refl refl refl refl refl refl refl (inl refl) (set-or-left (keeps_role old && controlling) old.controlling controlling) (λ q h. absurd h.3) (λ at by m h. absurd h))
     framed (SetLocalCredentials creds) h = done_or (SetsLocal old creds) (SetLocalCredentials creds)
         (λ k. moved old new _ _ _ _ refl k.1 (plain old _ _ _ refl refl refl refl refl refl refl (inl refl) (inl refl) (λ q h. absurd h.3) (λ at by m h. absurd h)))
         (λ error k. local_kept old new creds error k)
@@ -594,11 +596,11 @@ module _ {H P : Type 0} where
         (λ error k. remote_kept old new creds error k)
         (λ error. plain old old _ _ refl refl refl refl refl refl refl (inl refl) (inl refl) (λ q h. absurd h.3) (λ at by m h. absurd h)) h
     framed (SkipPairIds n) (is, made, drawn) = moved old new _ _ e _ is made (plain old _ _ _ refl refl refl refl refl refl refl (inl refl) (inl refl) (λ q h. absurd h.3) (λ at by m h. absurd h))
-    framed (AddLocalCandidate c) h = chosen added (AddsLocal answers old c) (AddLocalCandidate c) (λ mid r k. adds_local answers old mid c r k)
+    framed (AddLocalCandidate c) h = chosen (answer_by added) (AddsLocal answers old c) (AddLocalCandidate c) (λ mid r k. adds_local answers old mid c r k)
         (λ answer path k. alike old new _ answer path k refl refl refl
         (same-either (is_done answer) old.local_creds) (same-either (is_done answer) old.remote_creds)
         (λ k. k) (λ k. inl k) (λ q h. absurd h.3) (λ at by m h. absurd h)) h
-    framed (AddRemoteCandidate c) h = chosen done (AddsRemote old c) (AddRemoteCandidate c) (λ mid r k. adds_remote old mid c r k)
+    framed (AddRemoteCandidate c) h = chosen (answer_by done) (AddsRemote old c) (AddRemoteCandidate c) (λ mid r k. adds_remote old mid c r k)
         (λ answer path k. alike old new _ answer path k refl refl refl
         (same-either (is_done answer) old.local_creds) (same-either (is_done answer) old.remote_creds)
         (λ k. k) (λ k. inl k) (λ q h. absurd h.3) (λ at by m h. absurd h)) h

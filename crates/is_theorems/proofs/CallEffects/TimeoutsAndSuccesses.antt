@@ -20,7 +20,7 @@ use Rattle.is_candidate.specs.Priorities.{check_priority}
 use Rattle.is_stun.specs.Checks.{binding_request, with_nomination}
 use Rattle.is_stun.specs.Writing.{written}
 use Rattle.is_pair.specs.Due.{asked}
-use Rattle.is_rules.specs.Answers.{keeps_check_on, Records, TakesSuccess}
+use Rattle.is_rules.specs.Answers.{keeps_check_on, Records, HandlesSuccess}
 use Rattle.is_rules.specs.Timeouts.{at_timeout, MaintainsPairs}
 use Rattle.is_rules.specs.declared.credentials.IceCreds.{IceCreds}
 use Rattle.is_rules.specs.declared.emitted.Issued.{Issued}
@@ -163,7 +163,7 @@ module _ (asks : Path → ℕ → Type 0) (met : Path → Type 0) (sent : Path �
   pub succeeds : (now : ℕ) (old new : AgentRecord H P) (via : Path) (m : Message) (emitted : Emitted)
       → ((old.controlling || old.lite) ≡ true → (p : Path) (m : ℕ) → asks p m)
       → ((p : PairRecord) (c : Check) → Has old.pairs p → keeps_check_on old via m.id p ≡ true → Has p.checks c → c.id ≡ m.id → met (path_of old p))
-      → Fit (parts_of asks met sent old) → TakesSuccess now old via m emitted new
+      → Fit (parts_of asks met sent old) → HandlesSuccess now old via m emitted new
       → Goes old new × Telling old emitted new
   succeeds now old new via m emitted free answers fit (recorded, records_it, (path, mid, nominating, is, done)) =
       let r = records asks met sent now old recorded via m fit answers records_it in

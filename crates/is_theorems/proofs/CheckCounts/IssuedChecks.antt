@@ -11,7 +11,7 @@ use Rattle.is_stun.specs.Message.{Message}
 use Rattle.is_stun.specs.Timing.{is_modern}
 use Rattle.is_rules.specs.Accepting.{Takes}
 use Rattle.is_rules.specs.Agent.{AgentRecord}
-use Rattle.is_rules.specs.Answers.{TakesFailure}
+use Rattle.is_rules.specs.Answers.{HandlesFailure}
 use Rattle.is_rules.specs.declared.credentials.IceCreds.{IceCreds}
 use Rattle.is_rules.specs.declared.emitted.Emitted.{Emitted}
 use Rattle.is_rules.specs.declared.emitted.Issued.{Issued}
@@ -25,7 +25,7 @@ use Rattle.is_rules.specs.Places.{local_place}
 use Rattle.is_rules.specs.Queue.{request_at}
 use Rattle.is_rules.specs.Request.{RequestRecord, request_in}
 use Rattle.is_rules.specs.Roles.{conflict_of, switched}
-use Rattle.is_rules.specs.Serving.{is_misled, names_another, request_counted, with_sender, with_sender_at, AddsUnknownSender, CountsAndServes, Drops, FindsOrAddsPair, Queues, RecordsAndResponds, ResolvesRoleConflict, ResolvesRoleConflictBy, Serves}
+use Rattle.is_rules.specs.Serving.{is_misled, is_for_other_peer, request_counted, with_sender, with_sender_at, AddsUnknownSender, CountsAndServes, Drops, FindsOrAddsPair, Queues, RecordsAndResponds, ResolvesRoleConflict, ResolvesRoleConflictBy, Serves}
 use Rattle.is_rules.specs.Steps.{Call, SetMtu, SetControlTieBreaker, SetMaxCandidatePairs, SetMaxDiscovered, SetIceLite, SetRenomination, SetConsent, SetProfile, SetTimingAdvance, SetInitialStunRto, SetMaxStunRto, SetMaxStunRetransmits, SetLiteTimeout, SetLocalPreference, SetControlling, SetLocalCredentials, SetRemoteCredentials, SkipPairIds, AddLocalCandidate, AddRemoteCandidate, InvalidateCandidate, RestartIce, RecreateCandidatePairs, ReceivePacket, HandleTimeout, PollTransmit, PollTimeout, PollEvent, Entry, Receives, Step}
 use Rattle.is_rules.specs.Timeouts.{at_request, timeout_begun, MaintainsPairs, ServesQueued}
 use Rattle.is_theorems.specs.CheckRate.{sends_check}
@@ -80,7 +80,7 @@ module _ {H P : Type 0} where
     here (Some l) s new emitted h = resolves (conflict_of s q) l s new emitted h
 
     responds : (s new : AgentRecord H P) (emitted : Emitted) → Serves mac q s emitted new → asks emitted ≡ false
-    responds s new emitted h = either (names_another s q) h
+    responds s new emitted h = either (is_for_other_peer s q) h
         (λ _ k. drops s new emitted k)
         (λ _ k. here (local_place s.local q) s new emitted k)
 
@@ -89,7 +89,7 @@ module _ {H P : Type 0} where
     requested (Some peer) s new emitted h = responds s new emitted h
 
   module _ (mac : H → List ℕ → List ℕ → List ℕ) (answers : P → CandidateRecord → ℕ → ℕ → Type 0) where
-    failure : (old new : AgentRecord H P) (via : Path) (m : Message) (emitted : Emitted) → TakesFailure old via m emitted new → asks emitted ≡ false
+    failure : (old new : AgentRecord H P) (via : Path) (m : Message) (emitted : Emitted) → HandlesFailure old via m emitted new → asks emitted ≡ false
     failure old new via m emitted h = by_failure (λ x _. asks x ≡ false) old new via m emitted (λ code. refl) (λ code. refl) h
 
     by-class : (c : Class) (now : ℕ) (old mid : AgentRecord H P) (via : Path) (m : Message) (emitted : Emitted) → Takes mac c now old via m emitted mid → asks emitted ≡ false

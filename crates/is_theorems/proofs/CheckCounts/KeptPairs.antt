@@ -27,14 +27,14 @@ use Rattle.is_rules.specs.declared.roles.Conflict.{Conflict}
 use Rattle.is_rules.specs.declared.roles.Conflict.TheVariants.{Absent, Send487, SwitchRole}
 use Rattle.is_rules.specs.Accepting.{Takes, HandlesPacket, discovered_emitted}
 use Rattle.is_rules.specs.Agent.{AgentRecord}
-use Rattle.is_rules.specs.Answers.{TakesFailure, TakesSuccess}
+use Rattle.is_rules.specs.Answers.{HandlesFailure, HandlesSuccess}
 use Rattle.is_rules.specs.Each.{Each}
 use Rattle.is_rules.specs.Forming.{Combination, combined_priority, formed, Formed, FormsAll, pair_of, SidesRecord, sides_of, Tries, with_pair}
 use Rattle.is_rules.specs.Nominating.{followed, nominated_by_self, Nominates, NominatesWhere, numbers, remains, selection_of}
 use Rattle.is_rules.specs.Places.{local_place}
 use Rattle.is_rules.specs.Request.{RequestRecord, request_in}
 use Rattle.is_rules.specs.Roles.{conflict_of, switched, switched_sides, with_priority_in}
-use Rattle.is_rules.specs.Serving.{after_request, AddsUnknownSender, as_taken, CountsAndServes, Drops, FindsOrAddsPair, is_misled, names_another, nominated_by_peer, numbered_by_peer, pair_served, Queues, RecordsAndResponds, request_counted, ResolvesRoleConflict, ResolvesRoleConflictBy, selects_at_requests, served, Serves, trigger_time, with_sender, with_sender_at}
+use Rattle.is_rules.specs.Serving.{after_request, AddsUnknownSender, as_taken, CountsAndServes, Drops, FindsOrAddsPair, is_misled, is_for_other_peer, nominated_by_peer, numbered_by_peer, pair_served, Queues, RecordsAndResponds, request_counted, ResolvesRoleConflict, ResolvesRoleConflictBy, selects_at_requests, served, Serves, trigger_time, with_sender, with_sender_at}
 use Rattle.is_rules.specs.Settling.{settled, Reselects}
 use Rattle.is_rules.specs.States.{evaluated}
 use Rattle.is_rules.specs.Steps.{Entry, Receives}
@@ -306,7 +306,7 @@ module _ (floor clock : ℕ) (Q : PairRecord → Type 0) where
 
       -- ---- responses
 
-      success-kept : (now : ℕ) (old new : AgentRecord H P) (via : Path) (m : Message) (emitted : Emitted) → TakesSuccess now old via m emitted new → Leads old new
+      success-kept : (now : ℕ) (old new : AgentRecord H P) (via : Path) (m : Message) (emitted : Emitted) → HandlesSuccess now old via m emitted new → Leads old new
       success-kept now old new via m emitted (recorded, (i, p, after, found, keeps, takes, made), (path, mid, nominates, is, done)) k =
           made-kept (evaluated now mid) new done (nominates-kept recorded mid path nominates (made-kept _ recorded made puts)) where
             number : after.number ≡ p.number
@@ -320,7 +320,7 @@ module _ (floor clock : ℕ) (Q : PairRecord → Type 0) where
       switched-kept : (a : AgentRecord H P) → Leads a (switched a)
       switched-kept a k = kept-map a.next_number (with_priority_in (switched_sides a)) a.pairs (λ p. refl) (λ p has q. s.ranked p _ q) k
 
-      failure-kept : (old new : AgentRecord H P) (via : Path) (m : Message) (emitted : Emitted) → TakesFailure old via m emitted new → Leads old new
+      failure-kept : (old new : AgentRecord H P) (via : Path) (m : Message) (emitted : Emitted) → HandlesFailure old via m emitted new → Leads old new
       failure-kept old new via m emitted h k =
           by_failure (λ _ a. Holds a) old new via m emitted notes (λ code. switched-kept (recoded code old) (notes code)) h where
             notes : (code : PairRecord → Option ℕ) → Holds (recoded code old)
@@ -363,7 +363,7 @@ module _ (floor clock : ℕ) (Q : PairRecord → Type 0) where
         here (Some l) a new emitted h k = resolves-by (conflict_of a q) l a new emitted h k
 
         pub serves-kept : (a new : AgentRecord H P) (emitted : Emitted) → Serves mac q a emitted new → Leads a new
-        serves-kept a new emitted h k = either (names_another a q) h (λ _ j. made-kept a new j.1 k) (λ _ j. here (local_place a.local q) a new emitted j k)
+        serves-kept a new emitted h k = either (is_for_other_peer a q) h (λ _ j. made-kept a new j.1 k) (λ _ j. here (local_place a.local q) a new emitted j k)
 
         requested : (remote : Option IceCreds) (a new : AgentRecord H P) (emitted : Emitted) → MatchOption remote (Queues q a emitted new) (λ _. Serves mac q a emitted new) → Leads a new
         requested None a new emitted h k = made-kept _ new h.1 k

@@ -12,7 +12,7 @@ use Rattle.is_rules.specs.Settling.{loses_selected, Reselects}
 use Rattle.is_rules.specs.Steps.{Call, SetMtu, SetControlTieBreaker, SetMaxCandidatePairs, SetMaxDiscovered, SetIceLite, SetRenomination, SetConsent, SetProfile, SetTimingAdvance, SetInitialStunRto, SetMaxStunRto, SetMaxStunRetransmits, SetLiteTimeout, SetLocalPreference, SetControlling, SetLocalCredentials, SetRemoteCredentials, SkipPairIds, AddLocalCandidate, AddRemoteCandidate, InvalidateCandidate, RestartIce, RecreateCandidatePairs, ReceivePacket, HandleTimeout, PollTransmit, PollTimeout, PollEvent, Becomes, Entry, NotCalled, quiet, Step}
 use Rattle.is_theorems.specs.NotStarved.{is_timeout}
 use Rattle.is_theorems.proofs.CallEffects.AddedCandidates.{by_adding_local, by_adding_remote, by_waking}
-use Rattle.is_theorems.proofs.CallEffects.FailedCallsAndNewAgents.{mtu_kept, controlling_kept, local_kept, remote_kept, restart_kept, recreation_kept, enrolment_kept, storing_kept}
+use Rattle.is_theorems.proofs.CallEffects.FailedCallsAndNewAgents.{mtu_kept, local_kept, remote_kept, restart_kept, recreation_kept, enrolment_kept, storing_kept}
 use Rattle.is_theorems.proofs.PunctualTimeouts.UnchangedPacing.{Pace, receives, reselects-same}
 
 module _ {H P : Type 0} where
@@ -56,8 +56,7 @@ module _ {H P : Type 0} where
     last-stays (SetMaxStunRetransmits n) old new s t e is h = retransmits (n == 0) n old new s t e h
     last-stays (SetLiteTimeout by) old new s t e is h = made-of _ new h.1
     last-stays (SetLocalPreference object) old new s t e is h = made-of _ new h.1
-    last-stays (SetControlling controlling) old new s t e is (Ok _, reported, h, drawn) = made-of _ new h.1
-    last-stays (SetControlling controlling) old new s t e is (Err error, reported, h, drawn) = made-of old new (controlling_kept old new controlling error h)
+    last-stays (SetControlling controlling) old new s t e is h = made-of _ new h.1
     last-stays (SetLocalCredentials creds) old new s t e is (Ok _, reported, h, drawn) = made-of _ new h.1
     last-stays (SetLocalCredentials creds) old new s t e is (Err error, reported, h, drawn) = made-of old new (local_kept old new creds error h)
     last-stays (SetRemoteCredentials creds) old new s t e is (Ok _, reported, h, drawn) = made-of _ new h.1
@@ -73,10 +72,8 @@ module _ {H P : Type 0} where
         (λ made. made-of old mid made) (λ f. forms _ mid _ f) (λ k _ addr f. forms _ mid _ f))
     last-stays (AddRemoteCandidate c) old new s t e is (Err error, emitted, reported, (path, mid, h, again, out), drawn) =
         reselected old mid new path again (made-of old mid (storing_kept old mid c error h))
-    last-stays (InvalidateCandidate c) old new s t e is (Ok found, emitted, reported, (path, mid, h, again, out), drawn) =
+    last-stays (InvalidateCandidate c) old new s t e is (found, emitted, reported, (path, mid, h, again, out), drawn) =
         reselected old mid new path again (invalidates old mid (local_to_discard c old) (remote_to_discard c old) found h)
-    last-stays (InvalidateCandidate c) old new s t e is (Err error, emitted, reported, (path, mid, h, again, out), drawn) =
-        reselected old mid new path again (made-of old mid h.1)
     last-stays (RestartIce creds keep) old new s t e is (Ok _, reported, h, drawn) = made-of _ new h.1
     last-stays (RestartIce creds keep) old new s t e is (Err error, reported, h, drawn) = made-of old new (restart_kept old new creds keep error h)
     last-stays RecreateCandidatePairs old new s t e is (Ok _, reported, (some, h), drawn) = forms _ new _ h

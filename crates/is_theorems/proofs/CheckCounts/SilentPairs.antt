@@ -23,17 +23,17 @@ use Rattle.is_rules.specs.Queue.{first_taken, request_at}
 use Rattle.is_rules.specs.Remote.{AddsRemote}
 use Rattle.is_rules.specs.Request.{RequestRecord}
 use Rattle.is_rules.specs.Restarting.{emptied, Recreates, Restarts}
-use Rattle.is_rules.specs.Settings.{SetsControlling, SetsMtu}
+use Rattle.is_rules.specs.Settings.{SetsMtu}
 use Rattle.is_rules.specs.Settling.{loses_selected}
 use Rattle.is_rules.specs.Sound.{IsSound}
-use Rattle.is_rules.specs.Steps.{Call, SetMtu, SetControlTieBreaker, SetMaxCandidatePairs, SetMaxDiscovered, SetIceLite, SetRenomination, SetConsent, SetProfile, SetTimingAdvance, SetInitialStunRto, SetMaxStunRto, SetMaxStunRetransmits, SetLiteTimeout, SetLocalPreference, SetControlling, SetLocalCredentials, SetRemoteCredentials, SkipPairIds, AddLocalCandidate, AddRemoteCandidate, InvalidateCandidate, RestartIce, RecreateCandidatePairs, ReceivePacket, HandleTimeout, PollTransmit, PollTimeout, PollEvent, Answer, Done, Flag, added, done, Entry, Step, MayDo, MaySelect}
+use Rattle.is_rules.specs.Steps.{Call, SetMtu, SetControlTieBreaker, SetMaxCandidatePairs, SetMaxDiscovered, SetIceLite, SetRenomination, SetConsent, SetProfile, SetTimingAdvance, SetInitialStunRto, SetMaxStunRto, SetMaxStunRetransmits, SetLiteTimeout, SetLocalPreference, SetControlling, SetLocalCredentials, SetRemoteCredentials, SkipPairIds, AddLocalCandidate, AddRemoteCandidate, InvalidateCandidate, RestartIce, RecreateCandidatePairs, ReceivePacket, HandleTimeout, PollTransmit, PollTimeout, PollEvent, Answer, Done, Flag, added, answer_by, done, Entry, Step, MayDo, MaySelect}
 use Rattle.is_rules.specs.Timeouts.{at_request, at_timeout, timeout_begun, MaintainsPairs, ServesQueued}
 use Rattle.is_theorems.specs.Logs.{Logged}
 use Rattle.is_theorems.specs.NotStarved.{is_timeout}
 use Rattle.is_theorems.specs.Shared.{BeforeEach, IsNewlyCreated, SharedRun}
 use Rattle.is_theorems.specs.SilentPairs.{AreInOrder, EndsWith, IsPastRequests, IsSilent, IsSilentSince, IsTimedBy, SilencesHaveFewChecks, SilentPairsGetFew, time_after, time_of}
 use Rattle.is_theorems.proofs.CallEffects.AddedCandidates.{by_adding_local, by_adding_remote, by_deadline}
-use Rattle.is_theorems.proofs.CallEffects.FailedCallsAndNewAgents.{mtu_kept, controlling_kept, local_kept, remote_kept, restart_kept, recreation_kept, enrolment_kept, storing_kept}
+use Rattle.is_theorems.proofs.CallEffects.FailedCallsAndNewAgents.{mtu_kept, local_kept, remote_kept, restart_kept, recreation_kept, enrolment_kept, storing_kept}
 use Rattle.is_theorems.proofs.CallEffects.PathAndTradeEffects.{path_theorem}
 use Rattle.is_theorems.proofs.CheckCounts.IssuedChecks.{timeout-timed}
 use Rattle.is_theorems.proofs.CheckCounts.KeptPairs.{IsKept, IsOfSilent, forms-kept, gives-up-kept, kept-filter, kept-map, nominates-kept, received-kept, reselects-kept, serves-kept, unless-kept}
@@ -78,9 +78,8 @@ module _ {H P : Type 0} where
       discards old new None (Some place) found (is, made) k = made-at (remote_discarded place old) new made (filtered (λ p. not (is_remote_at place p)) old.next_number old.pairs k)
       discards old new None None found (is, made) k = made-at old new made k
 
-      invalidates : (old new : AgentRecord H P) (c : CandidateRecord) (r : Result Bool IceError) → Invalidates old c r new → At by clock old → At by clock new
-      invalidates old new c (Ok found) h k = discards old new (local_to_discard c old) (remote_to_discard c old) found h k
-      invalidates old new c (Err error) h k = made-at old new h.1 k
+      invalidates : (old new : AgentRecord H P) (c : CandidateRecord) (found : Bool) → Invalidates old c found new → At by clock old → At by clock new
+      invalidates old new c found h k = discards old new (local_to_discard c old) (remote_to_discard c old) found h k
 
       forms : (old new : AgentRecord H P) (all : List Combination) → FormsAll old all new → At by clock old → At by clock new
       forms old new all h k = forms-kept floor clock (On by clock) rule old new all h k
@@ -111,8 +110,8 @@ module _ {H P : Type 0} where
         none-kept : IsKept floor clock (On by clock) old.next_number []
         none-kept = record { rising = tt; below = λ p has. absurd has; each = λ p has. absurd has; low = k.low }
 
-        selects : {A : Type 0} (to_answer : A → Answer) (Does : Result A IceError → AgentRecord H P → Type 0)
-            → ((mid : AgentRecord H P) (r : Result A IceError) → Does r mid → At by clock mid) → MaySelect to_answer Does old s e new u → At by clock new
+        selects : {A : Type 0} (to_answer : A → Answer) (Does : A → AgentRecord H P → Type 0)
+            → ((mid : AgentRecord H P) (r : A) → Does r mid → At by clock mid) → MaySelect to_answer Does old s e new u → At by clock new
         selects to_answer Does does (r, emitted, is, (path, mid, h, again, out), drawn) = reselects-kept floor clock (On by clock) rule (loses_selected old mid) mid new path again (does mid r h)
 
         skipped : (n : ℕ) → old.next_number ≤ n → IsKept floor clock (On by clock) n old.pairs
@@ -139,12 +138,12 @@ module _ {H P : Type 0} where
         others (SetMaxStunRetransmits n) is other_than le h = either (n == 0) h (λ _ x. kept x.1) (λ _ x. made-at _ new x.1 k)
         others (SetLiteTimeout timeout) is other_than le h = made-at _ new h.1 k
         others (SetLocalPreference object) is other_than le h = made-at _ new h.1 k
-        others (SetControlling controlling) is other_than le h = may (SetsControlling old controlling) (λ j. made-at _ new j.1 k) (controlling_kept old new controlling) h
+        others (SetControlling controlling) is other_than le h = made-at _ new h.1 k
         others (SetLocalCredentials creds) is other_than le h = may (SetsLocal old creds) (λ j. made-at _ new j.1 k) (local_kept old new creds) h
         others (SetRemoteCredentials creds) is other_than le h = may (SetsRemote old creds) (λ j. made-at _ new j.1 k) (remote_kept old new creds) h
         others (SkipPairIds n) is other_than le h = made-at _ new h.1 (skipped (max old.next_number n) (omega arith))
-        others (AddLocalCandidate c) is other_than le h = selects added (AddsLocal answers old c) (λ mid r j. adds-local old mid c r j k) h
-        others (AddRemoteCandidate c) is other_than le h = selects done (AddsRemote old c) (λ mid r j. signals old mid c r j k) h
+        others (AddLocalCandidate c) is other_than le h = selects (answer_by added) (AddsLocal answers old c) (λ mid r j. adds-local old mid c r j k) h
+        others (AddRemoteCandidate c) is other_than le h = selects (answer_by done) (AddsRemote old c) (λ mid r j. signals old mid c r j k) h
         others (InvalidateCandidate c) is other_than le h = selects Flag (Invalidates old c) (λ mid r j. invalidates old mid c r j k) h
         others (RestartIce creds keep) is other_than le h = may (Restarts old creds keep) (λ j. made-at _ new j.1 none-kept) (restart_kept old new creds keep) h
         others RecreateCandidatePairs is other_than le h = may (Recreates old) (λ j. forms (emptied old) new _ j.1 none-kept) (recreation_kept old new) h

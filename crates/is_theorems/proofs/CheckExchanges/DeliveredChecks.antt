@@ -45,7 +45,7 @@ use Rattle.is_rules.specs.Request.{RequestRecord, request_in, rival_in}
 use Rattle.is_rules.specs.Roles.{conflict_by, conflict_of, keeps_role, switched, switched_sides, with_priority_in}
 use Rattle.is_rules.specs.Sending.{carried, path_between}
 use Rattle.is_rules.specs.Forming.{formed, SidesRecord, with_pair}
-use Rattle.is_rules.specs.Serving.{is_misled, names_another, request_counted, with_sender, with_sender_at, Drops, Queues, TakesRequest, RecordsAndResponds, AddsPairAndResponds, FindsOrAddsPair, AddsUnknownSender, FindsSender, CountsAndServes, ResolvesRoleConflictBy, ResolvesRoleConflict, ServesHere, Serves}
+use Rattle.is_rules.specs.Serving.{is_misled, is_for_other_peer, request_counted, with_sender, with_sender_at, Drops, Queues, HandlesRequest, RecordsAndResponds, AddsPairAndResponds, FindsOrAddsPair, AddsUnknownSender, FindsSender, CountsAndServes, ResolvesRoleConflictBy, ResolvesRoleConflict, ServesHere, Serves}
 use Rattle.is_rules.specs.Sound.{IsSound}
 use Rattle.is_rules.specs.Steps.{answer_by, Call, Entry, Flag, ReceivePacket, Receives, is_rejection}
 use Rattle.is_rules.specs.Emitted.{issued_as, reversed}
@@ -113,7 +113,7 @@ module _ {H P : Type 0} (mac : H → List ℕ → List ℕ → List ℕ) where
     pub accepted : e.answer ≡ Flag true
     pub request : message.class ≡ class.Request
     pub id_is : message.id ≡ id
-    pub named : names_another b (request_in at (via_out check) message) ≡ false
+    pub named : is_for_other_peer b (request_in at (via_out check) message) ≡ false
     pub controlling : message.attributes.ice_controlling ≡ (if a.controlling then Some a.tie_breaker else None)
     pub controlled : message.attributes.ice_controlled ≡ (if a.controlling then None else Some a.tie_breaker)
     pub leads : message.attributes.use_candidate ≡ true → a.controlling ≡ true
@@ -251,20 +251,20 @@ module _ {H P : Type 0} (mac : H → List ℕ → List ℕ → List ℕ) (answer
     still-room s (inr (k, lt, vacant)) =
         inr (k, omega (arith, lt), subst (λ b. (is_temporary (candidate_at s.remote k) && not b) ≡ true) (sym (still-free (switched_sides s) k s.pairs)) vacant)
 
-    resolved : (s new : AgentRecord H P) (emitted : Emitted) → names_another s q ≡ false → (l : ℕ) → local_place s.local q ≡ Some l → Serves mac q s emitted new → ResolvesRoleConflict mac q l s emitted new
+    resolved : (s new : AgentRecord H P) (emitted : Emitted) → is_for_other_peer s q ≡ false → (l : ℕ) → local_place s.local q ≡ Some l → Serves mac q s emitted new → ResolvesRoleConflict mac q l s emitted new
     resolved s new emitted named l place h =
         let k : ServesHere mac q s emitted new = subst (λ b. MatchBool b (Drops s emitted new) (ServesHere mac q s emitted new)) named h in
         subst (λ o. MatchOption o (Drops s emitted new) (λ l. ResolvesRoleConflict mac q l s emitted new)) place k
 
     -- the roles differ
-    serves : (s new : AgentRecord H P) (emitted : Emitted) → names_another s q ≡ false → IsReachedBy s q.path → conflict_of s q ≡ Absent
+    serves : (s new : AgentRecord H P) (emitted : Emitted) → is_for_other_peer s q ≡ false → IsReachedBy s q.path → conflict_of s q ≡ Absent
         → is_misled s.controlling q ≡ false → Serves mac q s emitted new → Replied emitted
     serves s new emitted named reached apart led h =
         let place = live_place s q reached.there in
         admitted place.0 s new emitted place.2 reached.from reached.room led (subst (λ c. ResolvesRoleConflictBy mac c q place.0 s emitted new) apart (resolved s new emitted named place.0 place.1 h))
 
     -- the agent switches its role
-    serves-switched : (s new : AgentRecord H P) (emitted : Emitted) → names_another s q ≡ false → IsReachedBy s q.path → conflict_of s q ≡ SwitchRole
+    serves-switched : (s new : AgentRecord H P) (emitted : Emitted) → is_for_other_peer s q ≡ false → IsReachedBy s q.path → conflict_of s q ≡ SwitchRole
         → is_misled (not s.controlling) q ≡ false → Serves mac q s emitted new → Replied emitted
     serves-switched s new emitted named reached switches led h =
         let place = live_place s q reached.there in
@@ -350,7 +350,7 @@ module _ {H P : Type 0} (mac : H → List ℕ → List ℕ → List ℕ) (answer
               let t = took came at b e served n reads accepted delivered in
               let q : RequestRecord = request_in at via n in
               let mid = t.1.0 in
-              let takes : TakesRequest mac q b e.emitted mid = subst (λ k. Takes mac k at b via n e.emitted mid) same.class t.1.1 in
+              let takes : HandlesRequest mac q b e.emitted mid = subst (λ k. Takes mac k at b via n e.emitted mid) same.class t.1.1 in
               let from : q.ufrag ≡ a.local_creds.ufrag = ap (λ o. option_map_or (λ (name : List ℕ × List ℕ). name.1) o []) names in
               let nominates : n.attributes.use_candidate ≡ uses = ap (λ (r : AttributesRecord). r.use_candidate) same.attributes in
               record {

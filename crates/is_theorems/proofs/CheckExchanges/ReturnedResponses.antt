@@ -10,7 +10,7 @@ use Rattle.is_rules.specs.Agent.{AgentRecord}
 use Rattle.is_rules.specs.Answers.{keeps_check_on}
 use Rattle.is_theorems.specs.Delivery.{IsFragment, KnowEachOther, Issued, IsTaken, SentCheck, ReceivedPacket, ServedCheck, ChecksAreServed, ChecksAreKept, RepliesAreAccepted}
 use Rattle.is_rules.specs.Effects.{local_after, remote_after}
-use Rattle.is_theorems.specs.Exchange.{AreBetween, Course, ReceivedSoon, ReturnedSoon, ExchangesSucceed}
+use Rattle.is_theorems.specs.Exchange.{AreBetween, Execution, ReceivedSoon, ReturnedSoon, ExchangesSucceed}
 use Rattle.is_rules.specs.Fitting.{are_too_long}
 use Rattle.is_rules.specs.Issuing.{via_out}
 use Rattle.is_theorems.specs.Rounds.{is_between}
@@ -18,7 +18,7 @@ use Rattle.is_rules.specs.Sound.{GivesBased, IsSound}
 use Rattle.is_rules.specs.Steps.{Call, Entry, HandleTimeout, PollTransmit, PollTimeout, PollEvent, ReceivePacket, Step, is_done}
 use Rattle.is_theorems.proofs.CallEffects.PathAndTradeEffects.{path_theorem, trade_theorem}
 use Rattle.is_theorems.proofs.ExecutionLogs.LogSegments.{no-case}
-use Rattle.is_theorems.proofs.StoredPairs.TransactionsOverPackets.{sound-course, checks-stay}
+use Rattle.is_theorems.proofs.StoredPairs.TransactionsOverPackets.{sound-execution, checks-stay}
 
 -- the key that an agent signs with, and both passwords
 pub record Keys (H : Type 0) : Type 0 where
@@ -73,7 +73,7 @@ module _ {H P : Type 0} where
         keys_step PollEvent e old new s t sound tt (same_if (is_done e.answer) old.remote_creds) (same_if (is_done e.answer) old.local_creds) step
     keys_one _ e old new s t sound is step = no-case is
 
-    pub keys-between : (xs : List (Call P × Entry)) (old new : AgentRecord H P) → IsSound old → AreBetween xs → Course mac answers xs old new → keys_of new ≡ keys_of old
+    pub keys-between : (xs : List (Call P × Entry)) (old new : AgentRecord H P) → IsSound old → AreBetween xs → Execution mac answers xs old new → keys_of new ≡ keys_of old
     keys-between [] old new sound fits is = ap (λ (a : AgentRecord H P). keys_of a) is
     keys-between (x ∷ rest) old new sound fits (mid, s, t, based, step, more) =
         let on = (path_theorem mac answers old mid s t x.0 x.1 sound based step).1 in
@@ -103,7 +103,7 @@ module _ {H P : Type 0} where
     pub known-sender : (k : SentCheck mac answers) (c : ReceivedSoon mac answers k) → KnowEachOther mac k.sender c.receipt.receiver
     known-sender k c =
         known-on mac c.near k.sender c.receipt.receiver
-        (sym (keys-between c.soon.calls k.sent c.near (sound-sent k) (search c.soon.between) c.soon.course ∙ keys-timeout k.now k.timeout k.sender k.sent k.before k.following k.sound k.step))
+        (sym (keys-between c.soon.calls k.sent c.near (sound-sent k) (search c.soon.between) c.soon.execution ∙ keys-timeout k.now k.timeout k.sender k.sent k.before k.following k.sound k.step))
         (search c.know)
 
     pub exchanges-succeed : ChecksAreServed mac answers → ChecksAreKept mac answers → RepliesAreAccepted mac answers → ExchangesSucceed mac answers
@@ -118,16 +118,16 @@ module _ {H P : Type 0} where
           record { taken = taken.0; reply = taken.1.0; via_back = taken.1.1; sends = taken.1.2 }
 
       sound_near : IsSound c.near
-      sound_near = sound-course mac answers c.soon.calls k.sent c.near (sound-sent k) c.soon.course
+      sound_near = sound-execution mac answers c.soon.calls k.sent c.near (sound-sent k) c.soon.execution
 
       kept : list_any (keeps_check_on c.near (via_out s.reply) k.id) c.near.pairs ≡ true
       kept =
-          checks-stay mac answers k.sent c.near c.soon.calls (via_out s.reply) k.id (sound-sent k) (search c.soon.between) c.soon.course
+          checks-stay mac answers k.sent c.near c.soon.calls (via_out s.reply) k.id (sound-sent k) (search c.soon.between) c.soon.execution
           (subst (λ w. list_any (keeps_check_on k.sent w k.id) k.sent.pairs ≡ true) (sym s.via_back)
           (kept_law k.sender k.sent k.before k.following k.now k.check k.id k.timeout k.sound k.step k.sends))
 
       accepted : (r : ReturnedSoon mac answers c.near s.reply) → IsTaken mac answers s.reply r.at r.returned class.Success
       accepted r =
           accepted_law r.mid r.taken got.receiver got.served s.reply k.id r.at r.returned got.sound
-          (known-on mac c.near r.mid got.receiver (keys-between r.soon.calls c.near r.mid sound_near (search r.soon.between) r.soon.course) (search c.know))
-          (issued-reply k k.check got s) (checks-stay mac answers c.near r.mid r.soon.calls (via_out s.reply) k.id sound_near (search r.soon.between) r.soon.course kept) (search r.delivered)
+          (known-on mac c.near r.mid got.receiver (keys-between r.soon.calls c.near r.mid sound_near (search r.soon.between) r.soon.execution) (search c.know))
+          (issued-reply k k.check got s) (checks-stay mac answers c.near r.mid r.soon.calls (via_out s.reply) k.id sound_near (search r.soon.between) r.soon.execution kept) (search r.delivered)

@@ -30,7 +30,7 @@ use Rattle.is_rules.specs.Issuing.{Says, key_for, via_out}
 use Rattle.is_rules.specs.Places.{local_place}
 use Rattle.is_rules.specs.Request.{RequestRecord, request_in, rival_in}
 use Rattle.is_rules.specs.Roles.{conflict_by, conflict_of, keeps_role}
-use Rattle.is_rules.specs.Serving.{names_another, Drops, SendsRoleConflict, ResolvesRoleConflictBy, ResolvesRoleConflict, ServesHere, Serves}
+use Rattle.is_rules.specs.Serving.{is_for_other_peer, Drops, SendsRoleConflict, ResolvesRoleConflictBy, ResolvesRoleConflict, ServesHere, Serves}
 use Rattle.is_rules.specs.Sound.{IsSound}
 use Rattle.is_rules.specs.Steps.{Entry, HandleTimeout, Step}
 use Rattle.is_rules.specs.Emitted.{issued_as, reversed}
@@ -38,7 +38,7 @@ use Rattle.is_theorems.proofs.CheckExchanges.DeliveredChecks.{Comes, same_readin
 use Rattle.is_theorems.proofs.CallEffects.PathAndTradeEffects.{trade_theorem}
 use Rattle.is_theorems.proofs.CheckExchanges.ReturnedResponses.{known-on, keys-between, sound-sent, known-sender}
 use Rattle.is_theorems.proofs.StoredPairs.TransactionsThatStay.{still-kept}
-use Rattle.is_theorems.proofs.StoredPairs.TransactionsOverPackets.{sound-course, checks-stay}
+use Rattle.is_theorems.proofs.StoredPairs.TransactionsOverPackets.{sound-execution, checks-stay}
 
 -- a claim of the agent's own role
 same_claim : (c : Bool) (q : RequestRecord) (tie : ℕ) → q.ice_controlling ≡ (if c then Some tie else None) → q.ice_controlled ≡ (if c then None else Some tie) → rival_in c q ≡ Some tie
@@ -49,7 +49,7 @@ module _ {H P : Type 0} (mac : H → List ℕ → List ℕ → List ℕ) (answer
   -- ---- the 487
 
   -- it is sent instead of everything else
-  conflict_sent : (q : RequestRecord) (s new : AgentRecord H P) (emitted : Emitted) (l : ℕ) → names_another s q ≡ false → local_place s.local q ≡ Some l
+  conflict_sent : (q : RequestRecord) (s new : AgentRecord H P) (emitted : Emitted) (l : ℕ) → is_for_other_peer s q ≡ false → local_place s.local q ≡ Some l
       → conflict_of s q ≡ Send487 → Serves mac q s emitted new → emitted.issued ≡ Some (issued_as (reversed q.path) class.Failure q.id)
   conflict_sent q s new emitted l named place is h =
       let k : ServesHere mac q s emitted new = subst (λ b. MatchBool b (Drops s emitted new) (ServesHere mac q s emitted new)) named h in
@@ -199,14 +199,14 @@ module _ {H P : Type 0} (mac : H → List ℕ → List ℕ → List ℕ) (answer
         there = settles k (record { came = k.check; unaltered = refl; receipt = c.receipt; know = known-sender mac answers k c })
 
         sound_near : IsSound c.near
-        sound_near = sound-course mac answers c.soon.calls k.sent c.near (sound-sent mac answers k) c.soon.course
+        sound_near = sound-execution mac answers c.soon.calls k.sent c.near (sound-sent mac answers k) c.soon.execution
 
         sent_487 : c.receipt.receiver.controlling ≡ k.sender.controlling → Sent487 k.sender c.receipt.receiver c.receipt.served k.check k.id c.receipt.handed → IsConflictSent mac answers k c
         sent_487 alike i =
             let via_back : list_any (keeps_check_on k.sent (via_out i.rejection) k.id) k.sent.pairs ≡ true =
             subst (λ w. list_any (keeps_check_on k.sent w k.id) k.sent.pairs ≡ true) (sym i.via_back)
             (kept_law k.sender k.sent k.before k.following k.now k.check k.id k.timeout k.sound k.step k.sends) in
-            let kept = checks-stay mac answers k.sent c.near c.soon.calls (via_out i.rejection) k.id (sound-sent mac answers k) (search c.soon.between) c.soon.course via_back in record {
+            let kept = checks-stay mac answers k.sent c.near c.soon.calls (via_out i.rejection) k.id (sound-sent mac answers k) (search c.soon.between) c.soon.execution via_back in record {
               no_smaller = λ unkept. (let le = i.no_smaller unkept in omega (arith, le));
               stays = i.stays;
               rejection = i.rejection;
@@ -214,10 +214,10 @@ module _ {H P : Type 0} (mac : H → List ℕ → List ℕ → List ℕ) (answer
               sends = i.sends;
               returns = λ r unkept. (
                   let gives = gives-way k.sender.controlling r.mid r.taken c.receipt.receiver c.receipt.served i.rejection i.rejection k.id r.at r.returned
-                  (sound-course mac answers r.soon.calls c.near r.mid sound_near r.soon.course) c.receipt.sound
-                  (known-on mac c.near r.mid c.receipt.receiver (keys-between mac answers r.soon.calls c.near r.mid sound_near (search r.soon.between) r.soon.course) (search c.know))
+                  (sound-execution mac answers r.soon.calls c.near r.mid sound_near r.soon.execution) c.receipt.sound
+                  (known-on mac c.near r.mid c.receipt.receiver (keys-between mac answers r.soon.calls c.near r.mid sound_near (search r.soon.between) r.soon.execution) (search c.know))
                   (issues c.receipt.receiver c.receipt.served k.check i.rejection k.id c.receipt.at c.receipt.handed c.receipt.delivered i.sends) refl
-                  (checks-stay mac answers c.near r.mid r.soon.calls (via_out i.rejection) k.id sound_near (search r.soon.between) r.soon.course kept) unkept (search r.delivered) in
+                  (checks-stay mac answers c.near r.mid r.soon.calls (via_out i.rejection) k.id sound_near (search r.soon.between) r.soon.execution kept) unkept (search r.delivered) in
                   (gives.0, λ under. gives.1 under ∙ ap not (sym alike)));
             }
 
@@ -240,7 +240,7 @@ module _ {H P : Type 0} (mac : H → List ℕ → List ℕ → List ℕ) (answer
               elim (still-kept mac answers k c.receipt.receiver r.answer r.receipt (search r.back)) [
                 | inl kept ↦
                     (let e = r.receipt in
-                    let sound_mid = sound-course mac answers e.calls k.sent e.mid (sound-sent mac answers k) e.course in
+                    let sound_mid = sound-execution mac answers e.calls k.sent e.mid (sound-sent mac answers k) e.execution in
                     let gives = gives-way k.sender.controlling e.mid e.taken c.receipt.receiver c.receipt.served i.rejection r.answer k.id e.at e.returned sound_mid c.receipt.sound (search e.know)
                     (issues c.receipt.receiver c.receipt.served c.came i.rejection k.id c.receipt.at c.receipt.handed c.receipt.delivered i.sends) (search r.unaltered) kept unkept e.delivered in
                     inl (gives.0, λ under. gives.1 under ∙ ap not (sym alike)))

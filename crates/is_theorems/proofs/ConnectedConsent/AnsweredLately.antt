@@ -10,11 +10,11 @@ use Rattle.is_stun.specs.declared.timing.Consent.{Consent}
 use Rattle.is_stun.specs.Timing.{consent_of}
 use Rattle.is_rules.specs.Agent.{AgentRecord}
 use Rattle.is_rules.specs.Steps.{HandleTimeout}
-use Rattle.is_theorems.specs.ConsentCourses.{AreNeverLite, ConnectedAreAnswered, IsAliveBy}
+use Rattle.is_theorems.specs.ConsentExecutions.{AreNeverLite, ConnectedAreAnswered, IsAliveBy}
 use Rattle.is_theorems.proofs.BasicLemmas.EqualAddresses.{both}
-use Rattle.is_theorems.proofs.ConnectedConsent.AnsweredCourses.{along, steps}
+use Rattle.is_theorems.proofs.ConnectedConsent.AnsweredExecutions.{along, steps}
 use Rattle.is_theorems.proofs.ConnectedConsent.AnsweredPairs.{IsFirm}
-use Rattle.is_theorems.proofs.ConnectedConsent.ConnectedCourses.{connected-have-consent}
+use Rattle.is_theorems.proofs.ConnectedConsent.ConnectedExecutions.{connected-have-consent}
 
 less : (n m : ℕ) → nat_lt n m ≡ true → n < m
 less n m h = grind (arith, nat_tests, h)
@@ -53,7 +53,7 @@ module _ {H P : Type 0} (mac : H → List ℕ → List ℕ → List ℕ) where
       let never : AreNeverLite before = search full in
       let ruled : consent_of last.timing ≡ Some c = search rule in
       let begins : IsFirm k.first = subst (λ (a : AgentRecord H P). IsFirm a) (sym k.fresh.2) (refl, λ q none. absurd none) in
-      let near = along mac answers before k.first k.near never k.course begins in
+      let near = along mac answers before k.first k.near never k.execution begins in
       let firm = steps mac answers k.near last k.drawn k.left timeout near (HandleTimeout now) refl k.step in
       let top = connected-have-consent mac answers before now timeout last k in
       let valid = (both (is_valid top.0) (last.controlling || is_nominated top.0) top.2).0 in

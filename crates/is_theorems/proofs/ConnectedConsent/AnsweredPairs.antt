@@ -27,7 +27,7 @@ use Rattle.is_rules.specs.declared.roles.Conflict.{Conflict}
 use Rattle.is_rules.specs.declared.roles.Conflict.TheVariants.{Absent, Send487, SwitchRole}
 use Rattle.is_rules.specs.Accepting.{Takes, HandlesPacket, discovered_emitted}
 use Rattle.is_rules.specs.Agent.{AgentRecord}
-use Rattle.is_rules.specs.Answers.{TakesFailure, TakesSuccess}
+use Rattle.is_rules.specs.Answers.{HandlesFailure, HandlesSuccess}
 use Rattle.is_rules.specs.Checking.{all_asked, ChecksTop, MayCheck}
 use Rattle.is_rules.specs.Each.{Each}
 use Rattle.is_rules.specs.Forming.{Combination, combined_priority, formed, Formed, FormsAll, pair_of, SidesRecord, sides_of, Tries, with_pair}
@@ -36,7 +36,7 @@ use Rattle.is_rules.specs.Places.{local_place}
 use Rattle.is_rules.specs.Queue.{first_taken, request_at}
 use Rattle.is_rules.specs.Request.{RequestRecord, request_in}
 use Rattle.is_rules.specs.Roles.{conflict_of, switched, switched_sides, with_priority_in}
-use Rattle.is_rules.specs.Serving.{after_request, AddsUnknownSender, CountsAndServes, Drops, FindsOrAddsPair, is_misled, names_another, pair_served, Queues, RecordsAndResponds, request_counted, ResolvesRoleConflict, ResolvesRoleConflictBy, selects_at_requests, served, Serves, with_sender, with_sender_at, as_taken, nominated_by_peer}
+use Rattle.is_rules.specs.Serving.{after_request, AddsUnknownSender, CountsAndServes, Drops, FindsOrAddsPair, is_misled, is_for_other_peer, pair_served, Queues, RecordsAndResponds, request_counted, ResolvesRoleConflict, ResolvesRoleConflictBy, selects_at_requests, served, Serves, with_sender, with_sender_at, as_taken, nominated_by_peer}
 use Rattle.is_rules.specs.States.{evaluated}
 use Rattle.is_rules.specs.Steps.{Entry, Receives}
 use Rattle.is_rules.specs.Settling.{settled, Reselects}
@@ -221,7 +221,7 @@ module _ {H P : Type 0} where
 
   -- ---- responses
 
-  success-firm : (now : ℕ) (old new : AgentRecord H P) (via : Path) (m : Message) (emitted : Emitted) → TakesSuccess now old via m emitted new → Keeps old new
+  success-firm : (now : ℕ) (old new : AgentRecord H P) (via : Path) (m : Message) (emitted : Emitted) → HandlesSuccess now old via m emitted new → Keeps old new
   success-firm now old new via m emitted (recorded, (i, p, after, found, keeps, (place, c, at, took), made), (path, mid, nominates, is, done)) f =
       made-firm (evaluated now mid) new done (nominates-firm recorded mid path nominates (subst (λ (a : AgentRecord H P). IsFirm a) (sym made) (f.0, puts))) where
         puts : AreAnswered (slice_set old.pairs i after)
@@ -233,7 +233,7 @@ module _ {H P : Type 0} where
   switched-firm : (a : AgentRecord H P) → Keeps a (switched a)
   switched-firm a f = (f.0, answered-map (with_priority_in (switched_sides a)) a.pairs (λ p h. h) f.1)
 
-  failure-firm : (old new : AgentRecord H P) (via : Path) (m : Message) (emitted : Emitted) → TakesFailure old via m emitted new → Keeps old new
+  failure-firm : (old new : AgentRecord H P) (via : Path) (m : Message) (emitted : Emitted) → HandlesFailure old via m emitted new → Keeps old new
   failure-firm old new via m emitted h f =
       by_failure (λ _ a. IsFirm a) old new via m emitted notes (λ code. switched-firm (recoded code old) (notes code)) h where
         notes : (code : PairRecord → Option ℕ) → IsFirm (recoded code old)
@@ -278,7 +278,7 @@ module _ {H P : Type 0} where
     here (Some l) s new emitted h f = resolves-by (conflict_of s q) l s new emitted h f
 
     serves : (s new : AgentRecord H P) (emitted : Emitted) → Serves mac q s emitted new → Keeps s new
-    serves s new emitted h f = either (names_another s q) h (λ _ k. made-firm s new k.1 f) (λ _ k. here (local_place s.local q) s new emitted k f)
+    serves s new emitted h f = either (is_for_other_peer s q) h (λ _ k. made-firm s new k.1 f) (λ _ k. here (local_place s.local q) s new emitted k f)
 
     requested : (remote : Option IceCreds) (s new : AgentRecord H P) (emitted : Emitted) → MatchOption remote (Queues q s emitted new) (λ _. Serves mac q s emitted new) → Keeps s new
     requested None s new emitted h f = subst (λ (a : AgentRecord H P). IsFirm a) (sym h.1) f

@@ -10,12 +10,12 @@ use Rattle.is_rules.specs.declared.emitted.Path.{Path}
 use Rattle.is_rules.specs.Effects.{lite_set_by}
 use Rattle.is_rules.specs.Queue.{request_at}
 use Rattle.is_rules.specs.Steps.{Call, Done, Entry, HandleTimeout, Step}
-use Rattle.is_theorems.specs.AskedCourses.{selected_along}
-use Rattle.is_theorems.specs.ConsentCourses.{AreNeverLite, ConnectedAreAnswered, ConnectedHaveConsent, HasConsentOn, IsConnectedAfter}
+use Rattle.is_theorems.specs.AskedExecutions.{selected_along}
+use Rattle.is_theorems.specs.ConsentExecutions.{AreNeverLite, ConnectedAreAnswered, ConnectedHaveConsent, HasConsentOn, IsConnectedAfter}
 use Rattle.is_theorems.specs.ConsentLogs.{IsConnectedAt, SelectedAreAlive, SelectedHaveConsent}
 use Rattle.is_theorems.specs.Logs.{last_selected, Logged, NeverLite}
 use Rattle.is_theorems.specs.Runs.{IsFresh, Point}
-use Rattle.is_theorems.proofs.ExecutionLogs.SegmentsAsExecutions.{calls_onto, course_to, onto_is}
+use Rattle.is_theorems.proofs.ExecutionLogs.SegmentsAsExecutions.{calls_onto, execution_to, onto_is}
 
 module _ {P : Type 0} where
   -- the call of an entry, after those of the log before it
@@ -59,7 +59,7 @@ module _ {H P : Type 0} (mac : H → List ℕ → List ℕ → List ℕ) (answer
         first = first;
         near = mid;
         fresh = fresh;
-        course = course_to mac answers before first mid mid [] s point.at point.led refl;
+        execution = execution_to mac answers before first mid mid [] s point.at point.led refl;
         drawn = point.at;
         left = point.following;
         step = subst (λ (c : Call P). Step mac answers mid point.at c x.entry after point.following) k.call point.step;

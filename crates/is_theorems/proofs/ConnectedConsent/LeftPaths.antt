@@ -23,33 +23,33 @@ use Rattle.is_rules.specs.Sending.{path_of}
 use Rattle.is_rules.specs.Sound.{GivesBased, IsSound}
 use Rattle.is_rules.specs.Steps.{Answer, Call, Done, Entry, HandleTimeout, is_done, NextTimeout, PollTimeout, RestartIce, SetIceLite, SetRemoteCredentials, SetTimingAdvance, Step}
 use Rattle.is_rules.specs.Timeouts.{timeout_begun}
-use Rattle.is_theorems.specs.AskedCourses.{EndsAlong, IsAnsweredAlong, selected_along}
-use Rattle.is_theorems.specs.ConsentCourses.{AreNeverLite, IsAliveBy, IsConnectedAfter}
-use Rattle.is_theorems.specs.Courses.{CourseRound}
-use Rattle.is_theorems.specs.Exchange.{Course}
+use Rattle.is_theorems.specs.AskedExecutions.{EndsAlong, IsAnsweredAlong, selected_along}
+use Rattle.is_theorems.specs.ConsentExecutions.{AreNeverLite, IsAliveBy, IsConnectedAfter}
+use Rattle.is_theorems.specs.Executions.{ExecutionRound}
+use Rattle.is_theorems.specs.Exchange.{Execution}
 use Rattle.is_theorems.specs.FirstTimeouts.{AreInRound}
 use Rattle.is_theorems.specs.InTime.{IsPrompt, IsPunctual, KeepsPace}
 use Rattle.is_theorems.specs.LeftInTime.{BeginsBy, consent_until, IsConnectedOn, IsRequestedAlong, IsSilentRound, LeavesBy, LeavesInTime}
 use Rattle.is_theorems.specs.Reached.{is_in_round}
-use Rattle.is_theorems.specs.ReachedCourses.{PassRounds}
+use Rattle.is_theorems.specs.ReachedExecutions.{PassRounds}
 use Rattle.is_theorems.specs.Runs.{IsFresh}
 use Rattle.is_theorems.proofs.CallEffects.FailedCallsAndNewAgents.{fresh_sound}
 use Rattle.is_theorems.proofs.CallEffects.PathAndTradeEffects.{path_theorem, trade_theorem}
-use Rattle.is_theorems.proofs.ConnectedConsent.AnsweredCourses.{along, steps}
+use Rattle.is_theorems.proofs.ConnectedConsent.AnsweredExecutions.{along, steps}
 use Rattle.is_theorems.proofs.ConnectedConsent.AnsweredLately.{connected-are-answered}
 use Rattle.is_theorems.proofs.ConnectedConsent.AnsweredPairs.{IsFirm}
-use Rattle.is_theorems.proofs.ConnectedConsent.ConnectedCourses.{maintained, succeeded}
+use Rattle.is_theorems.proofs.ConnectedConsent.ConnectedExecutions.{maintained, succeeded}
 use Rattle.is_theorems.proofs.ConnectedConsent.SilentCalls.{IsSilent, maintained-over, step-over}
 use Rattle.is_theorems.proofs.ConnectedConsent.SilentPairs.{IsOver, PairsOver}
 use Rattle.is_theorems.proofs.ExecutionLogs.LogSegments.{no-case}
 use Rattle.is_theorems.proofs.ExecutionLogs.PerAgentExecutions.{either_has}
-use Rattle.is_theorems.proofs.PathSelection.NominatedByPeerPerAgent.{course_on}
+use Rattle.is_theorems.proofs.PathSelection.NominatedByPeerPerAgent.{execution_on}
 use Rattle.is_theorems.proofs.PunctualTimeouts.ChecksInTime.{stays-slow}
 use Rattle.is_theorems.proofs.PunctualTimeouts.ConsentInTime.{polled-soon, round-clock}
 use Rattle.is_theorems.proofs.PunctualTimeouts.UnchangedPacing.{Clock, maintains, Pace, pacing-is-set}
 use Rattle.is_theorems.proofs.RuleEffects.SelectedPaths.{some_is}
 use Rattle.is_theorems.proofs.StoredPairs.PairsThatStay.{pairs-stay}
-use Rattle.is_theorems.proofs.StoredPairs.TransactionsOverPackets.{sound-course}
+use Rattle.is_theorems.proofs.StoredPairs.TransactionsOverPackets.{sound-execution}
 
 -- ---- when consent ends
 
@@ -111,17 +111,17 @@ none-left [] rest is = sym is
 none-left (q ∷ gone) rest is = absurd (cc)
 
 module _ {P : Type 0} where
-  full-in-round : (call : Call P) → is_in_round call ≡ true → lite_set_by call false ≡ false
+  full-in-round : (call : Call P) → is_in_round true call ≡ true → lite_set_by call false ≡ false
   full-in-round (SetIceLite lite) is = no-case is
   full-in-round _ is = refl
 
-  peer-in-round : (call : Call P) (answer : Answer) (remote : Option IceCreds) → is_in_round call ≡ true → remote_after call answer remote ≡ remote
+  peer-in-round : (call : Call P) (answer : Answer) (remote : Option IceCreds) → is_in_round true call ≡ true → remote_after call answer remote ≡ remote
   peer-in-round (SetRemoteCredentials creds) answer remote is = no-case is
   peer-in-round (RestartIce creds keep) answer remote is = no-case is
   peer-in-round _ answer remote is = same-if (is_done answer) remote
 
 module _ {H P : Type 0} where
-  waits-in-round : (old : AgentRecord H P) (call : Call P) (e : Entry) (new : AgentRecord H P) → is_in_round call ≡ true → Waits old call e new → WaitsWith old call e new
+  waits-in-round : (old : AgentRecord H P) (call : Call P) (e : Entry) (new : AgentRecord H P) → is_in_round true call ≡ true → Waits old call e new → WaitsWith old call e new
   waits-in-round old (HandleTimeout now) e new is h = no-case is
   waits-in-round old (RestartIce creds keep) e new is h = no-case is
   waits-in-round old _ e new is h = h
@@ -149,7 +149,7 @@ module _ {H P : Type 0} where
 
     -- ---- between `handle_timeout` calls
 
-    step-ready : (call : Call P) (e : Entry) (old new : AgentRecord H P) (s t : Stream) → is_in_round call ≡ true → IsSilent c.strict path call e → GivesBased call
+    step-ready : (call : Call P) (e : Entry) (old new : AgentRecord H P) (s t : Stream) → is_in_round true call ≡ true → IsSilent c.strict path call e → GivesBased call
         → ((by : ℕ) → call ≡ SetTimingAdvance by → by ≤ pace) → Step mac answers old s call e new t → Ready old → Ready new × (new.last_time ≡ old.last_time)
     step-ready call e old new s t fits silent given keeps step r =
         let law = path_theorem mac answers old new s t call e r.sound given step in
@@ -169,7 +169,7 @@ module _ {H P : Type 0} where
           ap (λ (k : Clock). k.last_time) clock,
         )
 
-    walk-ready : (xs : List (Call P × Entry)) (old new : AgentRecord H P) → AreInRound xs → Silent xs → KeepsPace pace xs → Course mac answers xs old new → Ready old → Ready new
+    walk-ready : (xs : List (Call P × Entry)) (old new : AgentRecord H P) → AreInRound true xs → Silent xs → KeepsPace pace xs → Execution mac answers xs old new → Ready old → Ready new
     walk-ready [] old new fits silent keeps is r = subst (λ (a : AgentRecord H P). Ready a) (sym is) r
     walk-ready (x ∷ rest) old new fits silent keeps (mid, s, t, given, step, more) r =
         walk-ready rest mid new (λ y has. fits y (inr has)) (λ y has. silent y (inr has)) (λ y by has. keeps y by (inr has)) more
@@ -185,9 +185,9 @@ module _ {H P : Type 0} where
         let by = ends-by c sent heard path p (r.over p has on) (r.firm.1 p has valid) in
         omega (arith, soon, by, early)
 
-    walk-time : (now : ℕ) (xs : List (Call P × Entry)) (old new : AgentRecord H P) (p : PairRecord) → AreInRound xs → Silent xs → KeepsPace pace xs → (course : Course mac answers xs old new)
+    walk-time : (now : ℕ) (xs : List (Call P × Entry)) (old new : AgentRecord H P) (p : PairRecord) → AreInRound true xs → Silent xs → KeepsPace pace xs → (execution : Execution mac answers xs old new)
         → Ready old → old.last_time ≡ Some now → now < consent_until c sent heard → Has old.pairs p → is_valid p ≡ true → path_of old p ≡ path
-        → ((next : ℕ) → IsPrompt delay next xs → next ≤ limit) ⊎ EndsAlong mac answers xs old new course path
+        → ((next : ℕ) → IsPrompt delay next xs → next ≤ limit) ⊎ EndsAlong mac answers xs old new execution path
     walk-time now [] old new p fits silent keeps is r last early has valid on = inl (λ next none. absurd none.2)
     walk-time now (x ∷ rest) old new p fits silent keeps (mid, s, t, given, step, more) r last early has valid on =
         let k = step-ready x.0 x.1 old mid s t (fits x (inl refl)) (silent x (inl refl)) given (λ by is. keeps x by (inl refl) is) step r in
@@ -237,10 +237,10 @@ module _ {H P : Type 0} where
 
     -- ---- rounds
 
-    abbrev Leaves : List (Call P × Entry) → (rounds : List (CourseRound P)) (old new : AgentRecord H P) → PassRounds mac answers rounds old new → Type 0
+    abbrev Leaves : List (Call P × Entry) → (rounds : List (ExecutionRound P)) (old new : AgentRecord H P) → PassRounds mac answers rounds old new → Type 0
     Leaves before rounds old new run = LeavesBy mac answers (consent_until c sent heard) (pace + delay) path before rounds old new run
 
-    silent-in : (r : CourseRound P) → IsSilentRound c path r → Silent r.following
+    silent-in : (r : ExecutionRound P) → IsSilentRound c path r → Silent r.following
     silent-in r q x has =
         let unanswered : IsAnsweredAlong r.following path → ⊥ = search q.unanswered in
         let unasked : c.strict ≡ false → IsRequestedAlong r.following path → ⊥ = search q.unasked in record {
@@ -248,13 +248,13 @@ module _ {H P : Type 0} where
           unasked = λ loose at by m brings is back. unasked loose (x, has, (at, by, m, brings, is, back));
         }
 
-    fits-in : (r : CourseRound P) → IsSilentRound c path r → AreInRound r.following
+    fits-in : (r : ExecutionRound P) → IsSilentRound c path r → AreInRound true r.following
     fits-in r q = search q.between
 
-    done-in : (r : CourseRound P) → IsSilentRound c path r → r.timeout.answer ≡ Done
+    done-in : (r : ExecutionRound P) → IsSilentRound c path r → r.timeout.answer ≡ Done
     done-in r q = search q.done
 
-    never-on : (before : List (Call P × Entry)) (r : CourseRound P) → AreNeverLite before → AreInRound r.following → AreNeverLite (before ++ (HandleTimeout r.now, r.timeout) ∷ r.following)
+    never-on : (before : List (Call P × Entry)) (r : ExecutionRound P) → AreNeverLite before → AreInRound true r.following → AreNeverLite (before ++ (HandleTimeout r.now, r.timeout) ∷ r.following)
     never-on before r never fits x has = elim (either_has before ((HandleTimeout r.now, r.timeout) ∷ r.following) x has) [
       | inl was ↦ never x was
       | inr (inl is) ↦ subst (λ (y : Call P × Entry). lite_set_by y.0 false ≡ false) is refl
@@ -263,7 +263,7 @@ module _ {H P : Type 0} where
 
     -- the first round, after the calls before it
     module _ (first : AgentRecord H P) (fresh : IsFresh first) where
-      early-here : (r : CourseRound P) (before : List (Call P × Entry)) (old mid : AgentRecord H P) (s t : Stream) → AreNeverLite before → Course mac answers before first old
+      early-here : (r : ExecutionRound P) (before : List (Call P × Entry)) (old mid : AgentRecord H P) (s t : Stream) → AreNeverLite before → Execution mac answers before first old
           → Ready old → Ready mid → r.timeout.answer ≡ Done → Step mac answers old s (HandleTimeout r.now) r.timeout mid t
           → IsConnectedOn (before ++ (HandleTimeout r.now, r.timeout) ∷ []) mid path
           → (p : PairRecord) × Has mid.pairs p × (is_valid p ≡ true) × (path_of mid p ≡ path) × (r.now < consent_until c sent heard)
@@ -274,7 +274,7 @@ module _ {H P : Type 0} where
             first = first;
             near = old;
             fresh = fresh;
-            course = led;
+            execution = led;
             drawn = s;
             left = t;
             step = step;
@@ -287,38 +287,38 @@ module _ {H P : Type 0} where
           let on : path_of mid k.0 ≡ path = some_is (path_of mid k.0) path (sym k.3 ∙ is_selected) in
           (k.0, k.1, ready_mid.sound.consented k.0 k.1 (ap (λ (o : Option ℕ). is_some o) k.2.1), on, alive-before c sent heard path r.now k.0 (ready_mid.over k.0 k.1 on) k.2)
 
-      next-by : (r : CourseRound P) (later : List (CourseRound P)) → IsPunctual delay r later → (Ends : Type 0) → ((next : ℕ) → IsPrompt delay next r.following → next ≤ limit) ⊎ Ends
+      next-by : (r : ExecutionRound P) (later : List (ExecutionRound P)) → IsPunctual delay r later → (Ends : Type 0) → ((next : ℕ) → IsPrompt delay next r.following → next ≤ limit) ⊎ Ends
           → BeginsBy limit later ⊎ Ends
       next-by r [] punctual Ends k = inl tt
       next-by r (x ∷ more) punctual Ends (inl prompt) = inl (prompt x.now punctual.0)
       next-by r (x ∷ more) punctual Ends (inr goes) = inr goes
 
-      here : (r : CourseRound P) (later : List (CourseRound P)) (before : List (Call P × Entry)) (old mid next : AgentRecord H P) (s t : Stream) → AreNeverLite before
-          → Course mac answers before first old → Ready old → Ready mid → mid.last_time ≡ Some r.now → Step mac answers old s (HandleTimeout r.now) r.timeout mid t
-          → (course : Course mac answers r.following mid next) → IsSilentRound c path r → KeepsPace pace r.following → IsPunctual delay r later
+      here : (r : ExecutionRound P) (later : List (ExecutionRound P)) (before : List (Call P × Entry)) (old mid next : AgentRecord H P) (s t : Stream) → AreNeverLite before
+          → Execution mac answers before first old → Ready old → Ready mid → mid.last_time ≡ Some r.now → Step mac answers old s (HandleTimeout r.now) r.timeout mid t
+          → (execution : Execution mac answers r.following mid next) → IsSilentRound c path r → KeepsPace pace r.following → IsPunctual delay r later
           → IsConnectedOn (before ++ (HandleTimeout r.now, r.timeout) ∷ []) mid path
-          → (r.now < consent_until c sent heard) × (BeginsBy limit later ⊎ EndsAlong mac answers r.following mid next course path)
-      here r later before old mid next s t never led ready ready_mid last step course round keeps punctual connected =
+          → (r.now < consent_until c sent heard) × (BeginsBy limit later ⊎ EndsAlong mac answers r.following mid next execution path)
+      here r later before old mid next s t never led ready ready_mid last step execution round keeps punctual connected =
           let p = early-here r before old mid s t never led ready ready_mid (done-in r round) step connected in
           let early = p.4 in (
             omega (arith, early),
-            next-by r later punctual (EndsAlong mac answers r.following mid next course path)
-                (walk-time r.now r.following mid next p.0 (fits-in r round) (silent-in r round) keeps course ready_mid last (omega (arith, early)) p.1 p.2 p.3),
+            next-by r later punctual (EndsAlong mac answers r.following mid next execution path)
+                (walk-time r.now r.following mid next p.0 (fits-in r round) (silent-in r round) keeps execution ready_mid last (omega (arith, early)) p.1 p.2 p.3),
           )
 
-      leaves : (r : CourseRound P) (later : List (CourseRound P)) (before : List (Call P × Entry)) (old new : AgentRecord H P) → AreNeverLite before → Course mac answers before first old
-          → Ready old → (run : PassRounds mac answers (r ∷ later) old new) → ((x : CourseRound P) → Has (r ∷ later) x → IsSilentRound c path x)
-          → ((x : CourseRound P) → Has (r ∷ later) x → KeepsPace pace x.following) → IsPunctual delay r later → Leaves before (r ∷ later) old new run
-      leaves r [] before old new never led ready (mid, next, s, t, step, course, more) quiet keeps punctual =
+      leaves : (r : ExecutionRound P) (later : List (ExecutionRound P)) (before : List (Call P × Entry)) (old new : AgentRecord H P) → AreNeverLite before → Execution mac answers before first old
+          → Ready old → (run : PassRounds mac answers (r ∷ later) old new) → ((x : ExecutionRound P) → Has (r ∷ later) x → IsSilentRound c path x)
+          → ((x : ExecutionRound P) → Has (r ∷ later) x → KeepsPace pace x.following) → IsPunctual delay r later → Leaves before (r ∷ later) old new run
+      leaves r [] before old new never led ready (mid, next, s, t, step, execution, more) quiet keeps punctual =
           let k = timeout-ready r.now r.timeout old mid s t (done-in r (quiet r (inl refl))) step ready in
-          (here r [] before old mid next s t never led ready k.0 k.1 step course (quiet r (inl refl)) (keeps r (inl refl)) punctual, tt)
-      leaves r (x ∷ later) before old new never led ready (mid, next, s, t, step, course, more) quiet keeps punctual =
+          (here r [] before old mid next s t never led ready k.0 k.1 step execution (quiet r (inl refl)) (keeps r (inl refl)) punctual, tt)
+      leaves r (x ∷ later) before old new never led ready (mid, next, s, t, step, execution, more) quiet keeps punctual =
           let round = quiet r (inl refl) in
           let k = timeout-ready r.now r.timeout old mid s t (done-in r round) step ready in
-          let ready_next = walk-ready r.following mid next (fits-in r round) (silent-in r round) (keeps r (inl refl)) course k.0 in (
-            here r (x ∷ later) before old mid next s t never led ready k.0 k.1 step course round (keeps r (inl refl)) punctual,
+          let ready_next = walk-ready r.following mid next (fits-in r round) (silent-in r round) (keeps r (inl refl)) execution k.0 in (
+            here r (x ∷ later) before old mid next s t never led ready k.0 k.1 step execution round (keeps r (inl refl)) punctual,
             leaves x later (before ++ (HandleTimeout r.now, r.timeout) ∷ r.following) next new (never-on before r never (fits-in r round))
-                (course_on mac answers before ((HandleTimeout r.now, r.timeout) ∷ r.following) first old next led (mid, s, t, tt, step, course))
+                (execution_on mac answers before ((HandleTimeout r.now, r.timeout) ∷ r.following) first old next led (mid, s, t, tt, step, execution))
                 ready_next more (λ y has. quiet y (inr has)) (λ y has. keeps y (inr has)) punctual.1,
           )
 
@@ -335,7 +335,7 @@ module _ {H P : Type 0} where
         let queue : start.queue ≡ [] = search l.queue in
         let slow = timed.begins in
         let ready : Ready mac answers c sent heard pace delay path start = record {
-          sound = sound-course mac answers before first start sound_first led;
+          sound = sound-execution mac answers before first start sound_first led;
           firm = firm;
           rule = rule;
           peer = peer;

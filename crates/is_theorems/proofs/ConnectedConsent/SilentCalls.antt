@@ -11,7 +11,7 @@ use Rattle.is_stun.specs.declared.header.Class.TheVariants as class
 use Rattle.is_stun.specs.Message.{Message}
 use Rattle.is_rules.specs.Accepting.{discovered_emitted, Takes}
 use Rattle.is_rules.specs.Agent.{AgentRecord}
-use Rattle.is_rules.specs.Answers.{goes_back, keeps_check_on, TakesFailure, TakesSuccess}
+use Rattle.is_rules.specs.Answers.{is_reverse, keeps_check_on, HandlesFailure, HandlesSuccess}
 use Rattle.is_rules.specs.Brought.{Brings}
 use Rattle.is_rules.specs.declared.emitted.Emitted.{Emitted}
 use Rattle.is_rules.specs.declared.emitted.Path.{Path}
@@ -27,13 +27,13 @@ use Rattle.is_rules.specs.Settling.{loses_selected}
 use Rattle.is_rules.specs.Sound.{IsSound}
 use Rattle.is_rules.specs.Steps.{AddLocalCandidate, AddRemoteCandidate, Call, Entry, HandleTimeout, PollEvent, PollTimeout, PollTransmit, ReceivePacket, Receives, SetControlling, SetControlTieBreaker, SetLocalCredentials, SetLocalPreference, SetMaxCandidatePairs, SetMaxDiscovered, SetMtu, SetRenomination, SetTimingAdvance, Step}
 use Rattle.is_rules.specs.Timeouts.{MaintainsPairs, timeout_begun}
-use Rattle.is_theorems.specs.AskedCourses.{AcceptsSuccessOn}
+use Rattle.is_theorems.specs.AskedExecutions.{AcceptsSuccessOn}
 use Rattle.is_theorems.specs.Reached.{is_in_round}
 use Rattle.is_theorems.proofs.BasicLemmas.EqualAddresses.{both}
 use Rattle.is_theorems.proofs.CallEffects.AddedCandidates.{by_adding_local, by_adding_remote, by_waking}
 use Rattle.is_theorems.proofs.CallEffects.ChangedCandidates.{discards_local, local_changes, remote_changes}
 use Rattle.is_theorems.proofs.CallEffects.ChecksAndResponses.{Has-get, Has-set, local_joins}
-use Rattle.is_theorems.proofs.CallEffects.FailedCallsAndNewAgents.{controlling_kept, enrolment_kept, local_kept, mtu_kept, storing_kept}
+use Rattle.is_theorems.proofs.CallEffects.FailedCallsAndNewAgents.{enrolment_kept, local_kept, mtu_kept, storing_kept}
 use Rattle.is_theorems.proofs.CallEffects.PathAndTradeEffects.{path_theorem}
 use Rattle.is_theorems.proofs.CallEffects.ServedRequests.{remote_joins}
 use Rattle.is_theorems.proofs.ConnectedConsent.SilentPairs.{Carried, carried-over, forms-over, Goes, IsOver, made-over, moved-over, over-as, PairsOver, parts, reselects-over}
@@ -101,7 +101,7 @@ module _ {H P : Type 0} (mac : H → List ℕ → List ℕ → List ℕ) (answer
 
   -- ---- packets
 
-  success : (now : ℕ) (old new : AgentRecord H P) (via : Path) (m : Message) (emitted : Emitted) → TakesSuccess now old via m emitted new
+  success : (now : ℕ) (old new : AgentRecord H P) (via : Path) (m : Message) (emitted : Emitted) → HandlesSuccess now old via m emitted new
       → Carried strict sent heard path (λ p. keeps_check_on old via m.id p ≡ true) old new
   success now old new via m emitted (recorded, (i, p, after, found, keeps, (place, c, at, took), made), (named, mid, nominates, is, done)) q has =
       let thinned = (nominates-thins 0 recorded mid named nominates).1 in
@@ -116,7 +116,7 @@ module _ {H P : Type 0} (mac : H → List ℕ → List ℕ → List ℕ) (answer
         )
       ]
 
-  failure : (old new : AgentRecord H P) (via : Path) (m : Message) (emitted : Emitted) → TakesFailure old via m emitted new → Over old → Over new
+  failure : (old new : AgentRecord H P) (via : Path) (m : Message) (emitted : Emitted) → HandlesFailure old via m emitted new → Over old → Over new
   failure old new via m emitted h o =
       by_failure (λ _ a. Over a) old new via m emitted notes
       (λ code. same-over (with_priority_in (switched_sides old)) (recoded code old) (λ p. (refl, refl, refl, refl)) (notes code)) h where
@@ -132,7 +132,7 @@ module _ {H P : Type 0} (mac : H → List ℕ → List ℕ → List ℕ) (answer
         (requested-over mac strict sent heard path (request_in now via m) (λ loose back. silent.unasked loose now via m brings is back) old.remote_creds old mid emitted sound.based (fit_of old sound) h o)
     by-class class.Success is old mid new s t emitted sound step h made o =
         carried-over strict sent heard path (λ p. keeps_check_on old via m.id p ≡ true) old new sound (path_theorem mac answers old new s t (ReceivePacket now via bytes) e sound tt step).0.numbers
-        (λ p keeps on. silent.unanswered (now, via, m, brings, is, ap (λ w. goes_back via w) (sym on) ∙ (both _ (goes_back via (path_of old p)) keeps).1))
+        (λ p keeps on. silent.unanswered (now, via, m, brings, is, ap (λ w. is_reverse via w) (sym on) ∙ (both _ (is_reverse via (path_of old p)) keeps).1))
         (λ q has. success now old mid via m emitted h q (subst (λ (a : AgentRecord H P). Has a.pairs q) made has)) o
     by-class class.Failure is old mid new s t emitted sound step h made o = made-over strict sent heard path (discovered_emitted m.class emitted via mid) new made (failure old mid via m emitted h o)
     by-class class.Indication is old mid new s t emitted sound step h made o = absurd h
@@ -148,7 +148,7 @@ module _ {H P : Type 0} (mac : H → List ℕ → List ℕ → List ℕ) (answer
 
   -- ---- calls
 
-  pub step-over : (call : Call P) (e : Entry) (old new : AgentRecord H P) (s t : Stream) → is_in_round call ≡ true → IsSilent strict path call e → IsSound old
+  pub step-over : (call : Call P) (e : Entry) (old new : AgentRecord H P) (s t : Stream) → is_in_round true call ≡ true → IsSilent strict path call e → IsSound old
       → Step mac answers old s call e new t → Over old → Over new
   step-over (ReceivePacket at via bytes) e old new s t is silent sound (h, drawn) o = packet at via bytes e old new s t silent sound (h, drawn) h o
   step-over PollTransmit e old new s t is silent sound (given, reported, (polled, made), drawn) o = subst (λ (a : AgentRecord H P). Over a) (sym made) o
@@ -170,8 +170,7 @@ module _ {H P : Type 0} (mac : H → List ℕ → List ℕ → List ℕ) (answer
   step-over (SetRenomination renominates) e old new s t is silent sound h o = subst (λ (a : AgentRecord H P). Over a) (sym h.1) o
   step-over (SetTimingAdvance by) e old new s t is silent sound h o = subst (λ (a : AgentRecord H P). Over a) (sym h.1) o
   step-over (SetLocalPreference object) e old new s t is silent sound h o = subst (λ (a : AgentRecord H P). Over a) (sym h.1) o
-  step-over (SetControlling controlling) e old new s t is silent sound (Ok _, reported, h, drawn) o = subst (λ (a : AgentRecord H P). Over a) (sym h.1) o
-  step-over (SetControlling controlling) e old new s t is silent sound (Err error, reported, h, drawn) o = made-of old new (controlling_kept old new controlling error h) o
+  step-over (SetControlling controlling) e old new s t is silent sound h o = subst (λ (a : AgentRecord H P). Over a) (sym h.1) o
   step-over _ e old new s t is silent sound h o = no-case is
 
   -- a `handle_timeout` call that serves no early request

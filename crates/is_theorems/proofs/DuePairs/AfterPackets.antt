@@ -35,8 +35,8 @@ use Rattle.is_rules.specs.Forming.{formed, with_pair, priority_between}
 use Rattle.is_rules.specs.Nominating.{numbers, NominatesWhere}
 use Rattle.is_rules.specs.Roles.{conflict_of, switched}
 use Rattle.is_rules.specs.Settling.{settled}
-use Rattle.is_rules.specs.Serving.{as_taken, after_request, served, selects_at_requests, trigger_time, is_misled, names_another, pair_served, request_counted, with_sender, with_sender_at, sender_candidate, replied, Drops, Queues, RecordsAndResponds, FindsOrAddsPair, AddsUnknownSender, CountsAndServes, ResolvesRoleConflictBy, ResolvesRoleConflict, Serves}
-use Rattle.is_rules.specs.Answers.{TakesFailure}
+use Rattle.is_rules.specs.Serving.{as_taken, after_request, served, selects_at_requests, trigger_time, is_misled, is_for_other_peer, pair_served, request_counted, with_sender, with_sender_at, sender_candidate, replied, Drops, Queues, RecordsAndResponds, FindsOrAddsPair, AddsUnknownSender, CountsAndServes, ResolvesRoleConflictBy, ResolvesRoleConflict, Serves}
+use Rattle.is_rules.specs.Answers.{HandlesFailure}
 use Rattle.rand_core.specs.Stream.{Stream}
 use Rattle.is_rules.specs.Steps.{Entry, Flag, ReceivePacket, Step}
 use Rattle.is_rules.specs.Accepting.{Takes, HandlesPacket}
@@ -437,11 +437,11 @@ module _ {H P : Type 0} where
       requested : (remote : Option IceCreds) (s new : AgentRecord H P) (emitted : Emitted) → is_some remote ≡ true → s.controlling ≡ true → s.lite ≡ false → NoneValid s.pairs → new.controlling ≡ true
           → MatchOption remote (Queues q s emitted new) (λ _. Serves mac q s emitted new) → Arrived s new
       requested None s new emitted known role full none stays h = absurd (cc)
-      requested (Some peer) s new emitted known role full none stays h = either (names_another s q) h
+      requested (Some peer) s new emitted known role full none stays h = either (is_for_other_peer s q) h
           (λ _ k. arrived-same s new k.1)
           (λ _ k. here (local_place s.local q) s new emitted role full none stays k)
 
-    failed : (s new : AgentRecord H P) (path : Path) (m : Message) (emitted : Emitted) → s.controlling ≡ true → new.controlling ≡ true → TakesFailure s path m emitted new → Arrived s new
+    failed : (s new : AgentRecord H P) (path : Path) (m : Message) (emitted : Emitted) → s.controlling ≡ true → new.controlling ≡ true → HandlesFailure s path m emitted new → Arrived s new
     failed s new path m emitted role stays h = by_failure (λ _ a. a.controlling ≡ true → Arrived s a) s new path m emitted
         (λ code _. arrived s (recoded code s) (
           refl,

@@ -1,6 +1,6 @@
 -- An agent without a valid pair selects no path, so no nomination becomes due. If none is to be sent at once, none will be until a
 -- success response is accepted, in whichever role the agent is.
-use Rattle.std.proofs.Common.{◌≡◌, ℕ, ◌<◌, ◌&&◌, ◌||◌, Bool, true, false, not, List, ◌∷◌, ◌++◌, [], Option, Some, None, is_some, unwrap_or, Ok, Err, inl, inr, ◌⊎◌, refl, ap, sym, ◌∙◌, subst, arith}
+use Rattle.std.proofs.Common.{◌≡◌, ℕ, ◌<◌, ◌&&◌, ◌||◌, Bool, true, false, not, List, ◌∷◌, ◌++◌, [], Option, Some, None, is_some, unwrap_or, Ok, Err, inl, inr, ◌⊎◌, refl, ap, sym, ◌∙◌, subst, arith, if◌then◌else◌}
 use Rattle.std.specs.List.{list_any}
 use Rattle.std.specs.Prelude.{MatchOption}
 use Rattle.std.proofs.lemmas.Bool.{eqb-true}
@@ -13,9 +13,10 @@ use Rattle.is_pair.specs.Pairs.{PairRecord, is_valid, is_nominated}
 use Rattle.is_stun.specs.declared.header.Class.{Class}
 use Rattle.is_stun.specs.declared.header.Class.TheVariants as class
 use Rattle.is_stun.specs.Message.{Message}
+use Rattle.is_stun.specs.Timing.{is_modern, is_modern_profile}
 use Rattle.is_rules.specs.Accepting.{Takes}
 use Rattle.is_rules.specs.Agent.{AgentRecord}
-use Rattle.is_rules.specs.Answers.{TakesFailure}
+use Rattle.is_rules.specs.Answers.{HandlesFailure}
 use Rattle.is_rules.specs.Checking.{all_asked, ChecksTop, MayCheck}
 use Rattle.is_rules.specs.declared.credentials.IceCreds.{IceCreds}
 use Rattle.is_rules.specs.declared.places.RemotePlace.{RemotePlace}
@@ -33,20 +34,24 @@ use Rattle.is_rules.specs.Queue.{first_taken, request_at}
 use Rattle.is_rules.specs.Request.{RequestRecord, request_in}
 use Rattle.is_rules.specs.Roles.{conflict_of, switched, switched_sides, with_priority_in}
 use Rattle.is_rules.specs.Sending.{path_of, path_between}
-use Rattle.is_rules.specs.Serving.{is_misled, names_another, pair_served, replied, request_counted, selects_at_requests, trigger_time, with_sender, with_sender_at, Drops, Queues, RecordsAndResponds, FindsOrAddsPair, AddsUnknownSender, CountsAndServes, ResolvesRoleConflictBy, ResolvesRoleConflict, Serves}
+use Rattle.is_rules.specs.Serving.{is_misled, is_for_other_peer, pair_served, replied, request_counted, selects_at_requests, trigger_time, with_sender, with_sender_at, Drops, Queues, RecordsAndResponds, FindsOrAddsPair, AddsUnknownSender, CountsAndServes, ResolvesRoleConflictBy, ResolvesRoleConflict, Serves}
 use Rattle.is_rules.specs.Settling.{loses_selected, settled, Reselects}
 use Rattle.is_rules.specs.Sound.{IsSound, IsBelow, GivesBased}
 use Rattle.is_rules.specs.States.{evaluated}
-use Rattle.is_rules.specs.Steps.{Call, SetMtu, SetControlTieBreaker, SetMaxCandidatePairs, SetMaxDiscovered, SetIceLite, SetRenomination, SetTimingAdvance, SetLocalPreference, SetControlling, SetLocalCredentials, AddLocalCandidate, AddRemoteCandidate, ReceivePacket, HandleTimeout, PollTransmit, PollTimeout, PollEvent, Entry, Receives, Step}
+use Rattle.is_rules.specs.Steps.{Answer, is_done, Call, SetMtu, SetControlTieBreaker, SetMaxCandidatePairs, SetMaxDiscovered, SetIceLite, SetProfile, SetMaxStunRetransmits, SetRenomination, SetTimingAdvance, SetLocalPreference, SetControlling, SetLocalCredentials, AddLocalCandidate, AddRemoteCandidate, ReceivePacket, HandleTimeout, PollTransmit, PollTimeout, PollEvent, Entry, Receives, Step}
 use Rattle.is_rules.specs.Timeouts.{at_request, at_timeout, is_expired, expired_gone, timeout_begun, RemovesExpired, MaintainsPairs, ServesQueued}
 use Rattle.is_rules.proofs.PairLists.ChosenPair.{chosen-able, found-in}
 use Rattle.is_rules.proofs.PairLists.PairsByNumber.{numbered-found}
-use Rattle.is_theorems.specs.Courses.{AcceptsSuccess}
+use Rattle.is_theorems.specs.Executions.{AcceptsSuccess}
+use Rattle.is_theorems.specs.Exchange.{Execution}
+use Rattle.is_theorems.specs.FirstTimeouts.{AreInRound}
 use Rattle.is_theorems.specs.Progress.{IsGone}
 use Rattle.is_theorems.specs.Reached.{is_in_round}
+use Rattle.is_theorems.specs.Settings.{SettingsRecord, all_settings_of, settings_after}
 use Rattle.is_theorems.proofs.CallEffects.AddedCandidates.{by_adding_local, by_adding_remote, by_waking}
 use Rattle.is_theorems.proofs.CallEffects.ChangedCandidates.{adds_local_goes, adds_remote_goes}
-use Rattle.is_theorems.proofs.CallEffects.FailedCallsAndNewAgents.{mtu_kept, controlling_kept, local_kept, enrolment_kept, storing_kept}
+use Rattle.is_theorems.proofs.CallEffects.FailedCallsAndNewAgents.{mtu_kept, local_kept, enrolment_kept, storing_kept}
+use Rattle.is_theorems.proofs.CallEffects.KeptSettings.{settings-are-set}
 use Rattle.is_theorems.proofs.CallEffects.PathAndTradeEffects.{path_theorem}
 use Rattle.is_theorems.proofs.DuePairs.AfterPackets.{NoneValid, none-passes, and-false}
 use Rattle.is_theorems.proofs.DuePairs.FirstDuePair.{NoneAtOnce}
@@ -92,9 +97,26 @@ all-off true true true true true (inl is) = is
 all-off true true true true true (inr (inl is)) = is
 all-off true true true true true (inr (inr is)) = is
 
-pub lite_stays : {P : Type 0} (c : Call P) (l : Bool) → is_in_round c ≡ true → lite_set_by c l ≡ l
-lite_stays (SetIceLite lite) l is = no-case is
-lite_stays _ l is = refl
+pub lite_stays : {P : Type 0} (m : Bool) (c : Call P) (l : Bool) → is_in_round m c ≡ true → lite_set_by c l ≡ l
+lite_stays m (SetIceLite lite) l is = no-case is
+lite_stays m _ l is = refl
+
+-- the calls of rounds leave the profile
+profile-stays : {P : Type 0} (m : Bool) (c : Call P) (answer : Answer) (s : SettingsRecord P) → is_in_round m c ≡ true → (settings_after c answer s).settings.profile ≡ s.settings.profile
+profile-stays m (SetProfile profile) answer s is = no-case is
+profile-stays m (SetMaxStunRetransmits n) answer s is = no-case is
+profile-stays m (SetMtu mtu warn) answer s is = by (is_done answer) where
+  by : (b : Bool) → (if b then record s { mtu = mtu; mtu_warn = warn } else s).settings.profile ≡ s.settings.profile
+  by true = refl
+  by false = refl
+profile-stays m _ answer s is = refl
+
+-- renomination gets no numbers, if it is switched off, or by the profile `Original`
+pub not-numbered : (m r : Bool) → not (m && r) ≡ true → (r && m) ≡ false
+not-numbered true true is = no-case is
+not-numbered true false is = refl
+not-numbered false true is = refl
+not-numbered false false is = refl
 
 -- no path is answered
 abbrev NeverMet : Path → Type 0
@@ -253,7 +275,7 @@ module _ {H P : Type 0} where
       here (Some l) s new emitted none h = resolves (conflict_of s q) l s new emitted none h
 
       serves : (s new : AgentRecord H P) (emitted : Emitted) → NoneValid s.pairs → Serves mac q s emitted new → Calmer s new
-      serves s new emitted none h = either (names_another s q) h
+      serves s new emitted none h = either (is_for_other_peer s q) h
           (λ _ k. calmer-same s new k.1)
           (λ _ k. here (local_place s.local q) s new emitted none k)
 
@@ -263,7 +285,7 @@ module _ {H P : Type 0} where
 
     -- ---- packets
 
-    failure : (old new : AgentRecord H P) (via : Path) (m : Message) (emitted : Emitted) → TakesFailure old via m emitted new → Calmer old new
+    failure : (old new : AgentRecord H P) (via : Path) (m : Message) (emitted : Emitted) → HandlesFailure old via m emitted new → Calmer old new
     failure old new via m emitted h = by_failure (λ _ a. Calmer old a) old new via m emitted (λ code. (λ is. is, λ is. is, refl)) (λ code. (λ is. is, λ is. is, refl)) h
 
     by-class : (c : Class) (now : ℕ) (old mid : AgentRecord H P) (via : Path) (m : Message) (emitted : Emitted) → NoneValid old.pairs → Takes mac c now old via m emitted mid
@@ -325,7 +347,7 @@ module _ {H P : Type 0} where
     forms mid new all (f, each, made) = calmer-as mid _ new (λ is. is, λ is. is, refl) made
 
     module _ (answers : P → CandidateRecord → ℕ → ℕ → Type 0) where
-      pub calls-calmer : (call : Call P) (e : Entry) (old new : AgentRecord H P) (s t : Stream) → is_in_round call ≡ true → IsSound old → NoneValid old.pairs
+      pub calls-calmer : (call : Call P) (e : Entry) (old new : AgentRecord H P) (s t : Stream) → is_in_round (is_modern old.timing) call ≡ true → IsSound old → NoneValid old.pairs
           → Step mac answers old s call e new t → AcceptsSuccess call e ⊎ Calmer old new
       calls-calmer (ReceivePacket at via bytes) e old new s t is sound none (h, drawn) = receives answers at old new via bytes e none h
       calls-calmer PollTransmit e old new s t is sound none (given, reported, (polled, made), drawn) = inr (calmer-as old _ new (λ is. is, λ is. is, refl) made)
@@ -352,12 +374,10 @@ module _ {H P : Type 0} where
       calls-calmer (SetControlTieBreaker tie) e old new s t is sound none h = inr (calmer-as old _ new (λ is. is, λ is. is, refl) h.1)
       calls-calmer (SetMaxCandidatePairs k) e old new s t is sound none h = inr (calmer-as old _ new (λ is. is, λ is. is, refl) h.1)
       calls-calmer (SetMaxDiscovered limit) e old new s t is sound none h = inr (calmer-as old _ new (λ is. is, λ is. is, refl) h.1)
-      calls-calmer (SetRenomination true) e old new s t is sound none h = no-case is
-      calls-calmer (SetRenomination false) e old new s t is sound none h = inr (calmer-as old _ new (λ is. refl, λ is. is, refl) h.1)
+      calls-calmer (SetRenomination on) e old new s t is sound none h = inr (calmer-as old _ new (λ none. not-numbered (is_modern old.timing) on (search is), λ is. is, refl) h.1)
       calls-calmer (SetTimingAdvance by) e old new s t is sound none h = inr (calmer-as old _ new (λ is. is, λ is. is, refl) h.1)
       calls-calmer (SetLocalPreference object) e old new s t is sound none h = inr (calmer-as old _ new (λ is. is, λ is. is, refl) h.1)
-      calls-calmer (SetControlling controlling) e old new s t is sound none (Ok _, reported, h, drawn) = inr (calmer-as old _ new (λ is. is, λ is. is, refl) h.1)
-      calls-calmer (SetControlling controlling) e old new s t is sound none (Err error, reported, h, drawn) = inr (calmer-same old new (controlling_kept old new controlling error h))
+      calls-calmer (SetControlling controlling) e old new s t is sound none h = inr (calmer-as old _ new (λ is. is, λ is. is, refl) h.1)
       calls-calmer _ e old new s t is sound none step = no-case is
 
       pub timeouts-calmer : (now : ℕ) (e : Entry) (old new : AgentRecord H P) (s t : Stream) → NoneValid old.pairs → Step mac answers old s (HandleTimeout now) e new t → Calmer old new
@@ -392,13 +412,13 @@ module _ {H P : Type 0} where
       ]
 
       -- a success response is accepted, or no pair is valid, and no nomination is to be sent at once
-      pub quiet-call : (call : Call P) (e : Entry) (old new : AgentRecord H P) (s t : Stream) → is_in_round call ≡ true → IsSound old → GivesBased call → Quiet old → Step mac answers old s call e new t
+      pub quiet-call : (call : Call P) (e : Entry) (old new : AgentRecord H P) (s t : Stream) → is_in_round (is_modern old.timing) call ≡ true → IsSound old → GivesBased call → Quiet old → Step mac answers old s call e new t
           → AcceptsSuccess call e ⊎ Quiet new
       quiet-call call e old new s t is sound given q step =
           let f = (path_theorem mac answers old new s t call e sound given step).0 in
           elim (calls-calmer call e old new s t is sound q.invalid step) [
             | inl success ↦ inl success
-            | inr calmer ↦ quiet-after call e old new sound f (f.lite ∙ (lite_stays call old.lite is ∙ q.full)) calmer q
+            | inr calmer ↦ quiet-after call e old new sound f (f.lite ∙ (lite_stays (is_modern old.timing) call old.lite is ∙ q.full)) calmer q
           ]
 
       pub quiet-timeout : (now : ℕ) (e : Entry) (old new : AgentRecord H P) (s t : Stream) → IsSound old → Quiet old → Step mac answers old s (HandleTimeout now) e new t → Quiet new
@@ -408,3 +428,26 @@ module _ {H P : Type 0} where
             | inl (at, via, m, none, success) ↦ absurd none
             | inr after ↦ after
           ]
+
+-- ---- the profile stays in rounds
+
+module _ {H P : Type 0} (mac : H → List ℕ → List ℕ → List ℕ) (answers : P → CandidateRecord → ℕ → ℕ → Type 0) where
+  modern-as : (old new : AgentRecord H P) → (all_settings_of new).settings.profile ≡ (all_settings_of old).settings.profile → is_modern new.timing ≡ is_modern old.timing
+  modern-as old new is = ap (λ p. is_modern_profile p) is
+
+  pub modern-stays : (m : Bool) (call : Call P) (e : Entry) (old new : AgentRecord H P) (s t : Stream) → is_in_round m call ≡ true → Step mac answers old s call e new t → is_modern new.timing ≡ is_modern old.timing
+  modern-stays m call e old new s t is step =
+      modern-as old new (ap (λ (x : SettingsRecord P). x.settings.profile) (settings-are-set mac answers old new s t call e step) ∙ profile-stays m call e.answer (all_settings_of old) is)
+
+  pub modern-stays-timeout : (now : ℕ) (e : Entry) (old new : AgentRecord H P) (s t : Stream) → Step mac answers old s (HandleTimeout now) e new t → is_modern new.timing ≡ is_modern old.timing
+  modern-stays-timeout now e old new s t step =
+      modern-as old new (ap (λ (x : SettingsRecord P). x.settings.profile) (settings-are-set mac answers old new s t (HandleTimeout now) e step))
+
+  pub modern-execution : (m : Bool) (xs : List (Call P × Entry)) (old new : AgentRecord H P) → AreInRound m xs → Execution mac answers xs old new → is_modern new.timing ≡ is_modern old.timing
+  modern-execution m [] old new fits is = ap (λ (a : AgentRecord H P). is_modern a.timing) is
+  modern-execution m (x ∷ rest) old new fits (mid, s, t, given, step, more) =
+      modern-execution m rest mid new (λ y has. fits y (inr has)) more ∙ modern-stays m x.0 x.1 old mid s t (fits x (inl refl)) step
+
+-- a call that fits a round by its profile fits it as the agent is
+pub as-is : {P : Type 0} (m b : Bool) (call : Call P) → b ≡ m → is_in_round m call ≡ true → is_in_round b call ≡ true
+as-is m b call is fits = subst (λ c. is_in_round c call ≡ true) (sym is) fits

@@ -12,9 +12,10 @@ use Rattle.is_pair.specs.Pairs.{PairRecord}
 use Rattle.is_stun.specs.declared.header.Class.{Class}
 use Rattle.is_stun.specs.declared.header.Class.TheVariants as class
 use Rattle.is_stun.specs.Message.{Message}
+use Rattle.is_stun.specs.Timing.{is_modern}
 use Rattle.is_rules.specs.Accepting.{Takes}
 use Rattle.is_rules.specs.Agent.{AgentRecord}
-use Rattle.is_rules.specs.Answers.{TakesFailure, TakesSuccess}
+use Rattle.is_rules.specs.Answers.{HandlesFailure, HandlesSuccess}
 use Rattle.is_rules.specs.Checking.{all_asked, is_selected_number, ChecksTop, IsNextInTurn, IsNextToCheck, MayCheck}
 use Rattle.is_rules.specs.declared.credentials.IceCreds.{IceCreds}
 use Rattle.is_rules.specs.declared.places.RemotePlace.{RemotePlace}
@@ -34,7 +35,7 @@ use Rattle.is_rules.specs.Queue.{first_taken, request_at}
 use Rattle.is_rules.specs.Request.{RequestRecord, request_in}
 use Rattle.is_rules.specs.Roles.{conflict_of, switched}
 use Rattle.is_rules.specs.Sending.{path_between}
-use Rattle.is_rules.specs.Serving.{is_misled, names_another, pair_served, replied, request_counted, selects_at_requests, trigger_time, with_sender, with_sender_at, Drops, Queues, RecordsAndResponds, FindsOrAddsPair, AddsUnknownSender, CountsAndServes, ResolvesRoleConflictBy, ResolvesRoleConflict, Serves}
+use Rattle.is_rules.specs.Serving.{is_misled, is_for_other_peer, pair_served, replied, request_counted, selects_at_requests, trigger_time, with_sender, with_sender_at, Drops, Queues, RecordsAndResponds, FindsOrAddsPair, AddsUnknownSender, CountsAndServes, ResolvesRoleConflictBy, ResolvesRoleConflict, Serves}
 use Rattle.is_rules.specs.Settling.{loses_selected, settled, Reselects}
 use Rattle.is_rules.specs.Steps.{Answer, Call, SetMtu, SetControlTieBreaker, SetMaxCandidatePairs, SetMaxDiscovered, SetRenomination, SetTimingAdvance, SetLocalPreference, SetControlling, SetLocalCredentials, AddLocalCandidate, AddRemoteCandidate, ReceivePacket, HandleTimeout, PollTransmit, PollTimeout, PollEvent, Entry, Receives, Step}
 use Rattle.is_rules.specs.Timeouts.{at_request, at_timeout, is_expired, expired_gone, timeout_begun, RemovesExpired, MaintainsPairs, ServesQueued}
@@ -42,10 +43,11 @@ use Rattle.is_rules.proofs.PairLists.ChosenPair.{found-in}
 use Rattle.is_theorems.specs.Reached.{is_in_round, selects}
 use Rattle.is_theorems.proofs.BasicLemmas.PairsInTurn.{none-to-send}
 use Rattle.is_theorems.proofs.CallEffects.AddedCandidates.{by_adding_local, by_adding_remote, by_waking}
-use Rattle.is_theorems.proofs.CallEffects.FailedCallsAndNewAgents.{mtu_kept, controlling_kept, local_kept, enrolment_kept, storing_kept}
+use Rattle.is_theorems.proofs.CallEffects.FailedCallsAndNewAgents.{mtu_kept, local_kept, enrolment_kept, storing_kept}
 use Rattle.is_theorems.proofs.DuePairs.AfterNominationAndRemoval.{Base, gives-up-thins, names-thins, thins-on}
 use Rattle.is_theorems.proofs.DuePairs.ChecksAhead.{one-at-most}
 use Rattle.is_theorems.proofs.DuePairs.FirstDuePair.{next-check}
+use Rattle.is_theorems.proofs.DuePairs.NoNominationDue.{not-numbered}
 use Rattle.is_theorems.proofs.ExecutionLogs.LogSegments.{no-case}
 use Rattle.is_theorems.proofs.RuleEffects.NominatedPairs.{SelectsPath, selects_path}
 use Rattle.is_theorems.proofs.RuleEffects.UnchangedSettings.{either}
@@ -147,7 +149,7 @@ module _ {H P : Type 0} where
 
   -- ---- responses
 
-  success : (now : ℕ) (old new : AgentRecord H P) (via : Path) (m : Message) (emitted : Emitted) → TakesSuccess now old via m emitted new → Dues (selected emitted) old new
+  success : (now : ℕ) (old new : AgentRecord H P) (via : Path) (m : Message) (emitted : Emitted) → HandlesSuccess now old via m emitted new → Dues (selected emitted) old new
   success now old new via m emitted (recorded, (place, p, after, at, keeps, answered, made), (named, mid, nominates, emitted_is, done)) =
       let d = nominates-dues recorded mid named nominates in (
         λ plain. ap (λ (a : AgentRecord H P). numbers a) done ∙ d.0 (ap (λ (a : AgentRecord H P). numbers a) made ∙ plain),
@@ -157,7 +159,7 @@ module _ {H P : Type 0} where
         ],
       )
 
-  failure : (old new : AgentRecord H P) (via : Path) (m : Message) (emitted : Emitted) → TakesFailure old via m emitted new → Dues (selected emitted) old new
+  failure : (old new : AgentRecord H P) (via : Path) (m : Message) (emitted : Emitted) → HandlesFailure old via m emitted new → Dues (selected emitted) old new
   failure old new via m emitted h =
       by_failure (λ _ a. Dues (selected emitted) old a) old new via m emitted (λ code. (λ is. is, λ is. inl is)) (λ code. (λ is. is, λ is. inl is)) h
 
@@ -206,7 +208,7 @@ module _ {H P : Type 0} where
       here (Some l) s new emitted h = resolves (conflict_of s q) l s new emitted h
 
       serves : (s new : AgentRecord H P) (emitted : Emitted) → Serves mac q s emitted new → Dues (selected emitted) s new
-      serves s new emitted h = either (names_another s q) h
+      serves s new emitted h = either (is_for_other_peer s q) h
           (λ _ k. dues-same (selected emitted) s new k.1)
           (λ _ k. here (local_place s.local q) s new emitted k)
 
@@ -311,7 +313,7 @@ module _ {H P : Type 0} where
     forms b mid new all (f, each, made) = dues-as b mid _ new (λ is. is, λ is. inl is) made
 
     module _ (answers : P → CandidateRecord → ℕ → ℕ → Type 0) where
-      pub calls-due : (call : Call P) (e : Entry) (old new : AgentRecord H P) (s t : Stream) → is_in_round call ≡ true → Step mac answers old s call e new t → Dues (selects e) old new
+      pub calls-due : (call : Call P) (e : Entry) (old new : AgentRecord H P) (s t : Stream) → is_in_round (is_modern old.timing) call ≡ true → Step mac answers old s call e new t → Dues (selects e) old new
       calls-due (ReceivePacket at via bytes) e old new s t is (h, drawn) = receives answers at old new via bytes e h
       calls-due PollTransmit e old new s t is (given, reported, (polled, made), drawn) = dues-as (selects e) old _ new (λ is. is, λ is. inl is) made
       calls-due PollTimeout e old new s t is (deadline, reported, h, drawn) =
@@ -336,12 +338,10 @@ module _ {H P : Type 0} where
       calls-due (SetControlTieBreaker tie) e old new s t is h = dues-as (selects e) old _ new (λ is. is, λ is. inl is) h.1
       calls-due (SetMaxCandidatePairs k) e old new s t is h = dues-as (selects e) old _ new (λ is. is, λ is. inl is) h.1
       calls-due (SetMaxDiscovered limit) e old new s t is h = dues-as (selects e) old _ new (λ is. is, λ is. inl is) h.1
-      calls-due (SetRenomination true) e old new s t is h = no-case is
-      calls-due (SetRenomination false) e old new s t is h = dues-as (selects e) old _ new (λ is. refl, λ is. inl is) h.1
+      calls-due (SetRenomination on) e old new s t is h = dues-as (selects e) old _ new (λ none. not-numbered (is_modern old.timing) on (search is), λ is. inl is) h.1
       calls-due (SetTimingAdvance by) e old new s t is h = dues-as (selects e) old _ new (λ is. is, λ is. inl is) h.1
       calls-due (SetLocalPreference object) e old new s t is h = dues-as (selects e) old _ new (λ is. is, λ is. inl is) h.1
-      calls-due (SetControlling controlling) e old new s t is (Ok _, reported, h, drawn) = dues-as (selects e) old _ new (λ is. is, λ is. inl is) h.1
-      calls-due (SetControlling controlling) e old new s t is (Err error, reported, h, drawn) = dues-same (selects e) old new (controlling_kept old new controlling error h)
+      calls-due (SetControlling controlling) e old new s t is h = dues-as (selects e) old _ new (λ is. is, λ is. inl is) h.1
       calls-due _ e old new s t is step = no-case is
 
       pub timeouts-due : (now : ℕ) (e : Entry) (old new : AgentRecord H P) (s t : Stream) → Step mac answers old s (HandleTimeout now) e new t → Dues (selects e) old new

@@ -14,7 +14,7 @@ use Rattle.is_stun.specs.declared.timing.StunTiming.{StunTiming}
 use Rattle.is_stun.specs.Message.{Message}
 use Rattle.is_rules.specs.Accepting.{discovered_emitted, Takes}
 use Rattle.is_rules.specs.Agent.{AgentRecord}
-use Rattle.is_rules.specs.Answers.{goes_back, TakesSuccess, TakesFailure}
+use Rattle.is_rules.specs.Answers.{is_reverse, HandlesSuccess, HandlesFailure}
 use Rattle.is_rules.specs.declared.credentials.IceCreds.{IceCreds}
 use Rattle.is_rules.specs.declared.places.RemotePlace.{RemotePlace}
 use Rattle.is_rules.specs.declared.places.RemotePlace.TheVariants.{Known, Barred, Unknown, Vacant, Full}
@@ -28,7 +28,7 @@ use Rattle.is_rules.specs.Places.{local_place}
 use Rattle.is_rules.specs.Request.{RequestRecord, request_in}
 use Rattle.is_rules.specs.Roles.{conflict_of, switched, switched_sides, with_priority_in}
 use Rattle.is_rules.specs.Sending.{path_of}
-use Rattle.is_rules.specs.Serving.{after_request, served, selects_at_requests, trigger_time, is_misled, names_another, pair_served, request_counted, with_sender, with_sender_at, Drops, Queues, RecordsAndResponds, FindsOrAddsPair, AddsUnknownSender, CountsAndServes, ResolvesRoleConflictBy, ResolvesRoleConflict, Serves, as_taken}
+use Rattle.is_rules.specs.Serving.{after_request, served, selects_at_requests, trigger_time, is_misled, is_for_other_peer, pair_served, request_counted, with_sender, with_sender_at, Drops, Queues, RecordsAndResponds, FindsOrAddsPair, AddsUnknownSender, CountsAndServes, ResolvesRoleConflictBy, ResolvesRoleConflict, Serves, as_taken}
 use Rattle.is_rules.specs.States.{evaluated}
 use Rattle.is_rules.specs.Steps.{Entry, Flag, Receives}
 use Rattle.is_stun.specs.Reading.{Reads}
@@ -113,7 +113,7 @@ module _ {H P : Type 0} where
           (λ p. moved-mild by (last_time_of s) p (with_priority_in (switched_sides s) p) (record { number = refl; due = refl; kept = refl; nomination = inl refl })),
     )
 
-    failure : (old new : AgentRecord H P) (via : Path) (m : Message) (emitted : Emitted) → TakesFailure old via m emitted new → Goes old new
+    failure : (old new : AgentRecord H P) (via : Path) (m : Message) (emitted : Emitted) → HandlesFailure old via m emitted new → Goes old new
     failure old new via m emitted h =
         by_failure (λ _ a. Goes old a) old new via m emitted notes
         (λ code. goes-on old (recoded code old) (switched (recoded code old)) (notes code) (switches (recoded code old))) h where
@@ -127,12 +127,12 @@ module _ {H P : Type 0} where
     -- ---- responses
 
     success : (now : ℕ) (old new : AgentRecord H P) (via path : Path) (m : Message) (emitted : Emitted) → ((q : PairRecord) → Has old.pairs q → q.number ≡ n → path_of old q ≡ path)
-        → TakesSuccess now old via m emitted new → (goes_back via path ≡ true) ⊎ Goes old new
+        → HandlesSuccess now old via m emitted new → (is_reverse via path ≡ true) ⊎ Goes old new
     success now old new via path m emitted on (recorded, (place, p, after, at, keeps, (i, c, (c_at, c_id), is), made), (named, mid, nominates, emitted_is, done)) = whose (is_numbered n p) refl where
-      whose : (b : Bool) → is_numbered n p ≡ b → (goes_back via path ≡ true) ⊎ Goes old new
+      whose : (b : Bool) → is_numbered n p ≡ b → (is_reverse via path ≡ true) ⊎ Goes old new
       whose true numbered =
-          inl (subst (λ w. goes_back via w ≡ true) (on p (Has-get old.pairs place p at) (eqb-true p.number n numbered))
-          (both (keeps_check m.id p) (goes_back via (path_of old p)) keeps).1)
+          inl (subst (λ w. is_reverse via w ≡ true) (on p (Has-get old.pairs place p at) (eqb-true p.number n numbered))
+          (both (keeps_check m.id p) (is_reverse via (path_of old p)) keeps).1)
       whose false numbered =
           inr (goes-on old recorded new
           (goes-to old _ recorded (
@@ -194,7 +194,7 @@ module _ {H P : Type 0} where
         requested : (remote : Option IceCreds) (s new : AgentRecord H P) (emitted : Emitted) → is_some remote ≡ true
             → MatchOption remote (Queues q s emitted new) (λ _. Serves mac q s emitted new) → Goes s new
         requested None s new emitted known h = absurd (cc)
-        requested (Some peer) s new emitted known h = either (names_another s q) h
+        requested (Some peer) s new emitted known h = either (is_for_other_peer s q) h
             (λ _ k. goes-same s new k.1)
             (λ _ k. here (local_place s.local q) s new emitted k)
 
@@ -202,7 +202,7 @@ module _ {H P : Type 0} where
 
       by-class : (c : Class) (now : ℕ) (old mid : AgentRecord H P) (via path : Path) (m : Message) (emitted : Emitted) → is_some old.remote_creds ≡ true
           → ((q : PairRecord) → Has old.pairs q → q.number ≡ n → path_of old q ≡ path)
-          → Takes mac c now old via m emitted mid → ((c ≡ class.Success) × (goes_back via path ≡ true)) ⊎ Goes old mid
+          → Takes mac c now old via m emitted mid → ((c ≡ class.Success) × (is_reverse via path ≡ true)) ⊎ Goes old mid
       by-class class.Request now old mid via path m emitted known on h = inr (requested (request_in now via m) old.remote_creds old mid emitted known h)
       by-class class.Success now old mid via path m emitted known on h = elim (success now old mid via path m emitted on h) [ inl back ↦ inl (refl, back) | inr k ↦ inr k ]
       by-class class.Failure now old mid via path m emitted known on h = inr (failure old mid via m emitted h)
@@ -212,7 +212,7 @@ module _ {H P : Type 0} where
       -- raw bytes that arrived: the pair's path is answered, or no more checks go before it
       pub receives-goes : (answers : P → CandidateRecord → ℕ → ℕ → Type 0) (now : ℕ) (old new : AgentRecord H P) (via path : Path) (bytes : List ℕ) (e : Entry) → is_some old.remote_creds ≡ true
           → ((q : PairRecord) → Has old.pairs q → q.number ≡ n → path_of old q ≡ path) → Receives mac answers now old via bytes e new
-          → ((m : Message) × Reads bytes m × (e.answer ≡ Flag true) × (m.class ≡ class.Success) × (goes_back via path ≡ true)) ⊎ Goes old new
+          → ((m : Message) × Reads bytes m × (e.answer ≡ Flag true) × (m.class ≡ class.Success) × (is_reverse via path ≡ true)) ⊎ Goes old new
       receives-goes answers now old new via path bytes e known on (inl (fault, has_fault, is, made)) = inr (goes-same old new made)
       receives-goes answers now old new via path bytes e known on (inr (m, reads, (Ok true, emitted, is, (accepted, (mid, takes_it, made))))) =
           elim (by-class m.class now old mid via path m emitted known on takes_it) [

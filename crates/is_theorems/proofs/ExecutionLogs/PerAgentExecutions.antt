@@ -14,9 +14,9 @@ use Rattle.is_rules.specs.declared.emitted.Path.{Path}
 use Rattle.is_rules.specs.declared.emitted.Emitted.{Emitted}
 use Rattle.is_rules.specs.Agent.{AgentRecord}
 use Rattle.is_rules.specs.Checking.{all_asked, all_heard, ChecksTop, ChecksNext, MayCheck}
-use Rattle.is_theorems.specs.Courses.{CourseRound, AcceptsSuccess, IsAnsweredRound, SelectsAmong, ControlsAlong, CourseRounds, CoursesSelect}
+use Rattle.is_theorems.specs.Executions.{ExecutionRound, AcceptsSuccess, IsAnsweredRound, SelectsAmong, ControlsAlong, ExecutionRounds, ExecutionsSelect}
 use Rattle.is_rules.specs.Effects.{last_of}
-use Rattle.is_theorems.specs.Exchange.{Course}
+use Rattle.is_theorems.specs.Exchange.{Execution}
 use Rattle.is_theorems.specs.Logs.{Logged}
 use Rattle.is_rules.specs.Queue.{request_at}
 use Rattle.is_rules.specs.Request.{RequestRecord}
@@ -93,27 +93,27 @@ module _ {P : Type 0} where
 
   -- ---- its rounds, newest first
 
-  abbrev pub round_of : List (Logged P) → CourseRound P → LoggedRound P
+  abbrev pub round_of : List (Logged P) → ExecutionRound P → LoggedRound P
   round_of before r = record {
     following = part_of (entry_of before (HandleTimeout r.now) r.timeout ∷ before) r.following;
     timeout = entry_of before (HandleTimeout r.now) r.timeout;
     now = r.now;
   }
 
-  abbrev pub rounds_of : List (Logged P) → List (LoggedRound P) → List (CourseRound P) → List (LoggedRound P)
+  abbrev pub rounds_of : List (Logged P) → List (LoggedRound P) → List (ExecutionRound P) → List (LoggedRound P)
   rounds_of before older [] = older
   rounds_of before older (r ∷ later) = rounds_of before (round_of (entries_of older ++ before) r ∷ older) later
 
-  pub begun : (before : List (Logged P)) (x : LoggedRound P) (older : List (LoggedRound P)) (rounds : List (CourseRound P)) → began_at (rounds_of before (x ∷ older) rounds) ≡ began_at (x ∷ older)
+  pub begun : (before : List (Logged P)) (x : LoggedRound P) (older : List (LoggedRound P)) (rounds : List (ExecutionRound P)) → began_at (rounds_of before (x ∷ older) rounds) ≡ began_at (x ∷ older)
   begun before x older [] = refl
   begun before x older (r ∷ later) = begun before (round_of (entries_of (x ∷ older) ++ before) r) (x ∷ older) later
 
-  pub as_many : (before : List (Logged P)) (older : List (LoggedRound P)) (rounds : List (CourseRound P)) → length (rounds_of before older rounds) ≡ length older + length rounds
+  pub as_many : (before : List (Logged P)) (older : List (LoggedRound P)) (rounds : List (ExecutionRound P)) → length (rounds_of before older rounds) ≡ length older + length rounds
   as_many before older [] = omega arith
   as_many before older (r ∷ later) =
       let k = as_many before (round_of (entries_of older ++ before) r ∷ older) later in omega (arith, k)
 
-  is_round : (by : ℕ) (path : Path) (before : List (Logged P)) (r : CourseRound P) → IsAnsweredRound by path r → IsRound by path (round_of before r)
+  is_round : (by : ℕ) (path : Path) (before : List (Logged P)) (r : ExecutionRound P) → IsAnsweredRound by path r → IsRound by path (round_of before r)
   is_round by path before r round = record {
     comes = refl;
     done = round.done;
@@ -126,8 +126,8 @@ module _ {P : Type 0} where
         (k.0, k.1, subst (λ (y : Call P × Entry). AcceptsSuccess y.0 y.1) (sym k.2) m.2));
   }
 
-  are_rounds : (by : ℕ) (path : Path) (before : List (Logged P)) (older : List (LoggedRound P)) (rounds : List (CourseRound P)) → ((r : LoggedRound P) → Has older r → IsRound by path r)
-      → ((r : CourseRound P) → Has rounds r → IsAnsweredRound by path r) → (r : LoggedRound P) → Has (rounds_of before older rounds) r → IsRound by path r
+  are_rounds : (by : ℕ) (path : Path) (before : List (Logged P)) (older : List (LoggedRound P)) (rounds : List (ExecutionRound P)) → ((r : LoggedRound P) → Has older r → IsRound by path r)
+      → ((r : ExecutionRound P) → Has rounds r → IsAnsweredRound by path r) → (r : LoggedRound P) → Has (rounds_of before older rounds) r → IsRound by path r
   are_rounds by path before older [] were are r has = were r has
   are_rounds by path before older (x ∷ later) were are r has =
       are_rounds by path before (round_of (entries_of older ++ before) x ∷ older) later
@@ -137,11 +137,11 @@ module _ {P : Type 0} where
       ])
       (λ y there. are y (inr there)) r has
 
-  more_among : (x : CourseRound P) (rounds : List (CourseRound P)) → SelectsAmong rounds → SelectsAmong (x ∷ rounds)
+  more_among : (x : ExecutionRound P) (rounds : List (ExecutionRound P)) → SelectsAmong rounds → SelectsAmong (x ∷ rounds)
   more_among x rounds (r, has, rest) = (r, inr has, rest)
 
   -- what selects in the rounds of the log also does so in those of the per-agent execution
-  among : (before : List (Logged P)) (older : List (LoggedRound P)) (rounds : List (CourseRound P)) (x : Logged P) → Has (entries_of (rounds_of before older rounds)) x → BringsSuccess x
+  among : (before : List (Logged P)) (older : List (LoggedRound P)) (rounds : List (ExecutionRound P)) (x : Logged P) → Has (entries_of (rounds_of before older rounds)) x → BringsSuccess x
       → is_some (last_of x.entry.emitted.selected_paths) ≡ true → SelectsAmong rounds ⊎ Has (entries_of older) x
   among before older [] x has success emitted = inr has
   among before older (r ∷ later) x has success emitted =
@@ -204,7 +204,7 @@ module _ {H P : Type 0} (mac : H → List ℕ → List ℕ → List ℕ) (answer
     by false (is, made, drawn) = (is, made, refl)
   recomputed (SetLiteTimeout by) e old new s t u (is, made, drawn) = (u, (is, made, refl))
   recomputed (SetLocalPreference object) e old new s t u (is, made, drawn) = (u, (is, made, refl))
-  recomputed (SetControlling controlling) e old new s t u (r, is, does, drawn) = (u, (r, is, does, refl))
+  recomputed (SetControlling controlling) e old new s t u (is, made, drawn) = (u, (is, made, refl))
   recomputed (SetLocalCredentials creds) e old new s t u (r, is, does, drawn) = (u, (r, is, does, refl))
   recomputed (SetRemoteCredentials creds) e old new s t u (r, is, does, drawn) = (u, (r, is, does, refl))
   recomputed (SkipPairIds n) e old new s t u (is, made, drawn) = (u, (is, made, refl))
@@ -225,7 +225,7 @@ module _ {H P : Type 0} (mac : H → List ℕ → List ℕ → List ℕ) (answer
   abbrev pub Leads : AgentRecord H P → List (Logged P) → AgentRecord H P → Type 0
   Leads first log last = (t : Stream) → (s : Stream) × Run mac answers first s log last t
 
-  pub leads_on : (first : AgentRecord H P) (xs : List (Call P × Entry)) (before : List (Logged P)) (old new : AgentRecord H P) → Leads first before old → Course mac answers xs old new
+  pub leads_on : (first : AgentRecord H P) (xs : List (Call P × Entry)) (before : List (Logged P)) (old new : AgentRecord H P) → Leads first before old → Execution mac answers xs old new
       → Leads first (pushed before xs) new
   leads_on first [] before old new led is = subst (λ (a : AgentRecord H P). Leads first before a) (sym is) led
   leads_on first (x ∷ rest) before old new led (mid, s, t, based, step, more) =
@@ -247,11 +247,11 @@ module _ {H P : Type 0} (mac : H → List ℕ → List ℕ → List ℕ) (answer
       let k = join before one two start mid m s u v h (run, role.1) in
       ((m, v, k.0, number ∙ ap length (sym (append_assoc two one before)), based, step), (role.0, k.1))
 
-  holds_course : (xs : List (Call P × Entry)) (before : List (Logged P)) (old new : AgentRecord H P) → old.controlling ≡ true → (course : Course mac answers xs old new)
-      → ControlsAlong mac answers xs old new course → Holds before old (part_of before xs) new
-  holds_course [] before old new role is along t = (t, ((is, refl), ap (λ (a : AgentRecord H P). a.controlling) is ∙ role))
-  holds_course (x ∷ rest) before old new role (mid, s, t, based, step, more) along u =
-      let k = holds_course rest (entry_of before x.0 x.1 ∷ before) mid new along.0 more along.1 u in
+  holds_execution : (xs : List (Call P × Entry)) (before : List (Logged P)) (old new : AgentRecord H P) → old.controlling ≡ true → (execution : Execution mac answers xs old new)
+      → ControlsAlong mac answers xs old new execution → Holds before old (part_of before xs) new
+  holds_execution [] before old new role is along t = (t, ((is, refl), ap (λ (a : AgentRecord H P). a.controlling) is ∙ role))
+  holds_execution (x ∷ rest) before old new role (mid, s, t, based, step, more) along u =
+      let k = holds_execution rest (entry_of before x.0 x.1 ∷ before) mid new along.0 more along.1 u in
       let a = recomputed x.0 x.1 old mid s t k.0 step in (
         a.0,
         join before (entry_of before x.0 x.1 ∷ []) (part_of (entry_of before x.0 x.1 ∷ before) rest) old mid new a.0 k.0 u
@@ -262,17 +262,17 @@ module _ {H P : Type 0} (mac : H → List ℕ → List ℕ → List ℕ) (answer
   ends before [] start last s t h = h.1
   ends before (x ∷ part) start last s t h = h.1.0
 
-  holds_rounds : (rounds : List (CourseRound P)) (before : List (Logged P)) (older : List (LoggedRound P)) (start old new : AgentRecord H P) → Holds before start (entries_of older) old
-      → CourseRounds mac answers rounds old new → Holds before start (entries_of (rounds_of before older rounds)) new
+  holds_rounds : (rounds : List (ExecutionRound P)) (before : List (Logged P)) (older : List (LoggedRound P)) (start old new : AgentRecord H P) → Holds before start (entries_of older) old
+      → ExecutionRounds mac answers rounds old new → Holds before start (entries_of (rounds_of before older rounds)) new
   holds_rounds [] before older start old new held is = subst (λ (a : AgentRecord H P). Holds before start (entries_of older) a) (sym is) held
-  holds_rounds (r ∷ later) before older start old new held (mid, next, s, t, step, role, course, along, more) =
+  holds_rounds (r ∷ later) before older start old new held (mid, next, s, t, step, role, execution, along, more) =
       holds_rounds later before (round_of (entries_of older ++ before) r ∷ older) start next new one more where
         timeout : Logged P
         timeout = entry_of (entries_of older ++ before) (HandleTimeout r.now) r.timeout
 
         one : Holds before start (entries_of (round_of (entries_of older ++ before) r ∷ older)) next
         one u =
-            let k = holds_course r.following (timeout ∷ (entries_of older ++ before)) mid next role course along u in
+            let k = holds_execution r.following (timeout ∷ (entries_of older ++ before)) mid next role execution along u in
             let a = recomputed (HandleTimeout r.now) r.timeout old mid s t k.0 step in
             let h = held a.0 in (
               h.0,
@@ -280,13 +280,13 @@ module _ {H P : Type 0} (mac : H → List ℕ → List ℕ → List ℕ) (answer
                   ((old, a.0, h.1.0, refl, tt, a.1), (role, h.1.1)) k.1,
             )
 
-  pub courses-announce : CoursesSelect mac answers
-  courses-announce first start last xs r rounds p by fresh course role waits unanswered chain are enough =
+  pub executions-announce : ExecutionsSelect mac answers
+  executions-announce first start last xs r rounds p by fresh execution role waits unanswered chain are enough =
       let before : List (Logged P) = pushed [] xs in
       let all : List (LoggedRound P) = rounds_of before [] (r ∷ rounds) in
       let any : Stream = record { u32_after = λ cs. 0; u64_after = λ cs. 0; bytes_after = λ cs n. [] } in
       let held = holds_rounds (r ∷ rounds) before [] start start last (λ t. (t, ((refl, refl), role))) chain any in
-      let led = leads_on first xs [] first start (λ t. (t, (refl, refl))) course held.0 in
+      let led = leads_on first xs [] first start (λ t. (t, (refl, refl))) execution held.0 in
       let said = answered-rounds-announce mac answers first led.0 (entries_of all ++ before) fresh before start last all p r.now by
       (record { rest = []; split = refl; at = held.0; led = led.1; following = any; run = held.1.0 })
       (begun before (round_of ([] ++ before) r) [] rounds) waits unanswered

@@ -40,9 +40,9 @@ use Rattle.is_rules.specs.Remote.{AddsRemote, as_remote, with_remote}
 use Rattle.is_rules.specs.Restarting.{events_kept, restarted}
 use Rattle.is_rules.specs.States.{same_state, with_state, evaluated}
 use Rattle.is_rules.specs.Nominating.{with_selection, nominated_emitted, Nominates, NominatesWhere}
-use Rattle.is_rules.specs.Serving.{trigger_time, selects_at_requests, pair_served, request_counted, with_sender, with_sender_at, is_misled, names_another, RecordsAndResponds, FindsOrAddsPair, AddsUnknownSender, CountsAndServes, ResolvesRoleConflictBy, ResolvesRoleConflict, Drops, Serves}
+use Rattle.is_rules.specs.Serving.{trigger_time, selects_at_requests, pair_served, request_counted, with_sender, with_sender_at, is_misled, is_for_other_peer, RecordsAndResponds, FindsOrAddsPair, AddsUnknownSender, CountsAndServes, ResolvesRoleConflictBy, ResolvesRoleConflict, Drops, Serves}
 use Rattle.is_rules.specs.Queue.{first_taken, request_at, queued}
-use Rattle.is_rules.specs.Answers.{TakesSuccess, TakesFailure}
+use Rattle.is_rules.specs.Answers.{HandlesSuccess, HandlesFailure}
 use Rattle.is_rules.specs.Accepting.{Takes, discovered_emitted, is_passed_over, HandlesPacket}
 use Rattle.is_rules.specs.Checking.{all_asked, MayCheck, ChecksTop}
 use Rattle.is_rules.specs.Settling.{settled, loses_selected, Reselects}
@@ -51,7 +51,7 @@ use Rattle.is_rules.specs.Steps.{Call, SetMtu, SetControlTieBreaker, SetMaxCandi
 use Rattle.is_theorems.specs.Reporting.{Extends, Begins, FormsAgain, Reports, QueuesTheorem}
 use Rattle.is_theorems.proofs.RuleEffects.Reselection.{by-reselecting}
 use Rattle.is_theorems.proofs.RuleEffects.UnchangedSettings.{either}
-use Rattle.is_theorems.proofs.CallEffects.FailedCallsAndNewAgents.{mtu_kept, controlling_kept, local_kept, remote_kept, restart_kept, recreation_kept, enrolment_kept, storing_kept}
+use Rattle.is_theorems.proofs.CallEffects.FailedCallsAndNewAgents.{mtu_kept, local_kept, remote_kept, restart_kept, recreation_kept, enrolment_kept, storing_kept}
 use Rattle.is_theorems.proofs.CallEffects.SettingsRoleAndQueues.{FrameEffect, framed}
 use Rattle.is_theorems.proofs.CallEffects.AddedCandidates.{by_adding_local, by_adding_remote, by_waking}
 use Rattle.is_theorems.proofs.RuleEffects.NotedErrors.{recoded, by_failure}
@@ -166,7 +166,7 @@ module _ {H P : Type 0} where
     here_grows (Some l) s new emitted h = resolves_grows (conflict_of s q) l s new emitted h
 
     serves_grows : (s new : AgentRecord H P) (emitted : Emitted) → Serves mac q s emitted new → Grows s new
-    serves_grows s new emitted h = either (names_another s q) h (λ _ k. drops_grows s new emitted k) (λ _ k. here_grows (local_place s.local q) s new emitted k)
+    serves_grows s new emitted h = either (is_for_other_peer s q) h (λ _ k. drops_grows s new emitted k) (λ _ k. here_grows (local_place s.local q) s new emitted k)
 
     requested_grows : (peer : Option IceCreds) (s new : AgentRecord H P) (emitted : Emitted)
         → MatchOption peer ((emitted ≡ nothing_emitted) × (new ≡ queued q s)) (λ _. Serves mac q s emitted new) → Grows s new
@@ -175,14 +175,14 @@ module _ {H P : Type 0} where
 
   -- ---- responses
 
-  success_grows : (now : ℕ) (old new : AgentRecord H P) (via : Path) (m : Message) (emitted : Emitted) → TakesSuccess now old via m emitted new → Grows old new
+  success_grows : (now : ℕ) (old new : AgentRecord H P) (via : Path) (m : Message) (emitted : Emitted) → HandlesSuccess now old via m emitted new → Grows old new
   success_grows now old new via m emitted (recorded, (place, p, after, at, keeps, takes, made), (path, mid, nominates, is, last)) =
       let a : Grows old recorded = same_events old recorded (ap (λ (a : AgentRecord H P). a.events) made) in
       let b : Grows recorded mid = nominates_grows recorded mid path nominates in
       let c : Grows mid new = grown mid (evaluated now mid) new last (state_grows _ mid) in
       both old mid new (both old recorded mid a b) c
 
-  failure_grows : (old new : AgentRecord H P) (via : Path) (m : Message) (emitted : Emitted) → TakesFailure old via m emitted new → Grows old new
+  failure_grows : (old new : AgentRecord H P) (via : Path) (m : Message) (emitted : Emitted) → HandlesFailure old via m emitted new → Grows old new
   failure_grows old new via m emitted h =
       by_failure (λ _ a. Grows old a) old new via m emitted
       (λ code. drops_grows (recoded code old) (recoded code old) nothing_emitted (refl, refl))
@@ -310,8 +310,7 @@ module _ {H P : Type 0} where
     reports (SetMaxStunRetransmits n) h = retransmits (n == 0) n h
     reports (SetLiteTimeout by) h = becomes _ refl h
     reports (SetLocalPreference object) h = becomes _ refl h
-    reports (SetControlling controlling) (Ok _, is, h, drawn) = same_events old new (ap (λ (a : AgentRecord H P). a.events) h.1)
-    reports (SetControlling controlling) (Err error, is, h, drawn) = stays old new (controlling_kept old new controlling error h)
+    reports (SetControlling controlling) h = becomes _ refl h
     reports (SetLocalCredentials creds) (Ok _, is, h, drawn) = same_events old new (ap (λ (a : AgentRecord H P). a.events) h.1)
     reports (SetLocalCredentials creds) (Err error, is, h, drawn) = stays old new (local_kept old new creds error h)
     reports (SetRemoteCredentials creds) (Ok _, is, h, drawn) = same_events old new (ap (λ (a : AgentRecord H P). a.events) h.1)
@@ -323,9 +322,8 @@ module _ {H P : Type 0} where
     reports (AddRemoteCandidate c) (Ok _, emitted, is, (path, mid, h, again, emits), drawn) = selects mid path again (remote_grows old mid c h)
     reports (AddRemoteCandidate c) (Err error, emitted, is, (path, mid, h, again, emits), drawn) =
         selects mid path again (stays old mid (storing_kept old mid c error h))
-    reports (InvalidateCandidate c) (Ok found, emitted, is, (path, mid, h, again, emits), drawn) =
+    reports (InvalidateCandidate c) (found, emitted, is, (path, mid, h, again, emits), drawn) =
         selects mid path again (invalidates_grows old mid (local_to_discard c old) (remote_to_discard c old) found h)
-    reports (InvalidateCandidate c) (Err error, emitted, is, (path, mid, h, again, emits), drawn) = selects mid path again (stays old mid h.1)
     reports (RestartIce creds keep) (Ok _, is, h, drawn) =
         subst (λ (x : Entry). Begins x.answer creds old.events new.events) (sym is)
         (subst (λ (a : AgentRecord H P). Begins Done creds old.events a.events) (sym h.1) (begins creds keep old))

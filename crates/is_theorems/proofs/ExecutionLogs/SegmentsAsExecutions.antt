@@ -1,18 +1,18 @@
 -- A segment of a log, newest entry first, is an execution, oldest call first: its rounds, and what ends a pair in them.
-use Rattle.std.proofs.Common.{◌≡◌, ℕ, ◌+◌, true, List, [], ◌∷◌, ◌++◌, length, inl, inr, ◌⊎◌, refl, ap, sym, ◌∙◌, subst, arith, append_assoc}
+use Rattle.std.proofs.Common.{◌≡◌, ℕ, ◌+◌, Bool, true, List, [], ◌∷◌, ◌++◌, length, inl, inr, ◌⊎◌, refl, ap, sym, ◌∙◌, subst, arith, append_assoc}
 use Rattle.rand_core.specs.Stream.{Stream}
 use Rattle.is_proto.specs.Lists.{Has}
 use Rattle.is_candidate.specs.Candidates.{CandidateRecord}
 use Rattle.is_rules.specs.declared.emitted.Path.{Path}
 use Rattle.is_rules.specs.Agent.{AgentRecord}
-use Rattle.is_rules.specs.Steps.{Call, Entry, HandleTimeout, Step}
-use Rattle.is_theorems.specs.AskedCourses.{Ends, EndsAlong}
-use Rattle.is_theorems.specs.Courses.{CourseRound}
-use Rattle.is_theorems.specs.Exchange.{Course}
+use Rattle.is_rules.specs.Steps.{Call, Entry, SetRenomination, HandleTimeout, Step}
+use Rattle.is_theorems.specs.AskedExecutions.{Ends, EndsAlong}
+use Rattle.is_theorems.specs.Executions.{ExecutionRound}
+use Rattle.is_theorems.specs.Exchange.{Execution}
 use Rattle.is_theorems.specs.FirstTimeouts.{EndsAmong}
 use Rattle.is_theorems.specs.Logs.{Logged}
 use Rattle.is_theorems.specs.Reached.{is_in_round, IsEndedIn}
-use Rattle.is_theorems.specs.ReachedCourses.{PassRounds}
+use Rattle.is_theorems.specs.ReachedExecutions.{PassRounds}
 use Rattle.is_theorems.specs.Rounds.{LoggedRound, entries_of, RunsOn}
 use Rattle.is_theorems.specs.Runs.{Run}
 
@@ -40,14 +40,14 @@ module _ {P : Type 0} where
 
   -- ---- its rounds, with others after them
 
-  abbrev pub round_from : LoggedRound P → CourseRound P
+  abbrev pub round_from : LoggedRound P → ExecutionRound P
   round_from r = record { now = r.now; timeout = r.timeout.entry; following = calls_onto r.following [] }
 
-  abbrev pub rounds_onto : List (LoggedRound P) → List (CourseRound P) → List (CourseRound P)
+  abbrev pub rounds_onto : List (LoggedRound P) → List (ExecutionRound P) → List (ExecutionRound P)
   rounds_onto [] more = more
   rounds_onto (r ∷ older) more = rounds_onto older (round_from r ∷ more)
 
-  pub rounds_is : (rounds : List (LoggedRound P)) (more : List (CourseRound P)) (y : CourseRound P) → Has (rounds_onto rounds more) y → ((x : LoggedRound P) × Has rounds x × (round_from x ≡ y)) ⊎ Has more y
+  pub rounds_is : (rounds : List (LoggedRound P)) (more : List (ExecutionRound P)) (y : ExecutionRound P) → Has (rounds_onto rounds more) y → ((x : LoggedRound P) × Has rounds x × (round_from x ≡ y)) ⊎ Has more y
   rounds_is [] more y has = inr has
   rounds_is (x ∷ older) more y has = elim (rounds_is older (round_from x ∷ more) y has) [
     | inl (z, there, is) ↦ inl (z, inr there, is)
@@ -55,10 +55,16 @@ module _ {P : Type 0} where
     | inr (inr there) ↦ inr there
   ]
 
-  pub rounds_count : (rounds : List (LoggedRound P)) (more : List (CourseRound P)) → length (rounds_onto rounds more) ≡ length rounds + length more
+  pub rounds_count : (rounds : List (LoggedRound P)) (more : List (ExecutionRound P)) → length (rounds_onto rounds more) ≡ length rounds + length more
   rounds_count [] more = omega arith
   rounds_count (r ∷ older) more =
       let k : length (rounds_onto older (round_from r ∷ more)) ≡ length older + length (round_from r ∷ more) = rounds_count older (round_from r ∷ more) in omega (arith, k)
+
+-- what may remove a pair in rounds fits rounds with either profile
+pub ended-fits : {H P : Type 0} (answers : P → CandidateRecord → ℕ → ℕ → Type 0) (m : Bool) (a : AgentRecord H P) (call : Call P) (e : Entry) (path : Path) → is_in_round m call ≡ true → Ends answers a call e path
+    → is_in_round true call ≡ true
+ended-fits answers m a (SetRenomination on) e path is (p, has, joins, ends) = absurd ends
+ended-fits answers m a _ e path is ended = is
 
 module _ {H P : Type 0} (mac : H → List ℕ → List ℕ → List ℕ) (answers : P → CandidateRecord → ℕ → ℕ → Type 0) where
   -- ---- two parts of a segment
@@ -83,58 +89,58 @@ module _ {H P : Type 0} (mac : H → List ℕ → List ℕ → List ℕ) (answer
 
   -- ---- the execution of a segment
 
-  abbrev pub course_from : (more : List (Call P × Entry)) (a b last : AgentRecord H P) → a ≡ b → Course mac answers more a last → Course mac answers more b last
-  course_from [] a b last same is = is ∙ same
-  course_from (x ∷ rest) a b last same (mid, s, t, given, step, more) = (mid, s, t, given, subst (λ (z : AgentRecord H P). Step mac answers z s x.0 x.1 mid t) same step, more)
+  abbrev pub execution_from : (more : List (Call P × Entry)) (a b last : AgentRecord H P) → a ≡ b → Execution mac answers more a last → Execution mac answers more b last
+  execution_from [] a b last same is = is ∙ same
+  execution_from (x ∷ rest) a b last same (mid, s, t, given, step, more) = (mid, s, t, given, subst (λ (z : AgentRecord H P). Step mac answers z s x.0 x.1 mid t) same step, more)
 
-  ends_from : (path : Path) (more : List (Call P × Entry)) (a b last : AgentRecord H P) (same : a ≡ b) (course : Course mac answers more a last)
-      → EndsAlong mac answers more b last (course_from more a b last same course) path → EndsAlong mac answers more a last course path
-  ends_from path [] a b last same course none = absurd none
+  ends_from : (path : Path) (more : List (Call P × Entry)) (a b last : AgentRecord H P) (same : a ≡ b) (execution : Execution mac answers more a last)
+      → EndsAlong mac answers more b last (execution_from more a b last same execution) path → EndsAlong mac answers more a last execution path
+  ends_from path [] a b last same execution none = absurd none
   ends_from path (x ∷ rest) a b last same (mid, s, t, given, step, more) (inl here) = inl (subst (λ (z : AgentRecord H P). Ends answers z x.0 x.1 path) (sym same) here)
   ends_from path (x ∷ rest) a b last same (mid, s, t, given, step, more) (inr others) = inr others
 
-  abbrev pub course_onto : (xs : List (Logged P)) (more : List (Call P × Entry)) (before : List (Logged P)) (start mid last : AgentRecord H P) (s t : Stream)
-      → RunsOn mac answers before start s xs mid t → Course mac answers more mid last → Course mac answers (calls_onto xs more) start last
-  course_onto [] more before start mid last s t is course = course_from more mid start last is.0 course
-  course_onto (x ∷ older) more before start mid last s t (old, u, run, number, given, step) course =
-      course_onto older ((x.call, x.entry) ∷ more) before start old last s u run (mid, u, t, given, step, course)
+  abbrev pub execution_onto : (xs : List (Logged P)) (more : List (Call P × Entry)) (before : List (Logged P)) (start mid last : AgentRecord H P) (s t : Stream)
+      → RunsOn mac answers before start s xs mid t → Execution mac answers more mid last → Execution mac answers (calls_onto xs more) start last
+  execution_onto [] more before start mid last s t is execution = execution_from more mid start last is.0 execution
+  execution_onto (x ∷ older) more before start mid last s t (old, u, run, number, given, step) execution =
+      execution_onto older ((x.call, x.entry) ∷ more) before start old last s u run (mid, u, t, given, step, execution)
 
-  ends_onto : (path : Path) (xs : List (Logged P)) (more : List (Call P × Entry)) (before : List (Logged P)) (start mid last : AgentRecord H P) (s t : Stream)
-      → ((x : Logged P) → Has xs x → is_in_round x.call ≡ true)
-      → (run : RunsOn mac answers before start s xs mid t) (course : Course mac answers more mid last)
-      → EndsAlong mac answers (calls_onto xs more) start last (course_onto xs more before start mid last s t run course) path
-      → IsEndedIn mac answers before start s xs mid t run path ⊎ EndsAlong mac answers more mid last course path
-  ends_onto path [] more before start mid last s t fits is course ended = inr (ends_from path more mid start last is.0 course ended)
-  ends_onto path (x ∷ older) more before start mid last s t fits (old, u, run, number, given, step) course ended =
-      elim (ends_onto path older ((x.call, x.entry) ∷ more) before start old last s u (λ y has. fits y (inr has)) run (mid, u, t, given, step, course) ended) [
+  ends_onto : (m : Bool) (path : Path) (xs : List (Logged P)) (more : List (Call P × Entry)) (before : List (Logged P)) (start mid last : AgentRecord H P) (s t : Stream)
+      → ((x : Logged P) → Has xs x → is_in_round m x.call ≡ true)
+      → (run : RunsOn mac answers before start s xs mid t) (execution : Execution mac answers more mid last)
+      → EndsAlong mac answers (calls_onto xs more) start last (execution_onto xs more before start mid last s t run execution) path
+      → IsEndedIn mac answers before start s xs mid t run path ⊎ EndsAlong mac answers more mid last execution path
+  ends_onto m path [] more before start mid last s t fits is execution ended = inr (ends_from path more mid start last is.0 execution ended)
+  ends_onto m path (x ∷ older) more before start mid last s t fits (old, u, run, number, given, step) execution ended =
+      elim (ends_onto m path older ((x.call, x.entry) ∷ more) before start old last s u (λ y has. fits y (inr has)) run (mid, u, t, given, step, execution) ended) [
         | inl within ↦ inl (inr within)
-        | inr (inl here) ↦ inl (inl (fits x (inl refl), here))
+        | inr (inl here) ↦ inl (inl (ended-fits answers m old x.call x.entry path (fits x (inl refl)) here, here))
         | inr (inr others) ↦ inr others
       ]
 
   -- the execution before a segment
-  pub course_to : (before : List (Logged P)) (first start last : AgentRecord H P) (more : List (Call P × Entry)) (s t : Stream) → Run mac answers first s before start t
-      → Course mac answers more start last → Course mac answers (calls_onto before more) first last
-  course_to [] first start last more s t is course = course_from more start first last is.0 course
-  course_to (x ∷ before) first start last more s t (old, u, led, number, given, step) course =
-      course_to before first old last ((x.call, x.entry) ∷ more) s u led (start, u, t, given, step, course)
+  pub execution_to : (before : List (Logged P)) (first start last : AgentRecord H P) (more : List (Call P × Entry)) (s t : Stream) → Run mac answers first s before start t
+      → Execution mac answers more start last → Execution mac answers (calls_onto before more) first last
+  execution_to [] first start last more s t is execution = execution_from more start first last is.0 execution
+  execution_to (x ∷ before) first start last more s t (old, u, led, number, given, step) execution =
+      execution_to before first old last ((x.call, x.entry) ∷ more) s u led (start, u, t, given, step, execution)
 
   -- ---- the rounds of a segment
 
-  abbrev pub pass_from : (more : List (CourseRound P)) (a b last : AgentRecord H P) → a ≡ b → PassRounds mac answers more a last → PassRounds mac answers more b last
+  abbrev pub pass_from : (more : List (ExecutionRound P)) (a b last : AgentRecord H P) → a ≡ b → PassRounds mac answers more a last → PassRounds mac answers more b last
   pass_from [] a b last same is = is ∙ same
-  pass_from (r ∷ later) a b last same (mid, next, s, t, step, course, more) =
-      (mid, next, s, t, subst (λ (z : AgentRecord H P). Step mac answers z s (HandleTimeout r.now) r.timeout mid t) same step, course, more)
+  pass_from (r ∷ later) a b last same (mid, next, s, t, step, execution, more) =
+      (mid, next, s, t, subst (λ (z : AgentRecord H P). Step mac answers z s (HandleTimeout r.now) r.timeout mid t) same step, execution, more)
 
-  among_from : (path : Path) (more : List (CourseRound P)) (a b last : AgentRecord H P) (same : a ≡ b) (pass : PassRounds mac answers more a last)
+  among_from : (path : Path) (more : List (ExecutionRound P)) (a b last : AgentRecord H P) (same : a ≡ b) (pass : PassRounds mac answers more a last)
       → EndsAmong mac answers more b last (pass_from more a b last same pass) path → EndsAmong mac answers more a last pass path
   among_from path [] a b last same pass none = absurd none
-  among_from path (r ∷ later) a b last same (mid, next, s, t, step, course, more) ended = ended
+  among_from path (r ∷ later) a b last same (mid, next, s, t, step, execution, more) ended = ended
 
   abbrev Comes : List (LoggedRound P) → Type 0
   Comes rounds = (r : LoggedRound P) → Has rounds r → r.timeout.call ≡ HandleTimeout r.now
 
-  abbrev pub pass_onto : (rounds : List (LoggedRound P)) (more : List (CourseRound P)) (before : List (Logged P)) (start mid last : AgentRecord H P) (s t : Stream) → Comes rounds
+  abbrev pub pass_onto : (rounds : List (LoggedRound P)) (more : List (ExecutionRound P)) (before : List (Logged P)) (start mid last : AgentRecord H P) (s t : Stream) → Comes rounds
       → RunsOn mac answers before start s (entries_of rounds) mid t → PassRounds mac answers more mid last → PassRounds mac answers (rounds_onto rounds more) start last
   pass_onto [] more before start mid last s t comes is pass = pass_from more mid start last is.0 pass
   pass_onto (r ∷ older) more before start mid last s t comes run pass =
@@ -145,29 +151,29 @@ module _ {H P : Type 0} (mac : H → List ℕ → List ℕ → List ℕ) (answer
         h.2.1,
         h.1,
         subst (λ (c : Call P). Step mac answers h.2.0 h.2.1 c r.timeout.entry h.0 h.1) (comes r (inl refl)) h.2.5,
-        course_onto r.following [] ((r.timeout ∷ entries_of older) ++ before) h.0 mid mid h.1 t h.3 refl,
+        execution_onto r.following [] ((r.timeout ∷ entries_of older) ++ before) h.0 mid mid h.1 t h.3 refl,
         pass,
       )
 
-  pub among_onto : (path : Path) (rounds : List (LoggedRound P)) (more : List (CourseRound P)) (before : List (Logged P)) (start mid last : AgentRecord H P) (s t : Stream) (comes : Comes rounds)
-      → ((r : LoggedRound P) → Has rounds r → (x : Logged P) → Has r.following x → is_in_round x.call ≡ true)
+  pub among_onto : (m : Bool) (path : Path) (rounds : List (LoggedRound P)) (more : List (ExecutionRound P)) (before : List (Logged P)) (start mid last : AgentRecord H P) (s t : Stream) (comes : Comes rounds)
+      → ((r : LoggedRound P) → Has rounds r → (x : Logged P) → Has r.following x → is_in_round m x.call ≡ true)
       → (run : RunsOn mac answers before start s (entries_of rounds) mid t) (pass : PassRounds mac answers more mid last)
       → EndsAmong mac answers (rounds_onto rounds more) start last (pass_onto rounds more before start mid last s t comes run pass) path
       → IsEndedIn mac answers before start s (entries_of rounds) mid t run path ⊎ EndsAmong mac answers more mid last pass path
-  among_onto path [] more before start mid last s t comes fits is pass ended = inr (among_from path more mid start last is.0 pass ended)
-  among_onto path (r ∷ older) more before start mid last s t comes fits run pass ended =
+  among_onto m path [] more before start mid last s t comes fits is pass ended = inr (among_from path more mid start last is.0 pass ended)
+  among_onto m path (r ∷ older) more before start mid last s t comes fits run pass ended =
       let h = split-run before start mid s t r.following (r.timeout ∷ entries_of older) run in
-      elim (among_onto path older (round_from r ∷ more) before start h.2.0 last s h.2.1 (λ x has. comes x (inr has)) (λ x has. fits x (inr has)) h.2.2 (
+      elim (among_onto m path older (round_from r ∷ more) before start h.2.0 last s h.2.1 (λ x has. comes x (inr has)) (λ x has. fits x (inr has)) h.2.2 (
         h.0,
         mid,
         h.2.1,
         h.1,
         subst (λ (c : Call P). Step mac answers h.2.0 h.2.1 c r.timeout.entry h.0 h.1) (comes r (inl refl)) h.2.5,
-        course_onto r.following [] ((r.timeout ∷ entries_of older) ++ before) h.0 mid mid h.1 t h.3 refl,
+        execution_onto r.following [] ((r.timeout ∷ entries_of older) ++ before) h.0 mid mid h.1 t h.3 refl,
         pass,
       ) ended) [
         | inl within ↦ inl (split-ended path before start mid s t r.following (r.timeout ∷ entries_of older) run (inr (inr within)))
-        | inr (inl here) ↦ elim (ends_onto path r.following [] ((r.timeout ∷ entries_of older) ++ before) h.0 mid mid h.1 t (λ x has. fits r (inl refl) x has) h.3 refl here) [
+        | inr (inl here) ↦ elim (ends_onto m path r.following [] ((r.timeout ∷ entries_of older) ++ before) h.0 mid mid h.1 t (λ x has. fits r (inl refl) x has) h.3 refl here) [
           | inl within ↦ inl (split-ended path before start mid s t r.following (r.timeout ∷ entries_of older) run (inl within))
           | inr none ↦ absurd none
         ]

@@ -194,14 +194,14 @@ module _ {H P : Type 0} (mac : H → List ℕ → List ℕ → List ℕ) (answer
         some-is : (x y : ℕ) → Some x ≡ Some y → x ≡ y
         some-is x y e = cc
 
-        late-in : (r : LoggedRound P) → IsPassing by r → by < r.now
+        late-in : (r : LoggedRound P) → IsPassing ahead by r → by < r.now
         late-in r passing = let late = passing.late in omega (arith, late)
 
-        early-in : (r : LoggedRound P) → IsPassing by r → r.now < MAX
+        early-in : (r : LoggedRound P) → IsPassing ahead by r → r.now < MAX
         early-in r passing = let early = passing.early in omega (arith, early)
 
         persists-at : (r : LoggedRound P) (older : List (LoggedRound P)) (old : AgentRecord H P) (z : Stream) (run : RunsOn mac answers before start u (entries_of older) old z)
-            → began_at (r ∷ older) ≡ Some at → IsPassing by r → After older old z run → PersistsAt r.now (length older) (spent_in older) old
+            → began_at (r ∷ older) ≡ Some at → IsPassing ahead by r → After older old z run → PersistsAt r.now (length older) (spent_in older) old
         persists-at r [] old z run began passing done =
             let now : r.now ≡ at = some-is r.now at began in
             let late : by < r.now = late-in r passing in
@@ -279,7 +279,7 @@ module _ {H P : Type 0} (mac : H → List ℕ → List ℕ → List ℕ) (answer
         one-round : (r : LoggedRound P) (older : List (LoggedRound P)) (old mid last : AgentRecord H P) (z v t : Stream) (run_older : RunsOn mac answers before start u (entries_of older) old z)
             → (number : r.timeout.number ≡ length (entries_of older ++ before)) (given : GivesBased r.timeout.call) (step : Step mac answers old z r.timeout.call r.timeout.entry mid v)
             → (back : RunsOn mac answers ((r.timeout ∷ entries_of older) ++ before) mid v r.following last t)
-            → began_at (r ∷ older) ≡ Some at → IsPassing by r → keeps r.now ≡ true → InTurn w kinds kind n old mid → After older old z run_older
+            → began_at (r ∷ older) ≡ Some at → IsPassing ahead by r → keeps r.now ≡ true → InTurn w kinds kind n old mid → After older old z run_older
             → Reached (r ∷ older)
             ⊎ (IsEndedIn mac answers ((r.timeout ∷ entries_of older) ++ before) mid v r.following last t back path
             ⊎ (WaitsAt r.now (length (r ∷ older)) (spent_in (r ∷ older)) last
@@ -321,7 +321,7 @@ module _ {H P : Type 0} (mac : H → List ℕ → List ℕ → List ℕ) (answer
               no-both : (b : Bool) → b ≡ true → b ≡ false → ⊥
               no-both b on off = let no : true ≡ false = sym on ∙ off in cc
 
-        rounds-turn : (rounds : List (LoggedRound P)) (last : AgentRecord H P) (t : Stream) → (rounds ≡ [] ⊎ began_at rounds ≡ Some at) → ((r : LoggedRound P) → Has rounds r → IsPassing by r)
+        rounds-turn : (rounds : List (LoggedRound P)) (last : AgentRecord H P) (t : Stream) → (rounds ≡ [] ⊎ began_at rounds ≡ Some at) → ((r : LoggedRound P) → Has rounds r → IsPassing ahead by r)
             → ((r : LoggedRound P) → Has rounds r → keeps r.now ≡ true) → (run : RunsOn mac answers before start u (entries_of rounds) last t)
             → AtTimeoutsIn mac answers (InTurn w kinds kind n) before start u (entries_of rounds) last t run
             → Reached rounds ⊎ (IsEndedIn mac answers before start u (entries_of rounds) last t run path ⊎ After rounds last t run)

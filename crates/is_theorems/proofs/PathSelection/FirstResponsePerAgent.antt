@@ -6,18 +6,18 @@ use Rattle.is_candidate.specs.Candidates.{CandidateRecord}
 use Rattle.is_pair.specs.Pairs.{PairRecord, is_valid}
 use Rattle.is_rules.specs.declared.emitted.Path.{Path}
 use Rattle.is_rules.specs.Agent.{AgentRecord}
-use Rattle.is_theorems.specs.AskedCourses.{selected_along, SelectsAlong, SuccessesSelect}
+use Rattle.is_theorems.specs.AskedExecutions.{selected_along, SelectsAlong, SuccessesSelect}
 use Rattle.is_rules.specs.Effects.{last_of}
-use Rattle.is_theorems.specs.Exchange.{Course}
+use Rattle.is_theorems.specs.Exchange.{Execution}
 use Rattle.is_rules.specs.Sound.{IsSound}
 use Rattle.is_rules.specs.Steps.{Call, Entry, ReceivePacket}
 use Rattle.is_theorems.proofs.PathSelection.SelectedAfterFirstResponse.{one-named}
 use Rattle.is_theorems.proofs.PathSelection.SelectedAfterResponse.{eligible}
-use Rattle.is_theorems.proofs.PathSelection.NominatedByPeerPerAgent.{course_on, names-from}
+use Rattle.is_theorems.proofs.PathSelection.NominatedByPeerPerAgent.{execution_on, names-from}
 use Rattle.is_theorems.proofs.CallEffects.PathAndTradeEffects.{path_theorem}
 use Rattle.is_theorems.proofs.PathSelection.SelectedPairIsNominated.{names-best, was-named}
 use Rattle.is_theorems.proofs.CallEffects.FailedCallsAndNewAgents.{fresh_sound}
-use Rattle.is_theorems.proofs.StoredPairs.TransactionsOverPackets.{sound-course}
+use Rattle.is_theorems.proofs.StoredPairs.TransactionsOverPackets.{sound-execution}
 
 module _ {H P : Type 0} where
   -- `selected_pair` names no pair
@@ -26,7 +26,7 @@ module _ {H P : Type 0} where
 
   module _ (mac : H → List ℕ → List ℕ → List ℕ) (answers : P → CandidateRecord → ℕ → ℕ → Type 0) where
     -- if it comes to name a pair, a path is selected along the way
-    selects : (xs : List (Call P × Entry)) (old new : AgentRecord H P) → IsSound old → Course mac answers xs old new → NamesNone old
+    selects : (xs : List (Call P × Entry)) (old new : AgentRecord H P) → IsSound old → Execution mac answers xs old new → NamesNone old
         → (p : PairRecord) → Has new.pairs p → new.selected_pair ≡ Some p.number → SelectsAlong xs
     selects [] old new sound is none p has named = absurd (subst (λ (a : AgentRecord H P). NamesNone a) (sym is) none p has named)
     selects (x ∷ rest) old new sound (mid, s, t, based, step, more) none p has named =
@@ -38,11 +38,11 @@ module _ {H P : Type 0} where
           by None is later = let k = later is in (k.0, inr k.1, k.2)
 
     pub successes-select : SuccessesSelect mac answers
-    successes-select first start near last before xs s t now via bytes e m fresh led none course step brings success role =
+    successes-select first start near last before xs s t now via bytes e m fresh led none execution step brings success role =
         let call : Call P = ReceivePacket now via bytes in
         let sound_first : IsSound first = subst (λ (a : AgentRecord H P). IsSound a) (sym fresh.2) (fresh_sound H P first.provider fresh.0 fresh.1) in
-        let sound_start = sound-course mac answers before first start sound_first led in
-        let sound_near = sound-course mac answers xs start near sound_start course in
+        let sound_start = sound-execution mac answers before first start sound_first led in
+        let sound_near = sound-execution mac answers xs start near sound_start execution in
         let effect = (path_theorem mac answers near last s t call e sound_near tt step).0 in
         let taken = effect.taken now via m brings success in
         let steers : last.controlling ≡ true = search role in
@@ -51,8 +51,8 @@ module _ {H P : Type 0} where
         let named = one-named last taken.0 taken.1 able points in
         let empty : first.pairs ≡ [] = ap (λ (a : AgentRecord H P). a.pairs) fresh.2 in
         let begin = names-from mac answers before first start sound_first empty led in
-        let within = course_on mac answers xs ((call, e) ∷ []) start near last course (last, s, t, tt, step, refl) in
-        let whole = course_on mac answers before (xs ++ (call, e) ∷ []) first start last led within in
+        let within = execution_on mac answers xs ((call, e) ∷ []) start near last execution (last, s, t, tt, step, refl) in
+        let whole = execution_on mac answers before (xs ++ (call, e) ∷ []) first start last led within in
         let all = before ++ (xs ++ (call, e) ∷ []) in (
           selects (xs ++ (call, e) ∷ []) start last sound_start within
               (λ p has is. (let invalid : is_valid p ≡ false = search (none p has) in let wrong : false ≡ true = sym invalid ∙ (begin p has is).0 in cc)) named.0 named.1 named.2,

@@ -11,7 +11,7 @@ use Rattle.is_stun.specs.Message.{Message}
 use Rattle.is_rules.specs.declared.emitted.Issued.{Issued}
 use Rattle.is_rules.specs.declared.emitted.Path.{Path}
 use Rattle.is_rules.specs.Agent.{AgentRecord}
-use Rattle.is_rules.specs.Answers.{goes_back}
+use Rattle.is_rules.specs.Answers.{is_reverse}
 use Rattle.is_theorems.specs.Asked.{IsAnsweredOn, IsAnsweredIn, IsOnlyPair, UsesAddressesOf, IsAskedOn, IsAskedIn, MayEndIn, AskedAreSelected}
 use Rattle.is_rules.specs.Brought.{IsServing, IsNominatedOn}
 use Rattle.is_rules.specs.Effects.{PathEffect}
@@ -35,7 +35,7 @@ use Rattle.is_theorems.proofs.RuleEffects.SelectedPaths.{some_is}
 use Rattle.is_rules.specs.Serving.{nominates}
 
 -- a packet on the reverse path goes between the addresses of the path
-pub back-on : (by a b : Path) → goes_back by a ≡ true → goes_back by b ≡ true → (a.source ≡ b.source) × (a.destination ≡ b.destination)
+pub back-on : (by a b : Path) → is_reverse by a ≡ true → is_reverse by b ≡ true → (a.source ≡ b.source) × (a.destination ≡ b.destination)
 back-on by a b on_a on_b =
     let x = both _ _ on_a in
     let y = both _ _ on_b in
@@ -67,7 +67,7 @@ module _ {H P : Type 0} where
     valid-on : (old new : AgentRecord H P) (x : Logged P) (path : Path) → PathEffect mac old x.call x.entry new → IsAnsweredOn x path → Taken new path
     valid-on old new x path f (at, by, m, brings, success, back) =
         let k = f.taken at by m brings success in
-        let on = both (keeps_check m.id k.0) (goes_back by (path_of new k.0)) k.2 in
+        let on = both (keeps_check m.id k.0) (is_reverse by (path_of new k.0)) k.2 in
         (k.0, k.1, k.3, back-on by (path_of new k.0) path on.1 back)
 
     module _ (first : AgentRecord H P) (s : Stream) (log : List (Logged P)) (fresh : IsFresh first) (path : Path) (before : List (Logged P)) (start : AgentRecord H P) (u : Stream)

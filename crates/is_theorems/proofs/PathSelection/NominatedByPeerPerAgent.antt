@@ -10,12 +10,12 @@ use Rattle.is_stun.specs.declared.header.Class.TheVariants as class
 use Rattle.is_rules.specs.declared.emitted.Issued.{Issued}
 use Rattle.is_rules.specs.declared.emitted.Path.{Path}
 use Rattle.is_rules.specs.Agent.{AgentRecord}
-use Rattle.is_rules.specs.Answers.{goes_back}
+use Rattle.is_rules.specs.Answers.{is_reverse}
 use Rattle.is_theorems.specs.Asked.{UsesAddressesOf}
-use Rattle.is_theorems.specs.AskedCourses.{selected_along, AcceptsSuccessOn, SelectsAlong, Ends, EndsAlong, AcceptsNominationAlong, AcceptedNominationsAreSelected}
+use Rattle.is_theorems.specs.AskedExecutions.{selected_along, AcceptsSuccessOn, SelectsAlong, Ends, EndsAlong, AcceptsNominationAlong, AcceptedNominationsAreSelected}
 use Rattle.is_theorems.specs.Asking.{AcceptsNomination}
 use Rattle.is_rules.specs.Effects.{PathEffect, clears, last_of}
-use Rattle.is_theorems.specs.Exchange.{Course}
+use Rattle.is_theorems.specs.Exchange.{Execution}
 use Rattle.is_rules.specs.Points.{HasSelected}
 use Rattle.is_rules.specs.Sending.{path_of}
 use Rattle.is_rules.specs.Sound.{IsSound, GivesBased}
@@ -30,7 +30,7 @@ use Rattle.is_theorems.proofs.CallEffects.PathAndTradeEffects.{path_theorem}
 use Rattle.is_theorems.proofs.PathSelection.SelectedPairIsNominated.{IsNamed, names-best, names-next}
 use Rattle.is_theorems.proofs.CallEffects.FailedCallsAndNewAgents.{fresh_sound}
 use Rattle.is_theorems.proofs.StoredPairs.PairsThatStay.{pairs-stay}
-use Rattle.is_theorems.proofs.StoredPairs.TransactionsOverPackets.{sound-course}
+use Rattle.is_theorems.proofs.StoredPairs.TransactionsOverPackets.{sound-execution}
 
 -- a path that was selected last was selected in one of the calls
 selected-in : {P : Type 0} (xs : List (Call P × Entry)) (was : Option Path) (path : Path) → selected_along was xs ≡ Some path → SelectsAlong xs ⊎ (was ≡ Some path)
@@ -54,12 +54,12 @@ module _ {H P : Type 0} where
   Marked path test a = (p : PairRecord) × Has a.pairs p × (test p ≡ true) × UsesAddressesOf a path p
 
   module _ (mac : H → List ℕ → List ℕ → List ℕ) (answers : P → CandidateRecord → ℕ → ℕ → Type 0) where
-    pub course_on : (xs ys : List (Call P × Entry)) (a b c : AgentRecord H P) → Course mac answers xs a b → Course mac answers ys b c → Course mac answers (xs ++ ys) a c
-    course_on [] ys a b c is more = subst (λ (z : AgentRecord H P). Course mac answers ys z c) is more
-    course_on (x ∷ xs) ys a b c (mid, s, t, based, step, on) more = (mid, s, t, based, step, course_on xs ys mid b c on more)
+    pub execution_on : (xs ys : List (Call P × Entry)) (a b c : AgentRecord H P) → Execution mac answers xs a b → Execution mac answers ys b c → Execution mac answers (xs ++ ys) a c
+    execution_on [] ys a b c is more = subst (λ (z : AgentRecord H P). Execution mac answers ys z c) is more
+    execution_on (x ∷ xs) ys a b c (mid, s, t, based, step, on) more = (mid, s, t, based, step, execution_on xs ys mid b c on more)
 
     -- the pair that `selected_pair` names, and the path that was selected last
-    names-along : (xs : List (Call P × Entry)) (old new : AgentRecord H P) (path : Option Path) → IsSound old → Course mac answers xs old new → IsNamed path old → IsNamed (selected_along path xs) new
+    names-along : (xs : List (Call P × Entry)) (old new : AgentRecord H P) (path : Option Path) → IsSound old → Execution mac answers xs old new → IsNamed path old → IsNamed (selected_along path xs) new
     names-along [] old new path sound is were = subst (λ (a : AgentRecord H P). IsNamed path a) (sym is) were
     names-along (x ∷ rest) old new path sound (mid, s, t, based, step, more) were =
         let law = path_theorem mac answers old mid s t x.0 x.1 sound based step in
@@ -67,9 +67,9 @@ module _ {H P : Type 0} where
         (names-next mac old mid x.0 x.1 path law.0 sound were)
 
     -- the same from a new agent on
-    pub names-from : (xs : List (Call P × Entry)) (first last : AgentRecord H P) → IsSound first → first.pairs ≡ [] → Course mac answers xs first last → IsNamed (selected_along None xs) last
-    names-from xs first last sound none course =
-        names-along xs first last None sound course (λ p has is. absurd (subst (λ (ps : List PairRecord). Has ps p) none has))
+    pub names-from : (xs : List (Call P × Entry)) (first last : AgentRecord H P) → IsSound first → first.pairs ≡ [] → Execution mac answers xs first last → IsNamed (selected_along None xs) last
+    names-from xs first last sound none execution =
+        names-along xs first last None sound execution (λ p has is. absurd (subst (λ (ps : List PairRecord). Has ps p) none has))
 
     module _ (path : Path) where
       pub next : (test : PairRecord → Bool) (old new : AgentRecord H P) (s t : Stream) (call : Call P) (e : Entry) → ((p : PairRecord) (k : Stays old p new) → test p ≡ true → test k.pair ≡ true)
@@ -80,8 +80,8 @@ module _ {H P : Type 0} where
       ]
 
       along : (test : PairRecord → Bool) → ((old new : AgentRecord H P) (p : PairRecord) (k : Stays old p new) → test p ≡ true → test k.pair ≡ true)
-          → (xs : List (Call P × Entry)) (old new : AgentRecord H P) → IsSound old → (course : Course mac answers xs old new) → Marked path test old
-          → Marked path test new ⊎ EndsAlong mac answers xs old new course path
+          → (xs : List (Call P × Entry)) (old new : AgentRecord H P) → IsSound old → (execution : Execution mac answers xs old new) → Marked path test old
+          → Marked path test new ⊎ EndsAlong mac answers xs old new execution path
       along test keeps [] old new sound is marked = inl (subst (λ (a : AgentRecord H P). Marked path test a) (sym is) marked)
       along test keeps (x ∷ rest) old new sound (mid, s, t, based, step, more) marked =
           elim (next test old mid s t x.0 x.1 (keeps old mid) sound based step marked) [
@@ -99,21 +99,21 @@ module _ {H P : Type 0} where
       pub valid_now : (old new : AgentRecord H P) (call : Call P) (e : Entry) → PathEffect mac old call e new → AcceptsSuccessOn call e path → Marked path is_valid new
       valid_now old new call e f (at, by, m, brings, success, back) =
           let k = f.taken at by m brings success in
-          let on = both (keeps_check m.id k.0) (goes_back by (path_of new k.0)) k.2 in
+          let on = both (keeps_check m.id k.0) (is_reverse by (path_of new k.0)) k.2 in
           (k.0, k.1, k.3, back-on by (path_of new k.0) path on.1 back)
 
-      pub nomination_accepted : (xs : List (Call P × Entry)) (old new : AgentRecord H P) → IsSound old → (course : Course mac answers xs old new) → AcceptsNominationAlong mac answers xs old new course path
-          → Marked path is_nominated new ⊎ EndsAlong mac answers xs old new course path
-      nomination_accepted [] old new sound course asks = absurd asks
+      pub nomination_accepted : (xs : List (Call P × Entry)) (old new : AgentRecord H P) → IsSound old → (execution : Execution mac answers xs old new) → AcceptsNominationAlong mac answers xs old new execution path
+          → Marked path is_nominated new ⊎ EndsAlong mac answers xs old new execution path
+      nomination_accepted [] old new sound execution asks = absurd asks
       nomination_accepted (x ∷ rest) old new sound (mid, s, t, based, step, more) (inl (accepts_nomination, controlled)) =
           let law = path_theorem mac answers old mid s t x.0 x.1 sound based step in
           elim (along is_nominated (λ a b p k is. k.nominated is) rest mid new law.1 more (nominated_now old mid x.0 x.1 law.0 accepts_nomination controlled)) [ inl m ↦ inl m | inr ends ↦ inr (inr ends) ]
       nomination_accepted (x ∷ rest) old new sound (mid, s, t, based, step, more) (inr asks) =
           elim (nomination_accepted rest mid new (path_theorem mac answers old mid s t x.0 x.1 sound based step).1 more asks) [ inl m ↦ inl m | inr ends ↦ inr (inr ends) ]
 
-      pub answered : (xs : List (Call P × Entry)) (old new : AgentRecord H P) → IsSound old → (course : Course mac answers xs old new)
-          → (y : Call P × Entry) → Has xs y → AcceptsSuccessOn y.0 y.1 path → Marked path is_valid new ⊎ EndsAlong mac answers xs old new course path
-      answered [] old new sound course y has is = absurd has
+      pub answered : (xs : List (Call P × Entry)) (old new : AgentRecord H P) → IsSound old → (execution : Execution mac answers xs old new)
+          → (y : Call P × Entry) → Has xs y → AcceptsSuccessOn y.0 y.1 path → Marked path is_valid new ⊎ EndsAlong mac answers xs old new execution path
+      answered [] old new sound execution y has is = absurd has
       answered (x ∷ rest) old new sound (mid, s, t, based, step, more) y (inl same) is =
           let law = path_theorem mac answers old mid s t x.0 x.1 sound based step in
           let now : AcceptsSuccessOn x.0 x.1 path = subst (λ (z : Call P × Entry). AcceptsSuccessOn z.0 z.1 path) (sym same) is in
@@ -122,19 +122,19 @@ module _ {H P : Type 0} where
           elim (answered rest mid new (path_theorem mac answers old mid s t x.0 x.1 sound based step).1 more y has is) [ inl m ↦ inl m | inr ends ↦ inr (inr ends) ]
 
     pub nomination_accepted-are-selected_paths : AcceptedNominationsAreSelected mac answers
-    nomination_accepted-are-selected_paths first start near last before xs s t now timeout path fresh led course step done none asks (y, has, is) only_pair =
+    nomination_accepted-are-selected_paths first start near last before xs s t now timeout path fresh led execution step done none asks (y, has, is) only_pair =
         let sound_first : IsSound first = subst (λ (a : AgentRecord H P). IsSound a) (sym fresh.2) (fresh_sound H P first.provider fresh.0 fresh.1) in
-        let sound_start = sound-course mac answers before first start sound_first led in
-        let sound_near = sound-course mac answers xs start near sound_start course in
-        let whole = course_on before (xs ++ (HandleTimeout now, timeout) ∷ []) first start last led
-        (course_on xs ((HandleTimeout now, timeout) ∷ []) start near last course (last, s, t, tt, step, refl)) in
-        by sound_first sound_near whole (nomination_accepted path xs start near sound_start course asks) (answered path xs start near sound_start course y has is) where
+        let sound_start = sound-execution mac answers before first start sound_first led in
+        let sound_near = sound-execution mac answers xs start near sound_start execution in
+        let whole = execution_on before (xs ++ (HandleTimeout now, timeout) ∷ []) first start last led
+        (execution_on xs ((HandleTimeout now, timeout) ∷ []) start near last execution (last, s, t, tt, step, refl)) in
+        by sound_first sound_near whole (nomination_accepted path xs start near sound_start execution asks) (answered path xs start near sound_start execution y has is) where
           Said : Type 0
           Said = (SelectsAlong (before ++ (xs ++ (HandleTimeout now, timeout) ∷ []))
               × HasSelected (selected_along None (before ++ (xs ++ (HandleTimeout now, timeout) ∷ []))) last)
-              ⊎ (EndsAlong mac answers xs start near course path ⊎ Ends answers near (HandleTimeout now) timeout path)
+              ⊎ (EndsAlong mac answers xs start near execution path ⊎ Ends answers near (HandleTimeout now) timeout path)
 
-          at_last : IsSound first → IsSound near → Course mac answers (before ++ (xs ++ (HandleTimeout now, timeout) ∷ [])) first last → Marked path is_nominated last → Marked path is_valid last → Said
+          at_last : IsSound first → IsSound near → Execution mac answers (before ++ (xs ++ (HandleTimeout now, timeout) ∷ [])) first last → Marked path is_nominated last → Marked path is_valid last → Said
           at_last sound_first sound_near whole n w =
               let one : w.0 ≡ n.0 = only_pair w.0 n.0 w.1 n.1 w.3 n.3 in
               let valid : is_valid n.0 ≡ true = subst (λ (p : PairRecord). is_valid p ≡ true) one w.2 in
@@ -145,8 +145,8 @@ module _ {H P : Type 0} where
               let top : HasSelected (selected_along None all) last = names-best last (selected_along None all) n.0 n.1 able named (effect.points (done, none)) in
               elim (selected-in all None (path_of last top.0) top.3) [ inl selected ↦ inl (selected, top) | inr was ↦ absurd (no-some (path_of last top.0) was) ]
 
-          by : IsSound first → IsSound near → Course mac answers (before ++ (xs ++ (HandleTimeout now, timeout) ∷ [])) first last
-              → Marked path is_nominated near ⊎ EndsAlong mac answers xs start near course path → Marked path is_valid near ⊎ EndsAlong mac answers xs start near course path → Said
+          by : IsSound first → IsSound near → Execution mac answers (before ++ (xs ++ (HandleTimeout now, timeout) ∷ [])) first last
+              → Marked path is_nominated near ⊎ EndsAlong mac answers xs start near execution path → Marked path is_valid near ⊎ EndsAlong mac answers xs start near execution path → Said
           by sound_first sound_near whole (inr ends) v = inr (inl ends)
           by sound_first sound_near whole (inl n) (inr ends) = inr (inl ends)
           by sound_first sound_near whole (inl n) (inl v) =

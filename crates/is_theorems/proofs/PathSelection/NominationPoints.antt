@@ -31,7 +31,7 @@ use Rattle.is_pair.specs.Multiset.{is_numbered, change_at, pair_numbered, IsGrea
 use Rattle.is_rules.specs.Sending.{path_of}
 use Rattle.is_rules.specs.Nominating.{is_eligible, nominated_by_self, Nominates, followed, followed_by_number, nominates_at_once, numbers, remains, selection, selection_of, favored, if_eligible, eligible_numbered, IsChosen}
 use Rattle.is_rules.specs.Queue.{request_at}
-use Rattle.is_rules.specs.Answers.{goes_back, keeps_check_on, TakesSuccess}
+use Rattle.is_rules.specs.Answers.{is_reverse, keeps_check_on, HandlesSuccess}
 use Rattle.is_rules.specs.Accepting.{Takes}
 use Rattle.is_rules.specs.Checking.{all_asked, ChecksTop, MayCheck}
 use Rattle.is_rules.specs.Timeouts.{at_request, is_expired, expired_gone, RemovesExpired, at_timeout, timeout_begun, MaintainsPairs, ServesQueued, TimesOut}
@@ -331,7 +331,7 @@ module _ {H P : Type 0} where
   nominates_still old new path p has h = selects_still old new path p has (selects_path old new path h)
 
   -- the pair that takes the response is valid, and stores the check on its path
-  taken_by : (now : ℕ) (old new : AgentRecord H P) (via : Path) (m : Message) (emitted : Emitted) → IsSound old → FitOf old → TakesSuccess now old via m emitted new
+  taken_by : (now : ℕ) (old new : AgentRecord H P) (via : Path) (m : Message) (emitted : Emitted) → IsSound old → FitOf old → HandlesSuccess now old via m emitted new
       → (p : PairRecord) × Has new.pairs p × (keeps_check_on new via m.id p ≡ true) × (is_valid p ≡ true)
   taken_by now old new via m emitted sound fit (recorded, (i, p, after, found, on, (place, c, at, is), made), (path, mid, nominating, is_emitted, done)) =
       let o = records AllNumbers All1 All3 now old recorded via m fit (λ q d has_q on_q keeps same. tt) (i, p, after, found, on, (place, c, at, is), made) in
@@ -344,7 +344,7 @@ module _ {H P : Type 0} where
       (subst (λ (x : PairRecord). Has (map put old.pairs) x) placed (Has-mapped put old.pairs p has))) in
       let started : is_started_state p.state ≡ true = sound.started p c has (Has-get p.checks place c at.0) in
       let valid : is_valid after ≡ true = ap (λ (x : PairRecord). is_valid x) is ∙ valid_once_answered p.state started in
-      let two = both (keeps_check m.id p) (goes_back via (path_of old p)) on in
+      let two = both (keeps_check m.id p) (is_reverse via (path_of old p)) on in
       let keeps : keeps_check m.id after ≡ true =
       ap (λ (x : PairRecord). keeps_check m.id x) is ∙ any_set (has_id m.id) p.checks place c (answered_at now c) at.0 refl ∙ two.0 in
       let still = nominates_still recorded mid path after there nominating in
@@ -352,14 +352,14 @@ module _ {H P : Type 0} where
         | inl k ↦ (let same : k.was ≡ p = one_pair old.pairs k.was p fit.rising k.there has (k.number ∙ number) in ap (λ (x : PairRecord). path_of old x) (sym same) ∙ k.path)
         | inr j ↦ (let lt : p.number < old.next_number = fit.below p has in let le : old.next_number ≤ after.number = j.above in absurd (let none : ⊥ = omega (arith, lt, le, number) in none))
       ] in
-      let back : goes_back via (path_of mid still.now) ≡ true = ap (goes_back via) (still.path ∙ sym same_path) ∙ two.1 in
+      let back : is_reverse via (path_of mid still.now) ≡ true = ap (is_reverse via) (still.path ∙ sym same_path) ∙ two.1 in
       let on_mid : keeps_check_on mid via m.id still.now ≡ true =
-      ap (λ cs. list_any (has_id m.id) cs && goes_back via (path_of mid still.now)) still.checks
-      ∙ ap (λ b. b && goes_back via (path_of mid still.now)) keeps ∙ back in
+      ap (λ cs. list_any (has_id m.id) cs && is_reverse via (path_of mid still.now)) still.checks
+      ∙ ap (λ b. b && is_reverse via (path_of mid still.now)) keeps ∙ back in
       subst (λ (a : AgentRecord H P). (p : PairRecord) × Has a.pairs p × (keeps_check_on a via m.id p ≡ true) × (is_valid p ≡ true)) (sym done)
       (still.now, still.there, on_mid, still.valid ∙ valid)
 
-  pub success_top : (now : ℕ) (old new : AgentRecord H P) (via : Path) (m : Message) (emitted : Emitted) → FitOf old → TakesSuccess now old via m emitted new → IsTopSelected new
+  pub success_top : (now : ℕ) (old new : AgentRecord H P) (via : Path) (m : Message) (emitted : Emitted) → FitOf old → HandlesSuccess now old via m emitted new → IsTopSelected new
   success_top now old new via m emitted fit (recorded, records_it, (path, mid, nominating, is_emitted, done)) =
       let o = records AllNumbers All1 All3 now old recorded via m fit (λ q d has_q on_q keeps same. tt) records_it in
       let top : IsTopSelected mid = nominates_top recorded mid path o.fit.rising nominating in
@@ -383,7 +383,7 @@ module _ {H P : Type 0} where
         absurd (let no : Rejected error ≡ Flag true = sym (ap (λ (x : Entry). x.answer) is) ∙ flag in cc)
     success now via bytes (inr (n, reads_n, (Ok true, emitted, is, (accepted, (mid, takes, made)))), drawn) at by m (at_is, by_is, reads, flag) ok =
         let same : n ≡ m = reads_n.spelled ∙ sym reads.spelled in
-        let k : TakesSuccess now old via m emitted mid = subst (λ c. Takes mac c now old via m emitted mid) ok
+        let k : HandlesSuccess now old via m emitted mid = subst (λ c. Takes mac c now old via m emitted mid) ok
         (subst (λ (x : Message). Takes mac x.class now old via x emitted mid) same takes) in
         let top : IsTopSelected mid = success_top now old mid via m emitted fit k in
         let taken = taken_by now old mid via m emitted sound fit k in (

@@ -35,7 +35,7 @@ use Rattle.is_rules.specs.Queue.{request_at, first_taken, queued}
 use Rattle.is_rules.specs.Request.{RequestRecord, request_in}
 use Rattle.is_rules.specs.Roles.{conflict_of, switched, switched_sides, with_priority_in}
 use Rattle.is_rules.specs.Sending.{path_between, path_of}
-use Rattle.is_rules.specs.Serving.{after_request, pair_served, selects_at_requests, with_sender, with_sender_at, sender_candidate, request_counted, is_misled, names_another}
+use Rattle.is_rules.specs.Serving.{after_request, pair_served, selects_at_requests, with_sender, with_sender_at, sender_candidate, request_counted, is_misled, is_for_other_peer}
 use Rattle.is_rules.specs.Serving.{Drops, RecordsAndResponds, FindsOrAddsPair, AddsUnknownSender, CountsAndServes, ResolvesRoleConflictBy, ResolvesRoleConflict, Serves}
 use Rattle.is_rules.specs.Sound.{IsSound}
 use Rattle.is_rules.specs.Steps.{Call, ReceivePacket, HandleTimeout, Entry, Step, answer_by, done, Done, Flag, Unparsed, Rejected}
@@ -181,7 +181,7 @@ module _ {H P : Type 0} where
 
     serves_top : (s new : AgentRecord H P) (emitted : Emitted) → ((l : ℕ) → local_place s.local q ≡ Some l → l < length s.local) → WhileServing old s
         → Serves mac q s emitted new → Selects emitted new
-    serves_top s new emitted within state h = either (names_another s q) h
+    serves_top s new emitted within state h = either (is_for_other_peer s q) h
         (λ _ k. drops_top s new emitted k)
         (λ _ k. here_top (local_place s.local q) s new emitted refl within state k)
 

@@ -12,19 +12,19 @@ use Rattle.is_rules.specs.Points.{HasSelected, IsTopSelected}
 use Rattle.is_rules.specs.Sound.{IsSound}
 use Rattle.is_rules.specs.Steps.{Call, Entry}
 use Rattle.is_theorems.specs.Asked.{IsOnlyPair, UsesAddressesOf}
-use Rattle.is_theorems.specs.AskedCourses.{AcceptsSuccessOn, Ends, selected_along}
+use Rattle.is_theorems.specs.AskedExecutions.{AcceptsSuccessOn, Ends, selected_along}
 use Rattle.is_theorems.specs.Asking.{AcceptsNomination}
 use Rattle.is_theorems.specs.AtOnce.{WereValidOn}
-use Rattle.is_theorems.specs.AtOnceCourses.{CompletedNominationsAreSelected, CompletesNomination}
+use Rattle.is_theorems.specs.AtOnceExecutions.{CompletedNominationsAreSelected, CompletesNomination}
 use Rattle.is_theorems.specs.Staying.{Stays}
 use Rattle.is_theorems.proofs.CallEffects.FailedCallsAndNewAgents.{fresh_sound}
 use Rattle.is_theorems.proofs.CallEffects.PathAndTradeEffects.{path_theorem}
-use Rattle.is_theorems.proofs.PathSelection.NominatedByPeerPerAgent.{answered, course_on, Marked, names-from, next, nominated_now, nomination_accepted, valid_now}
+use Rattle.is_theorems.proofs.PathSelection.NominatedByPeerPerAgent.{answered, execution_on, Marked, names-from, next, nominated_now, nomination_accepted, valid_now}
 use Rattle.is_theorems.proofs.PathSelection.SelectedAfterResponse.{nominated-eligible, point-of}
 use Rattle.is_theorems.proofs.PathSelection.SelectedAtRequests.{served_top}
 use Rattle.is_theorems.proofs.PathSelection.SelectedPairIsNominated.{IsNamed, names-best}
 use Rattle.is_theorems.proofs.StoredPairs.PairsThatStay.{pairs-stay}
-use Rattle.is_theorems.proofs.StoredPairs.TransactionsOverPackets.{sound-course}
+use Rattle.is_theorems.proofs.StoredPairs.TransactionsOverPackets.{sound-execution}
 
 module _ {H P : Type 0} (mac : H → List ℕ → List ℕ → List ℕ) (answers : P → CandidateRecord → ℕ → ℕ → Type 0) where
   module _ (first start near last : AgentRecord H P) (before xs : List (Call P × Entry)) (call : Call P) (e : Entry) (path : Path)
@@ -79,22 +79,22 @@ module _ {H P : Type 0} (mac : H → List ℕ → List ℕ → List ℕ) (answer
   pub completed-nominations-are-selected : CompletedNominationsAreSelected mac answers
   completed-nominations-are-selected first start near last before xs call e path fresh led c =
       let sound_first : IsSound first = subst (λ (a : AgentRecord H P). IsSound a) (sym fresh.2) (fresh_sound H P first.provider fresh.0 fresh.1) in
-      let sound_start = sound-course mac answers before first start sound_first led in
-      let sound_near = sound-course mac answers xs start near sound_start c.course in
-      let whole = course_on mac answers before (xs ++ (call, e) ∷ []) first start last led
-      (course_on mac answers xs ((call, e) ∷ []) start near last c.course (last, c.drawn, c.left, c.given, c.step, refl)) in
+      let sound_start = sound-execution mac answers before first start sound_first led in
+      let sound_near = sound-execution mac answers xs start near sound_start c.execution in
+      let whole = execution_on mac answers before (xs ++ (call, e) ∷ []) first start last led
+      (execution_on mac answers xs ((call, e) ∷ []) start near last c.execution (last, c.drawn, c.left, c.given, c.step, refl)) in
       let named = names-from mac answers (before ++ (xs ++ (call, e) ∷ [])) first last sound_first (ap (λ (a : AgentRecord H P). a.pairs) fresh.2) whole in
       elim c.arrives [
         | inl k ↦
             (let at_once : is_modern near.timing ≡ true = search k.0 in
             let asked : AcceptsNomination near call e path = search k.2 in
-            elim (answered mac answers path xs start near sound_start c.course k.1.0 k.1.1 k.1.2) [
+            elim (answered mac answers path xs start near sound_start c.execution k.1.0 k.1.1 k.1.2) [
               | inr ends ↦ inr (inl ends)
               | inl marked ↦ elim (serves first start near last before xs call e path c sound_near named at_once asked marked) [ inl selected ↦ inl selected | inr ends ↦ inr (inr (search ends)) ]
             ])
         | inr k ↦
             (let response : AcceptsSuccessOn call e path = search k.1 in
-            elim (nomination_accepted mac answers path xs start near sound_start c.course k.0) [
+            elim (nomination_accepted mac answers path xs start near sound_start c.execution k.0) [
               | inr ends ↦ inr (inl ends)
               | inl marked ↦ elim (takes first start near last before xs call e path c sound_near named response marked) [ inl selected ↦ inl selected | inr ends ↦ inr (inr (search ends)) ]
             ])

@@ -32,9 +32,9 @@ use Rattle.is_theorems.proofs.PollingRounds.FirstRound.{due-unless}
 use Rattle.is_theorems.proofs.PollingRounds.InTurnAlong.{Accepts, IsOfRound, IsQuiet, lined-unanswered, no_agent, no_call, of_rounds, paid-none, quiet-in-turn}
 
 module _ {P : Type 0} where
-  lite_kept : (x : Logged P) (l : Bool) → IsOfRound x → lite_set_by x.call l ≡ l
-  lite_kept x l (inl is) = lite_stays x.call l is
-  lite_kept x l (inr (now, is)) = ap (λ (c : Call P). lite_set_by c l) is
+  lite_kept : (m : Bool) (x : Logged P) (l : Bool) → IsOfRound m x → lite_set_by x.call l ≡ l
+  lite_kept m x l (inl is) = lite_stays m x.call l is
+  lite_kept m x l (inr (now, is)) = ap (λ (c : Call P). lite_set_by c l) is
 
   -- what is received in a round is received in the segment
   pub in_entries : (rounds : List (LoggedRound P)) (r : LoggedRound P) (x : Logged P) → Has rounds r → Has r.following x → Has (entries_of rounds) x
@@ -71,9 +71,9 @@ module _ {H P : Type 0} (mac : H → List ℕ → List ℕ → List ℕ) (answer
     unanswered : (x : Logged P) → Has xs x → BringsSuccess x → ⊥
 
   module _ (first : AgentRecord H P) (s : Stream) (log : List (Logged P)) (fresh : IsFresh first) (part : List (Logged P)) where
-    waits-on : (before xs : List (Logged P)) (mid last : AgentRecord H P) (x : Logged P) → Point mac answers first s log before mid x last → Has part x → last.controlling ≡ true → IsOfRound x
+    waits-on : (m : Bool) (before xs : List (Logged P)) (mid last : AgentRecord H P) (x : Logged P) → Point mac answers first s log before mid x last → Has part x → last.controlling ≡ true → IsOfRound m x
         → Waits xs mid → SegmentSelects mac answers first s log part ⊎ Waits (x ∷ xs) last
-    waits-on before xs mid last x point within role of_round w = by (some-or-none last.pairs) where
+    waits-on m before xs mid last x point within role of_round w = by (some-or-none last.pairs) where
       f : PathEffect mac mid x.call x.entry last
       f = (path_theorem mac answers mid last point.at point.following x.call x.entry (runs_sound mac answers (path_theorem mac answers) first mid s point.at before fresh point.led) point.given point.step).0
 
@@ -88,7 +88,7 @@ module _ {H P : Type 0} (mac : H → List ℕ → List ℕ → List ℕ) (answer
         | inr a ↦ inl (selects_path-at mac answers first s log fresh before part mid last x point w.invalid role (a.0, a.1, a.2, a.5, a.6) within)
       ]
       by (inr none) = inr (record {
-        full = f.lite ∙ (lite_kept x mid.lite of_round ∙ w.full);
+        full = f.lite ∙ (lite_kept m x mid.lite of_round ∙ w.full);
         invalid = none;
         unanswered = λ y has success. elim has [
           | inl is ↦ still none (subst (λ (z : Logged P). BringsSuccess z) (sym is) success)
@@ -96,16 +96,16 @@ module _ {H P : Type 0} (mac : H → List ℕ → List ℕ → List ℕ) (answer
         ];
       })
 
-    walk : (before : List (Logged P)) (start last : AgentRecord H P) (u t : Stream) (over xs : List (Logged P)) → log ≡ over ++ (xs ++ before)
-        → ((x : Logged P) → Has xs x → Has part x) → ((x : Logged P) → Has xs x → IsOfRound x)
+    walk : (m : Bool) (before : List (Logged P)) (start last : AgentRecord H P) (u t : Stream) (over xs : List (Logged P)) → log ≡ over ++ (xs ++ before)
+        → ((x : Logged P) → Has xs x → Has part x) → ((x : Logged P) → Has xs x → IsOfRound m x)
         → Run mac answers first s before start u → (run : RunsOn mac answers before start u xs last t) → IsControllingIn mac answers before start u xs last t run
         → Waits [] start → SegmentSelects mac answers first s log part ⊎ Waits xs last
-    walk before start last u t over [] split within fits led (is, same) role w = inr (subst (λ (a : AgentRecord H P). Waits [] a) (sym is) w)
-    walk before start last u t over (x ∷ xs) split within fits led (mid, v, run, number, based, step) role w =
-        elim (walk before start mid u v (over ++ x ∷ []) xs (split ∙ sym (append_assoc over (x ∷ []) (xs ++ before))) (λ y has. within y (inr has)) (λ y has. fits y (inr has)) led run role.1 w) [
+    walk m before start last u t over [] split within fits led (is, same) role w = inr (subst (λ (a : AgentRecord H P). Waits [] a) (sym is) w)
+    walk m before start last u t over (x ∷ xs) split within fits led (mid, v, run, number, based, step) role w =
+        elim (walk m before start mid u v (over ++ x ∷ []) xs (split ∙ sym (append_assoc over (x ∷ []) (xs ++ before))) (λ y has. within y (inr has)) (λ y has. fits y (inr has)) led run role.1 w) [
           | inl selected_paths ↦ inl selected_paths
           | inr k ↦
-              waits-on (xs ++ before) xs mid last x
+              waits-on m (xs ++ before) xs mid last x
               (record { rest = over; split = split; at = v; led = run-on mac answers first start mid s u v before xs led run; number = number; given = based; following = t; step = step })
               (within x (inl refl)) role.0 (fits x (inl refl)) k
         ]
@@ -150,7 +150,7 @@ module _ {H P : Type 0} (mac : H → List ℕ → List ℕ → List ℕ) (answer
 
         selects : (x : Logged P) × Has (entries_of rounds) x × BringsSuccess x → SegmentSelects mac answers first s log (entries_of rounds)
         selects (x, has, success) =
-            elim (walk first s log fresh (entries_of rounds) before start last part.at part.following part.rest (entries_of rounds) part.split (λ y there. there) (of_rounds by rounds passing) part.led part.run role
+            elim (walk first s log fresh (entries_of rounds) (is_modern start.timing) before start last part.at part.following part.rest (entries_of rounds) part.split (λ y there. there) (of_rounds (is_modern start.timing) by rounds passing) part.led part.run role
             (record { full = waits.checking.full; invalid = unanswered.invalid; unanswered = λ y none success. none })) [
               | inl selected_paths ↦ selected_paths
               | inr w ↦ absurd (w.unanswered x has success)
@@ -194,7 +194,7 @@ module _ {H P : Type 0} (mac : H → List ℕ → List ℕ → List ℕ) (answer
         rear [] ys x h = h
         rear (y ∷ xs) ys x h = inr (rear xs ys x h)
 
-        of_first : (x : Logged P) → Has (entries_of (r ∷ [])) x → IsOfRound x
+        of_first : (x : Logged P) → Has (entries_of (r ∷ [])) x → IsOfRound (is_modern start.timing) x
         of_first x has = elim (either_has r.following (r.timeout ∷ []) x has) [
           | inl following ↦ inl (between x following)
           | inr (inl is) ↦ inr (r.now, ap (λ (y : Logged P). y.call) (sym is) ∙ comes)
@@ -206,7 +206,7 @@ module _ {H P : Type 0} (mac : H → List ℕ → List ℕ → List ℕ) (answer
 
         -- after the first round no pair is valid, or a path is selected in it
         after-first : SegmentSelects mac answers first s log all ⊎ Waits (entries_of (r ∷ [])) second
-        after-first = walk first s log fresh all before start second one.at one.following one.rest (entries_of (r ∷ [])) one.split (λ y there. rear (entries_of later) (entries_of (r ∷ [])) y there) of_first one.led one.run role begin
+        after-first = walk first s log fresh all (is_modern start.timing) before start second one.at one.following one.rest (entries_of (r ∷ [])) one.split (λ y there. rear (entries_of later) (entries_of (r ∷ [])) y there) of_first one.led one.run role begin
 
         in-round : (rounds : List (LoggedRound P)) (x : LoggedRound P) → Has rounds x → (y : Logged P) × Has x.following y × BringsSuccess y → (y : Logged P) × Has (entries_of rounds) y × BringsSuccess y
         in-round rounds x has (y, there, success) = (y, in_entries rounds x y has there, success)
@@ -221,8 +221,8 @@ module _ {H P : Type 0} (mac : H → List ℕ → List ℕ → List ℕ) (answer
         in-later (x, has, success) = elim after-first [
           | inl selected_paths ↦ selected_paths
           | inr w ↦
-              elim (walk first s log fresh all (entries_of (r ∷ []) ++ before) second last others.at others.following others.rest (entries_of later) others.split (λ y there. front (entries_of later) (entries_of (r ∷ [])) y there)
-              (of_rounds by later passing) others.led others.run role_later (record { full = w.full; invalid = w.invalid; unanswered = λ y none success. none })) [
+              elim (walk first s log fresh all (is_modern start.timing) (entries_of (r ∷ []) ++ before) second last others.at others.following others.rest (entries_of later) others.split (λ y there. front (entries_of later) (entries_of (r ∷ [])) y there)
+              (of_rounds (is_modern start.timing) by later passing) others.led others.run role_later (record { full = w.full; invalid = w.invalid; unanswered = λ y none success. none })) [
                 | inl selected_paths ↦ selected_paths
                 | inr v ↦ absurd (v.unanswered x has success)
               ]

@@ -22,7 +22,7 @@ use Rattle.is_theorems.proofs.DuePairs.ChecksAhead.{calls_left, calls-from}
 use Rattle.is_theorems.proofs.DuePairs.AfterNominationAndRemoval.{last_time_of}
 use Rattle.is_theorems.proofs.DuePairs.AfterPackets.{Core, Arrived, receives, spares-same}
 use Rattle.is_theorems.proofs.DuePairs.NoNominationDue.{NoneIsDue, quiet-call}
-use Rattle.is_theorems.specs.Courses.{AcceptsSuccess}
+use Rattle.is_theorems.specs.Executions.{AcceptsSuccess}
 use Rattle.is_theorems.specs.Reached.{is_in_round}
 use Rattle.is_theorems.proofs.DuePairs.WithoutValidPair.{Calm, Persists, Waits, calm-quiet, begins, persists, passed, pass-on, never}
 use Rattle.is_theorems.proofs.PollingRounds.AnsweredRounds.{calm-on, waits-on, asks}
@@ -50,7 +50,7 @@ module _ {H P : Type 0} where
       abbrev Comes : AgentRecord H P → AgentRecord H P → Type 0
       Comes old new = NoneIsDue new × Arrived mac by at following early old new
 
-      with-quiet : (call : Call P) (e : Entry) (old new : AgentRecord H P) (s t : Stream) → Rests at old → is_in_round call ≡ true → GivesBased call → Step mac answers old s call e new t
+      with-quiet : (call : Call P) (e : Entry) (old new : AgentRecord H P) (s t : Stream) → Rests at old → is_in_round (is_modern old.timing) call ≡ true → GivesBased call → Step mac answers old s call e new t
           → Arrived mac by at following early old new → AcceptsSuccess call e ⊎ Comes old new
       with-quiet call e old new s t (calm, last) is given step came = elim (quiet-call mac answers call e old new s t is calm.sound given (calm-quiet old calm) step) [
         | inl success ↦ inl success

@@ -5,10 +5,10 @@ use Rattle.is_rules.specs.Agent.{AgentRecord}
 use Rattle.is_rules.specs.Nominating.{numbers}
 use Rattle.is_rules.specs.Owed.{one_if}
 use Rattle.is_rules.specs.Steps.{Call, Entry, HandleTimeout}
-use Rattle.is_theorems.specs.Courses.{CourseRound}
+use Rattle.is_theorems.specs.Executions.{ExecutionRound}
 use Rattle.is_theorems.specs.Logs.{Logged}
 use Rattle.is_theorems.specs.Reached.{nominations_ahead, selection_count, selects}
-use Rattle.is_theorems.specs.ReachedCourses.{selections_among}
+use Rattle.is_theorems.specs.ReachedExecutions.{selections_among}
 use Rattle.is_theorems.specs.Rounds.{LoggedRound, entries_of}
 use Rattle.is_theorems.proofs.DuePairs.NominationsAhead.{to_select, to_send}
 use Rattle.is_theorems.specs.TimedRounds.{all_entries}
@@ -47,7 +47,7 @@ module _ {P : Type 0} where
   paid_calls pays [] = 0
   paid_calls pays (x ∷ rest) = pays x.1 + paid_calls pays rest
 
-  abbrev pub paid_among : (Entry → ℕ) → List (CourseRound P) → ℕ
+  abbrev pub paid_among : (Entry → ℕ) → List (ExecutionRound P) → ℕ
   paid_among pays [] = 0
   paid_among pays (r ∷ later) = pays r.timeout + (paid_calls pays r.following + paid_among pays later)
 
@@ -59,7 +59,7 @@ module _ {P : Type 0} where
       paid-join pays (part_of (entry_of before x.0 x.1 ∷ before) rest) (entry_of before x.0 x.1 ∷ []) in
       omega (arith, k, all)
 
-  pub paid-rounds : (pays : Entry → ℕ) (before : List (Logged P)) (older : List (LoggedRound P)) (rounds : List (CourseRound P))
+  pub paid-rounds : (pays : Entry → ℕ) (before : List (Logged P)) (older : List (LoggedRound P)) (rounds : List (ExecutionRound P))
       → paid pays (entries_of (rounds_of before older rounds)) ≡ paid pays (entries_of older) + paid_among pays rounds
   paid-rounds pays before older [] = omega arith
   paid-rounds pays before older (r ∷ later) =
@@ -77,7 +77,7 @@ module _ {P : Type 0} where
       let one : one_if (selects x.1) ≡ cond (selects x.1) 1 0 = counts-one (selects x.1) in
       omega (arith, k, all, one)
 
-  among-selections : (rounds : List (CourseRound P)) → paid_among (to_select true) rounds ≡ selections_among rounds
+  among-selections : (rounds : List (ExecutionRound P)) → paid_among (to_select true) rounds ≡ selections_among rounds
   among-selections [] = refl
   among-selections (r ∷ later) =
       let k = among-selections later in
@@ -88,7 +88,7 @@ module _ {P : Type 0} where
   calls-nothing [] = refl
   calls-nothing (x ∷ rest) = let k : paid_calls (λ e. 0) rest ≡ 0 = calls-nothing rest in omega (arith, k)
 
-  pub among-nothing : (rounds : List (CourseRound P)) → paid_among (λ e. 0) rounds ≡ 0
+  pub among-nothing : (rounds : List (ExecutionRound P)) → paid_among (λ e. 0) rounds ≡ 0
   among-nothing [] = refl
   among-nothing (r ∷ later) =
       let k = among-nothing later in
@@ -96,12 +96,12 @@ module _ {P : Type 0} where
       omega (arith, k, here)
 
   -- as many in a log of the rounds
-  pub selections-same : (before : List (Logged P)) (rounds : List (CourseRound P)) → selection_count (entries_of (rounds_of before [] rounds)) ≡ selections_among rounds
+  pub selections-same : (before : List (Logged P)) (rounds : List (ExecutionRound P)) → selection_count (entries_of (rounds_of before [] rounds)) ≡ selections_among rounds
   selections-same before rounds =
       let all : paid (to_select true) (entries_of (rounds_of before [] rounds)) ≡ 0 + paid_among (to_select true) rounds = paid-rounds (to_select true) before [] rounds in
       let log = paid-selections (entries_of (rounds_of before [] rounds)) in
-      let course = among-selections rounds in
-      omega (arith, all, log, course)
+      let execution = among-selections rounds in
+      omega (arith, all, log, execution)
 
   -- as many in the execution of a segment
   paid-onto : (pays : Entry → ℕ) (xs : List (Logged P)) (more : List (Call P × Entry)) → paid_calls pays (calls_onto xs more) ≡ paid pays xs + paid_calls pays more
@@ -110,7 +110,7 @@ module _ {P : Type 0} where
       let k : paid_calls pays (calls_onto older ((x.call, x.entry) ∷ more)) ≡ paid pays older + (pays x.entry + paid_calls pays more) = paid-onto pays older ((x.call, x.entry) ∷ more) in
       omega (arith, k)
 
-  paid-rounds-onto : (pays : Entry → ℕ) (rounds : List (LoggedRound P)) (more : List (CourseRound P)) → paid_among pays (rounds_onto rounds more) ≡ paid pays (entries_of rounds) + paid_among pays more
+  paid-rounds-onto : (pays : Entry → ℕ) (rounds : List (LoggedRound P)) (more : List (ExecutionRound P)) → paid_among pays (rounds_onto rounds more) ≡ paid pays (entries_of rounds) + paid_among pays more
   paid-rounds-onto pays [] more = omega arith
   paid-rounds-onto pays (r ∷ older) more =
       let k : paid_among pays (rounds_onto older (round_from r ∷ more)) ≡ paid pays (entries_of older) + (pays r.timeout.entry + (paid_calls pays (calls_onto r.following []) + paid_among pays more)) =
@@ -123,8 +123,8 @@ module _ {P : Type 0} where
   selections-onto rounds =
       let all : paid_among (to_select true) (rounds_onto rounds []) ≡ paid (to_select true) (entries_of rounds) + 0 = paid-rounds-onto (to_select true) rounds [] in
       let log = paid-selections (entries_of rounds) in
-      let course = among-selections (rounds_onto rounds []) in
-      omega (arith, all, log, course)
+      let execution = among-selections (rounds_onto rounds []) in
+      omega (arith, all, log, execution)
 
   pub selections-all : (r : LoggedRound P) (later : List (LoggedRound P)) → selections_among (round_from r ∷ rounds_onto later []) ≡ selection_count (all_entries r later)
   selections-all r later =
@@ -133,8 +133,8 @@ module _ {P : Type 0} where
       paid-rounds-onto (to_select true) (r ∷ []) (rounds_onto later []) in
       let all = paid-join (to_select true) (entries_of later) (entries_of (r ∷ [])) in
       let log = paid-selections (all_entries r later) in
-      let course = among-selections (round_from r ∷ rounds_onto later []) in
-      omega (arith, front, first, all, log, course)
+      let execution = among-selections (round_from r ∷ rounds_onto later []) in
+      omega (arith, front, first, all, log, execution)
 
 module _ {H P : Type 0} where
   -- the calls of a segment count for no more nominations than the bounds say
@@ -145,7 +145,7 @@ module _ {H P : Type 0} where
     by-count false = let k : paid (λ e. 0) xs ≡ 0 = paid-nothing xs in omega (arith, k)
 
   -- the calls of rounds count for no more nominations than the bounds say
-  pub among-within : (a : AgentRecord H P) (rounds : List (CourseRound P)) → to_send (numbers a) a + paid_among (to_select (numbers a)) rounds ≤ nominations_ahead a (selections_among rounds)
+  pub among-within : (a : AgentRecord H P) (rounds : List (ExecutionRound P)) → to_send (numbers a) a + paid_among (to_select (numbers a)) rounds ≤ nominations_ahead a (selections_among rounds)
   among-within a rounds = (let k = by-count (numbers a) in omega (arith, k)) where
     by-count : (c : Bool) → (if c && c then one_if a.nomination_due else 0) + paid_among (to_select c) rounds ≤ (if c then one_if a.nomination_due + selections_among rounds else 0)
     by-count true = let k = among-selections rounds in omega (arith, k)

@@ -17,7 +17,7 @@ use Rattle.is_rules.specs.Agent.{AgentRecord}
 use Rattle.is_rules.specs.Checking.{all_asked}
 use Rattle.is_rules.specs.Nominating.{nominates_at_once, numbers}
 use Rattle.is_theorems.specs.Asked.{IsAnsweredOn, IsAnsweredIn, MayEndIn}
-use Rattle.is_theorems.specs.AskedCourses.{Ends}
+use Rattle.is_theorems.specs.AskedExecutions.{Ends}
 use Rattle.is_rules.specs.Brought.{Brings}
 use Rattle.is_rules.specs.declared.emitted.Path.{Path}
 use Rattle.is_theorems.specs.Logs.{Logged}
@@ -40,7 +40,7 @@ use Rattle.is_theorems.proofs.RuleEffects.UnchangedSettings.{either}
 use Rattle.is_theorems.proofs.EarlierChecks.ChecksOfOtherPairs.{all-but, leads, own-le, lead-asked, leads-map, leads-others}
 use Rattle.is_theorems.proofs.ExecutionLogs.LogTheorems.{runs_sound}
 use Rattle.is_theorems.proofs.ExecutionLogs.LogSegments.{no-case, run-on, passed as passed-at}
-use Rattle.is_theorems.proofs.ExecutionLogs.SegmentsAsExecutions.{split-ended, split-run}
+use Rattle.is_theorems.proofs.ExecutionLogs.SegmentsAsExecutions.{ended-fits, split-ended, split-run}
 use Rattle.is_theorems.proofs.EarlierChecks.ChangedPairs.{onward-same}
 use Rattle.is_theorems.proofs.EarlierChecks.BetweenTimeouts.{Ground, Goes, goes-to, goes-same, goes-on, nominates-goes, receives-goes}
 use Rattle.is_theorems.proofs.DuePairs.FirstDuePair.{due-at, timeout-follows}
@@ -49,7 +49,7 @@ use Rattle.is_theorems.proofs.EarlierChecks.OneCheckFewer.{Ready, timeout-goes}
 use Rattle.is_rules.proofs.PairLists.RisingNumbers.{rising-each}
 use Rattle.is_theorems.proofs.CallEffects.ServedRequests.{Has-mapped}
 use Rattle.is_theorems.proofs.DuePairs.PollingCycles.{none-left, maintains_pairs-from, distinct-sound}
-use Rattle.is_theorems.proofs.CallEffects.FailedCallsAndNewAgents.{mtu_kept, controlling_kept, local_kept, enrolment_kept, storing_kept}
+use Rattle.is_theorems.proofs.CallEffects.FailedCallsAndNewAgents.{mtu_kept, local_kept, enrolment_kept, storing_kept}
 use Rattle.is_theorems.proofs.StoredPairs.PairsThatStay.{none-entered, pairs-stay}
 use Rattle.is_theorems.proofs.RuleEffects.SelectedPaths.{one_pair}
 use Rattle.is_theorems.proofs.DuePairs.AfterNominationAndRemoval.{Base, Kept, answered-if, answered-on, answered_at, kept_of, last_time_of, lasts-young}
@@ -57,6 +57,7 @@ use Rattle.is_theorems.proofs.EarlierChecks.AddedCandidates.{local-goes, remote-
 use Rattle.is_rules.specs.Sound.{GivesBased}
 use Rattle.is_theorems.specs.FirstTimeouts.{IsReachedIn}
 use Rattle.is_theorems.proofs.DuePairs.NominationsAhead.{to_select, to_send}
+use Rattle.is_theorems.proofs.DuePairs.NoNominationDue.{as-is}
 use Rattle.is_theorems.proofs.PollingRounds.InTurnAlong.{InTurn, IsNumbered, Never, OffIn, Sufficing, numbered-in-turn, of_rounds, sufficing, turn-along}
 use Rattle.is_theorems.proofs.PollingRounds.CountedSelections.{paid, paid-join, paid-within}
 
@@ -64,11 +65,11 @@ lt-is : (n m : ℕ) → n < m → nat_lt n m ≡ true
 lt-is n m h = grind (arith, nat_tests, h)
 
 module _ {P : Type 0} where
-  falls-late : (by : ℕ) (r : LoggedRound P) → IsPassing by r → by < r.now
-  falls-late by r passing = let late = passing.late in omega (arith, late)
+  falls-late : (m : Bool) (by : ℕ) (r : LoggedRound P) → IsPassing m by r → by < r.now
+  falls-late m by r passing = let late = passing.late in omega (arith, late)
 
-  falls-early : (by : ℕ) (r : LoggedRound P) → IsPassing by r → r.now < MAX
-  falls-early by r passing = let early = passing.early in omega (arith, early)
+  falls-early : (m : Bool) (by : ℕ) (r : LoggedRound P) → IsPassing m by r → r.now < MAX
+  falls-early m by r passing = let early = passing.early in omega (arith, early)
 
 -- ---- responses on a path
 
@@ -216,7 +217,7 @@ module _ {H P : Type 0} where
     sum-is a b c = omega arith
 
     between-goes : (at : ℕ) → by < at → at < MAX → (x : Logged P) (call : Call P) → x.call ≡ call → (old new : AgentRecord H P) (s t : Stream) → is_some old.remote_creds ≡ true → old.last_time ≡ Some at
-        → (p : PairRecord) → IsSound old → Has old.pairs p → p.number ≡ n → path_of old p ≡ path → is_in_round call ≡ true → Step mac answers old s call x.entry new t
+        → (p : PairRecord) → IsSound old → Has old.pairs p → p.number ≡ n → path_of old p ≡ path → is_in_round ahead call ≡ true → Step mac answers old s call x.entry new t
         → IsAnsweredOn x path ⊎ (MayEnd answers old call x.entry p ⊎ Goes n by old new)
     between-goes at following early x (ReceivePacket now via bytes) called old new s t known last p sound has number on is (h, drawn) =
         elim (receives-goes n by mac answers now old new via path bytes x.entry known
@@ -250,21 +251,19 @@ module _ {H P : Type 0} where
     between-goes at following early x (SetControlTieBreaker tie) called old new s t known last p sound has number on is (reported, made, drawn) = inr (inr (goes-to n by old _ new (refl, onward-same n by (last_time_of old) old.pairs old.next_number) made))
     between-goes at following early x (SetMaxCandidatePairs k) called old new s t known last p sound has number on is (reported, made, drawn) = inr (inr (goes-to n by old _ new (refl, onward-same n by (last_time_of old) old.pairs old.next_number) made))
     between-goes at following early x (SetMaxDiscovered limit) called old new s t known last p sound has number on is (reported, made, drawn) = inr (inr (goes-to n by old _ new (refl, onward-same n by (last_time_of old) old.pairs old.next_number) made))
-    between-goes at following early x (SetRenomination true) called old new s t known last p sound has number on is step = no-case is
-    between-goes at following early x (SetRenomination false) called old new s t known last p sound has number on is (reported, made, drawn) =
+    between-goes at following early x (SetRenomination renominates) called old new s t known last p sound has number on is (reported, made, drawn) =
         inr (inr (goes-to n by old _ new (refl, onward-same n by (last_time_of old) old.pairs old.next_number) made))
     between-goes at following early x (SetTimingAdvance advance) called old new s t known last p sound has number on is (reported, made, drawn) = inr (inr (goes-to n by old _ new (refl, onward-same n by (last_time_of old) old.pairs old.next_number) made))
     between-goes at following early x (SetLocalPreference object) called old new s t known last p sound has number on is (reported, made, drawn) = inr (inr (goes-to n by old _ new (refl, onward-same n by (last_time_of old) old.pairs old.next_number) made))
-    between-goes at following early x (SetControlling controlling) called old new s t known last p sound has number on is (Ok _, reported, h, drawn) = inr (inr (goes-to n by old _ new (refl, onward-same n by (last_time_of old) old.pairs old.next_number) h.1))
-    between-goes at following early x (SetControlling controlling) called old new s t known last p sound has number on is (Err error, reported, h, drawn) = inr (inr (goes-same n by old new (controlling_kept old new controlling error h)))
+    between-goes at following early x (SetControlling controlling) called old new s t known last p sound has number on is (reported, made, drawn) = inr (inr (goes-to n by old _ new (refl, onward-same n by (last_time_of old) old.pairs old.next_number) made))
     between-goes at following early x _ called old new s t known last p sound has number on is step = no-case is
 
-    module _ (owing : (call : Call P) (e : Entry) (old new : AgentRecord H P) (s t : Stream) → is_in_round call ≡ true → Step mac answers old s call e new t → owes new ≤ owes old + pays e)
+    module _ (owing : (call : Call P) (e : Entry) (old new : AgentRecord H P) (s t : Stream) → is_in_round (is_modern old.timing) call ≡ true → Step mac answers old s call e new t → owes new ≤ owes old + pays e)
         (first : AgentRecord H P) (s : Stream) (fresh : IsFresh first) where
       sound-at : (log : List (Logged P)) (a : AgentRecord H P) (t : Stream) → Run mac answers first s log a t → IsSound a
       sound-at log a t run = runs_sound mac answers (path_theorem mac answers) first a s t log fresh run
 
-      pub walk : (at k spent : ℕ) → by < at → at < MAX → (before : List (Logged P)) (start last : AgentRecord H P) (u t : Stream) (xs : List (Logged P)) → ((x : Logged P) → Has xs x → is_in_round x.call ≡ true)
+      pub walk : (at k spent : ℕ) → by < at → at < MAX → (before : List (Logged P)) (start last : AgentRecord H P) (u t : Stream) (xs : List (Logged P)) → ((x : Logged P) → Has xs x → is_in_round ahead x.call ≡ true)
           → Run mac answers first s before start u → (run : RunsOn mac answers before start u xs last t) → Waits by n path keeps ahead owes total base at k spent start
           → IsAnsweredIn xs path ⊎ (IsEndedIn mac answers before start u xs last t run path ⊎ (Goes n by start last × Waits by n path keeps ahead owes total base at k (paid pays xs + spent) last))
       walk at k spent following early before start last u t [] fits led (is, same) w = inr (inr (
@@ -283,14 +282,14 @@ module _ {H P : Type 0} where
                 let ends-here : MayEnd answers mid x.call x.entry m.pair → Ends answers mid x.call x.entry path = λ ends. (m.pair, m.there, (ap (λ (w : Path). w.source) m.on, ap (λ (w : Path). w.destination) m.on), ends) in
                 elim (between-goes at following early x x.call refl mid last v t m.checking.peer m.last m.pair sound m.there m.number m.on (fits x (inl refl)) step) [
                   | inl answered ↦ inl (x, inl refl, answered)
-                  | inr (inl ends) ↦ inr (inl (inl (fits x (inl refl), ends-here ends)))
+                  | inr (inl ends) ↦ inr (inl (inl (ended-fits answers ahead mid x.call x.entry path (fits x (inl refl)) (ends-here ends), ends-here ends)))
                   | inr (inr goes) ↦ elim (pairs-stay mac answers mid last v t x.call x.entry m.pair sound given step m.there) [
                     | inl stays ↦ inr (inr (
                       goes-on n by start mid last g goes,
                       subst (λ n_spent. Waits by n path keeps ahead owes total base at k n_spent last) (sum-is (pays x.entry) (paid pays xs) spent)
-                          (waits-on at k (paid pays xs + spent) x.entry following mid last m sound_last goes (owing x.call x.entry mid last v t (fits x (inl refl)) step) stays),
+                          (waits-on at k (paid pays xs + spent) x.entry following mid last m sound_last goes (owing x.call x.entry mid last v t (as-is ahead (is_modern mid.timing) x.call m.rules (fits x (inl refl))) step) stays),
                     ))
-                    | inr ends ↦ inr (inl (inl (fits x (inl refl), ends-here ends)))
+                    | inr ends ↦ inr (inl (inl (ended-fits answers ahead mid x.call x.entry path (fits x (inl refl)) (ends-here ends), ends-here ends)))
                   ]
                 ])
           ]
@@ -362,7 +361,7 @@ module _ {H P : Type 0} where
 
     module _ (Keeps : AgentRecord H P → Type 0) (Off : Call P → Entry → Type 0) (turns : InTurn mac answers Keeps Off owes pays)
         (first : AgentRecord H P) (s : Stream) (fresh : IsFresh first) (before : List (Logged P)) (start : AgentRecord H P) (u : Stream) (led : Run mac answers first s before start u) (at : ℕ)
-        (start-keeps : Keeps start) (begin : (late : by < at) (early : at < MAX) → Persists by n path keeps ahead owes total base at 0 0 start) where
+        (start-keeps : Keeps start) (same_rules : is_modern start.timing ≡ ahead) (begin : (late : by < at) (early : at < MAX) → Persists by n path keeps ahead owes total base at 0 0 start) where
       abbrev WaitsAfter : List (LoggedRound P) → AgentRecord H P → Type 0
       WaitsAfter [] a = a ≡ start
       WaitsAfter (r ∷ older) a = Waits by n path keeps ahead owes total base r.now (length (r ∷ older)) (paid pays (entries_of (r ∷ older))) a
@@ -370,21 +369,21 @@ module _ {H P : Type 0} where
       some-is : (x y : ℕ) → Some x ≡ Some y → x ≡ y
       some-is x y e = cc
 
-      persists-at : (r : LoggedRound P) (older : List (LoggedRound P)) (old : AgentRecord H P) → began_at (r ∷ older) ≡ Some at → IsPassing by r → WaitsAfter older old
+      persists-at : (r : LoggedRound P) (older : List (LoggedRound P)) (old : AgentRecord H P) → began_at (r ∷ older) ≡ Some at → IsPassing ahead by r → WaitsAfter older old
           → Persists by n path keeps ahead owes total base r.now (length older) (paid pays (entries_of older)) old
       persists-at r [] old began passing same =
           let now : r.now ≡ at = some-is r.now at began in
-          let late : by < r.now = falls-late by r passing in
-          let early : r.now < MAX = falls-early by r passing in
+          let late : by < r.now = falls-late ahead by r passing in
+          let early : r.now < MAX = falls-early ahead by r passing in
           subst (λ (a : AgentRecord H P). Persists by n path keeps ahead owes total base r.now 0 0 a) (sym same)
           (subst (λ m. Persists by n path keeps ahead owes total base m 0 0 start) (sym now) (begin (omega (arith, late, now)) (omega (arith, early, now))))
-      persists-at r (x ∷ older) old began passing w = persists by n path keeps ahead owes total base x.now (length (x ∷ older)) (paid pays (entries_of (x ∷ older))) r.now old (falls-late by r passing) (falls-early by r passing) w
+      persists-at r (x ∷ older) old began passing w = persists by n path keeps ahead owes total base x.now (length (x ∷ older)) (paid pays (entries_of (x ∷ older))) r.now old (falls-late ahead by r passing) (falls-early ahead by r passing) w
 
       older-began : (r : LoggedRound P) (rs : List (LoggedRound P)) → began_at (r ∷ rs) ≡ Some at → (rs ≡ [] ⊎ began_at rs ≡ Some at)
       older-began r [] is = inl refl
       older-began r (x ∷ rs) is = inr is
 
-      rounds-go : (rounds : List (LoggedRound P)) (last : AgentRecord H P) (t : Stream) → (rounds ≡ [] ⊎ began_at rounds ≡ Some at) → ((r : LoggedRound P) → Has rounds r → IsPassing by r)
+      rounds-go : (rounds : List (LoggedRound P)) (last : AgentRecord H P) (t : Stream) → (rounds ≡ [] ⊎ began_at rounds ≡ Some at) → ((r : LoggedRound P) → Has rounds r → IsPassing ahead by r)
           → ((r : LoggedRound P) → Has rounds r → keeps r.now ≡ true) → (run : RunsOn mac answers before start u (entries_of rounds) last t)
           → OffIn Off (entries_of rounds) ⊎ (Reached rounds ⊎ (IsEndedIn mac answers before start u (entries_of rounds) last t run path ⊎ WaitsAfter rounds last))
       rounds-go [] last t began are lasting (is, same) = inr (inr (inr is))
@@ -418,7 +417,7 @@ module _ {H P : Type 0} where
                 st (turns.owing_timeout r.now r.timeout.entry old mid z v called) (λ h due. turns.at_once r.now r.timeout.entry old mid z v st.checking.peer st.checking.full still h due) (lasting r (inl refl))) [
                   | inl (id, out) ↦ inl (inl (r, id, inl refl, out))
                   | inr still_waits ↦
-                      elim (walk turns.owing first s fresh r.now (length (r ∷ older)) (paid pays (r.timeout ∷ entries_of older)) (falls-late by r passing) (falls-early by r passing) ((r.timeout ∷ entries_of older) ++ before) mid last v t r.following passing.between led_mid back still_waits) [
+                      elim (walk turns.owing first s fresh r.now (length (r ∷ older)) (paid pays (r.timeout ∷ entries_of older)) (falls-late ahead by r passing) (falls-early ahead by r passing) ((r.timeout ∷ entries_of older) ++ before) mid last v t r.following passing.between led_mid back still_waits) [
                         | inl answered ↦ inl (inr (has-front path r.following (r.timeout ∷ entries_of older) answered))
                         | inr (inl ended) ↦ inr (inl (inl ended))
                         | inr (inr (goes, waits)) ↦ inr (inr (subst (λ k. Waits by n path keeps ahead owes total base r.now (length (r ∷ older)) k last) (sym (paid-join pays r.following (r.timeout ∷ entries_of older))) waits))
@@ -438,7 +437,7 @@ module _ {H P : Type 0} where
                   | inr (inl reached) ↦ inr (inl (reached-later r older reached))
                   | inr (inr (inl ended)) ↦ inr (inr (inl (inr (inr ended))))
                   | inr (inr (inr w)) ↦
-                      elim (turn-along mac answers Keeps Off owes pays turns first s fresh before start old u z (entries_of older) (of_rounds by older (λ x has. are x (inr has))) led run_older start-keeps) [
+                      elim (turn-along mac answers Keeps Off owes pays turns first s fresh before start old u z (entries_of older) (of_rounds (is_modern start.timing) by older (λ x has. subst (λ b. IsPassing b by x) (sym same_rules) (are x (inr has)))) led run_older start-keeps) [
                         | inl off ↦ inl (off-older off)
                         | inr still ↦ inr (in-turn began mid v old z run_older number given step back w still)
                       ]
@@ -459,7 +458,7 @@ module _ {H P : Type 0} where
         → Sufficing by most start rounds last p → owes start + paid pays (entries_of rounds) ≤ most → Keeps start → OffIn Off (entries_of rounds) ⊎ IsReachedIn mac answers rounds found (path_of start p)
     reached-unless Keeps Off owes pays turns first s log fresh before start last rounds p by most found f within start-keeps =
         by-rounds (IsEndedIn mac answers before start found.at (entries_of rounds) last found.following found.run (path_of start p)) rounds f.began (omega (arith, within)) (let enough = f.enough in omega (arith, enough))
-        (rounds-go mac answers by p.number (path_of start p) (answered_at start p) (is_modern start.timing) owes pays total start.next_number Keeps Off turns first s fresh before start found.at found.led f.at start-keeps begin rounds last found.following (inr f.began) f.passing (λ r has. lasts-at first s log fresh before start last (entries_of rounds) p found f.line.there r.now (search (f.lasting r has))) found.run) where
+        (rounds-go mac answers by p.number (path_of start p) (answered_at start p) (is_modern start.timing) owes pays total start.next_number Keeps Off turns first s fresh before start found.at found.led f.at start-keeps refl begin rounds last found.following (inr f.began) f.passing (λ r has. lasts-at first s log fresh before start last (entries_of rounds) p found f.line.there r.now (search (f.lasting r has))) found.run) where
           total : ℕ
           total = calls_left (is_modern start.timing) start.ahead_turn (leads (all-but p.number) by start.pairs) + times (is_modern start.timing) (owes start)
 
@@ -486,7 +485,7 @@ module _ {H P : Type 0} where
           by-rounds : (Gone : Type 0) (rs : List (LoggedRound P)) → began_at rs ≡ Some f.at
               → owes start + paid pays (entries_of rs) ≤ most → times (is_modern start.timing) (2 * length start.pairs + last.next_number + most) ≤ length rs + 1 + times (is_modern start.timing) start.next_number
               → OffIn Off (entries_of rs) ⊎ (Reached mac answers by p.number (path_of start p) (answered_at start p) (is_modern start.timing) owes pays total start.next_number rs
-              ⊎ (Gone ⊎ WaitsAfter mac answers by p.number (path_of start p) (answered_at start p) (is_modern start.timing) owes pays total start.next_number Keeps Off turns first s fresh before start found.at found.led f.at start-keeps begin rs last))
+              ⊎ (Gone ⊎ WaitsAfter mac answers by p.number (path_of start p) (answered_at start p) (is_modern start.timing) owes pays total start.next_number Keeps Off turns first s fresh before start found.at found.led f.at start-keeps refl begin rs last))
               → OffIn Off (entries_of rs) ⊎ (ChecksIn rs (path_of start p) ⊎ (IsAnsweredIn (entries_of rs) (path_of start p) ⊎ Gone))
           by-rounds Gone rs none within enough (inl off) = inl off
           by-rounds Gone rs none within enough (inr (inl (inl checks))) = inr (inl checks)

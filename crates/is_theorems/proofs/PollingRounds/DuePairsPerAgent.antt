@@ -13,20 +13,20 @@ use Rattle.is_rules.specs.declared.emitted.Issued.{Issued}
 use Rattle.is_rules.specs.declared.emitted.Path.{Path}
 use Rattle.is_rules.specs.Agent.{AgentRecord}
 use Rattle.is_theorems.specs.Asked.{IsAnsweredOn, IsAnsweredIn}
-use Rattle.is_theorems.specs.Courses.{CourseRound}
+use Rattle.is_theorems.specs.Executions.{ExecutionRound}
 use Rattle.is_rules.specs.Emitted.{issued_as}
-use Rattle.is_theorems.specs.Exchange.{Course}
+use Rattle.is_theorems.specs.Exchange.{Execution}
 use Rattle.is_theorems.specs.Logs.{Logged}
 use Rattle.is_theorems.specs.Pending.{is_request, is_same_path, is_check_on}
 use Rattle.is_theorems.specs.Progress.{checks_for}
 use Rattle.is_theorems.specs.Reached.{IsLasting, is_in_round, IsPassing, ChecksIn, IsEndedIn, nominations_ahead}
-use Rattle.is_theorems.specs.ReachedCourses.{IsPassed, ChecksAmong, IsAnsweredAmong, PassRounds, CoursesReach, CoursesCheck}
+use Rattle.is_theorems.specs.ReachedExecutions.{IsPassed, ChecksAmong, IsAnsweredAmong, PassRounds, ExecutionsReach, ExecutionsCheck}
 use Rattle.is_theorems.specs.Rounds.{LoggedRound, entries_of, is_between, RunsOn}
 use Rattle.is_rules.specs.Sending.{path_of}
 use Rattle.is_theorems.specs.Staying.{MayEnd}
 use Rattle.is_rules.specs.Steps.{Call, SetMtu, SetControlTieBreaker, SetMaxCandidatePairs, SetMaxDiscovered, SetRenomination, SetTimingAdvance, SetLocalPreference, SetControlling, SetLocalCredentials, AddLocalCandidate, AddRemoteCandidate, ReceivePacket, HandleTimeout, PollTransmit, PollTimeout, PollEvent, Entry}
 use Rattle.is_theorems.proofs.BasicLemmas.EqualAddresses.{both, same_address-sound, same_protocol-sound}
-use Rattle.is_theorems.proofs.ExecutionLogs.PerAgentExecutions.{entry_of, part_of, pushed, part_is, round_of, rounds_of, begun, as_many, either_has, recomputed, leads_on, courses-announce}
+use Rattle.is_theorems.proofs.ExecutionLogs.PerAgentExecutions.{entry_of, part_of, pushed, part_is, round_of, rounds_of, begun, as_many, either_has, recomputed, leads_on, executions-announce}
 use Rattle.is_theorems.proofs.ExecutionLogs.LogSegments.{no-case}
 use Rattle.is_theorems.proofs.StoredPairs.TransactionsThatStay.{is-on}
 use Rattle.is_theorems.proofs.PollingRounds.CountedSelections.{selections-same}
@@ -56,38 +56,38 @@ module _ {P : Type 0} where
   -- ---- rounds of a per-agent execution, as those of a log
 
   -- a packet or a poll may come between two `handle_timeout` calls
-  pub between_in : (c : Call P) → is_between c ≡ true → is_in_round c ≡ true
-  between_in (SetMtu target warn) is = refl
-  between_in (SetControlTieBreaker tie_breaker) is = refl
-  between_in (SetMaxCandidatePairs n) is = refl
-  between_in (SetMaxDiscovered limit) is = refl
-  between_in (SetRenomination renominates) is = no-case is
-  between_in (SetTimingAdvance by) is = refl
-  between_in (SetLocalPreference object) is = refl
-  between_in (SetControlling controlling) is = refl
-  between_in (SetLocalCredentials creds) is = refl
-  between_in (AddLocalCandidate c) is = refl
-  between_in (AddRemoteCandidate c) is = refl
-  between_in _ is = is
+  pub between_in : (m : Bool) (c : Call P) → is_between c ≡ true → is_in_round m c ≡ true
+  between_in m (SetMtu target warn) is = refl
+  between_in m (SetControlTieBreaker tie_breaker) is = refl
+  between_in m (SetMaxCandidatePairs n) is = refl
+  between_in m (SetMaxDiscovered limit) is = refl
+  between_in m (SetRenomination renominates) is = no-case is
+  between_in m (SetTimingAdvance by) is = refl
+  between_in m (SetLocalPreference object) is = refl
+  between_in m (SetControlling controlling) is = refl
+  between_in m (SetLocalCredentials creds) is = refl
+  between_in m (AddLocalCandidate c) is = refl
+  between_in m (AddRemoteCandidate c) is = refl
+  between_in m _ is = is
 
   -- a `handle_timeout` call, and then only packets and polls
   abbrev IsPlain : LoggedRound P → Type 0
   IsPlain r = (r.timeout.call ≡ HandleTimeout r.now) × ((x : Logged P) → Has r.following x → is_between x.call ≡ true)
 
-  is_plain : (by : ℕ) (before : List (Logged P)) (r : CourseRound P) → IsPassed by r → IsPlain (round_of before r)
+  is_plain : (by : ℕ) (before : List (Logged P)) (r : ExecutionRound P) → IsPassed by r → IsPlain (round_of before r)
   is_plain by before r round = (refl, λ x has. round.between (x.call, x.entry) (part_is (entry_of before (HandleTimeout r.now) r.timeout ∷ before) r.following x has))
 
-  is_passing : (by : ℕ) (before : List (Logged P)) (r : CourseRound P) → IsPassed by r → IsPassing by (round_of before r)
-  is_passing by before r round = record {
+  is_passing : (m : Bool) (by : ℕ) (before : List (Logged P)) (r : ExecutionRound P) → IsPassed by r → IsPassing m by (round_of before r)
+  is_passing m by before r round = record {
     comes = refl;
     done = round.done;
     late = round.late;
     early = round.early;
-    between = λ x has. between_in x.call ((is_plain by before r round).1 x has);
+    between = λ x has. between_in m x.call ((is_plain by before r round).1 x has);
   }
 
-  are_all : (Q : LoggedRound P → Type 0) (before : List (Logged P)) (older : List (LoggedRound P)) (rounds : List (CourseRound P)) → ((r : LoggedRound P) → Has older r → Q r)
-      → ((front : List (Logged P)) (r : CourseRound P) → Has rounds r → Q (round_of front r)) → (r : LoggedRound P) → Has (rounds_of before older rounds) r → Q r
+  are_all : (Q : LoggedRound P → Type 0) (before : List (Logged P)) (older : List (LoggedRound P)) (rounds : List (ExecutionRound P)) → ((r : LoggedRound P) → Has older r → Q r)
+      → ((front : List (Logged P)) (r : ExecutionRound P) → Has rounds r → Q (round_of front r)) → (r : LoggedRound P) → Has (rounds_of before older rounds) r → Q r
   are_all Q before older [] were are r has = were r has
   are_all Q before older (x ∷ later) were are r has =
       are_all Q before (round_of (entries_of older ++ before) x ∷ older) later
@@ -97,22 +97,22 @@ module _ {P : Type 0} where
       ])
       (λ front y there. are front y (inr there)) r has
 
-  entries_plain : (rounds : List (LoggedRound P)) → ((r : LoggedRound P) → Has rounds r → IsPlain r) → (x : Logged P) → Has (entries_of rounds) x → (is_in_round x.call ≡ false) ⊎ (is_between x.call ≡ true)
+  entries_plain : (rounds : List (LoggedRound P)) → ((r : LoggedRound P) → Has rounds r → IsPlain r) → (x : Logged P) → Has (entries_of rounds) x → (is_in_round true x.call ≡ false) ⊎ (is_between x.call ≡ true)
   entries_plain [] are x has = absurd has
   entries_plain (r ∷ older) are x has = elim (either_has r.following (r.timeout ∷ entries_of older) x has) [
     | inl following ↦ inr ((are r (inl refl)).1 x following)
-    | inr (inl is) ↦ inl (ap (λ (y : Logged P). is_in_round y.call) (sym is) ∙ ap (λ (c : Call P). is_in_round c) (are r (inl refl)).0)
+    | inr (inl is) ↦ inl (ap (λ (y : Logged P). is_in_round true y.call) (sym is) ∙ ap (λ (c : Call P). is_in_round true c) (are r (inl refl)).0)
     | inr (inr was) ↦ entries_plain older (λ y there. are y (inr there)) x was
   ]
 
-  checks_later : (x : CourseRound P) (rounds : List (CourseRound P)) (path : Path) → ChecksAmong rounds path → ChecksAmong (x ∷ rounds) path
+  checks_later : (x : ExecutionRound P) (rounds : List (ExecutionRound P)) (path : Path) → ChecksAmong rounds path → ChecksAmong (x ∷ rounds) path
   checks_later x rounds path (r, id, has, out) = (r, id, inr has, out)
 
-  answered_later : (x : CourseRound P) (rounds : List (CourseRound P)) (path : Path) → IsAnsweredAmong rounds path → IsAnsweredAmong (x ∷ rounds) path
+  answered_later : (x : ExecutionRound P) (rounds : List (ExecutionRound P)) (path : Path) → IsAnsweredAmong rounds path → IsAnsweredAmong (x ∷ rounds) path
   answered_later x rounds path (r, has, is) = (r, inr has, is)
 
   -- what is checked in the rounds of the log is checked in those of the per-agent execution
-  checks_among : (before : List (Logged P)) (older : List (LoggedRound P)) (rounds : List (CourseRound P)) (path : Path) → ChecksIn (rounds_of before older rounds) path
+  checks_among : (before : List (Logged P)) (older : List (LoggedRound P)) (rounds : List (ExecutionRound P)) (path : Path) → ChecksIn (rounds_of before older rounds) path
       → ChecksAmong rounds path ⊎ ChecksIn older path
   checks_among before older [] path checks = inr checks
   checks_among before older (r ∷ later) path checks =
@@ -123,7 +123,7 @@ module _ {P : Type 0} where
       ]
 
   -- and likewise what is answered
-  answered_among : (before : List (Logged P)) (older : List (LoggedRound P)) (rounds : List (CourseRound P)) (path : Path) → IsAnsweredIn (entries_of (rounds_of before older rounds)) path
+  answered_among : (before : List (Logged P)) (older : List (LoggedRound P)) (rounds : List (ExecutionRound P)) (path : Path) → IsAnsweredIn (entries_of (rounds_of before older rounds)) path
       → IsAnsweredAmong rounds path ⊎ IsAnsweredIn (entries_of older) path
   answered_among before older [] path answered = inr answered
   answered_among before older (r ∷ later) path answered =
@@ -147,7 +147,7 @@ module _ {H P : Type 0} (mac : H → List ℕ → List ℕ → List ℕ) (answer
   plain_stays old PollEvent e p is ends = ends
   plain_stays old _ e p is ends = no-case is
 
-  none_ended : (before : List (Logged P)) (start last : AgentRecord H P) (s t : Stream) (part : List (Logged P)) (path : Path) → ((x : Logged P) → Has part x → (is_in_round x.call ≡ false) ⊎ (is_between x.call ≡ true))
+  none_ended : (before : List (Logged P)) (start last : AgentRecord H P) (s t : Stream) (part : List (Logged P)) (path : Path) → ((x : Logged P) → Has part x → (is_in_round true x.call ≡ false) ⊎ (is_between x.call ≡ true))
       → (run : RunsOn mac answers before start s part last t) → IsEndedIn mac answers before start s part last t run path → ⊥
   none_ended before start last s t [] path each run none = none
   none_ended before start last s t (x ∷ part) path each (mid, u, run, number, given, step) (inr ended) = none_ended before start mid s u part path (λ y has. each y (inr has)) run ended
@@ -168,27 +168,27 @@ module _ {H P : Type 0} (mac : H → List ℕ → List ℕ → List ℕ) (answer
   runs_both before one (x ∷ two) start mid last s u t h (m, v, run, number, based, step) =
       (m, v, runs_both before one two start mid m s u v h run, number ∙ ap length (sym (append_assoc two one before)), based, step)
 
-  runs_course : (xs : List (Call P × Entry)) (before : List (Logged P)) (old new : AgentRecord H P) → Course mac answers xs old new → Runs before old (part_of before xs) new
-  runs_course [] before old new is t = (t, (is, refl))
-  runs_course (x ∷ rest) before old new (mid, s, t, based, step, more) u =
-      let k = runs_course rest (entry_of before x.0 x.1 ∷ before) mid new more u in
+  runs_execution : (xs : List (Call P × Entry)) (before : List (Logged P)) (old new : AgentRecord H P) → Execution mac answers xs old new → Runs before old (part_of before xs) new
+  runs_execution [] before old new is t = (t, (is, refl))
+  runs_execution (x ∷ rest) before old new (mid, s, t, based, step, more) u =
+      let k = runs_execution rest (entry_of before x.0 x.1 ∷ before) mid new more u in
       let a = recomputed mac answers x.0 x.1 old mid s t k.0 step in (
         a.0,
         runs_both before (entry_of before x.0 x.1 ∷ []) (part_of (entry_of before x.0 x.1 ∷ before) rest) old mid new a.0 k.0 u
             (old, a.0, (refl, refl), refl, based, a.1) k.1,
       )
 
-  runs_rounds : (rounds : List (CourseRound P)) (before : List (Logged P)) (older : List (LoggedRound P)) (start old new : AgentRecord H P) → Runs before start (entries_of older) old
+  runs_rounds : (rounds : List (ExecutionRound P)) (before : List (Logged P)) (older : List (LoggedRound P)) (start old new : AgentRecord H P) → Runs before start (entries_of older) old
       → PassRounds mac answers rounds old new → Runs before start (entries_of (rounds_of before older rounds)) new
   runs_rounds [] before older start old new ran is = subst (λ (a : AgentRecord H P). Runs before start (entries_of older) a) (sym is) ran
-  runs_rounds (r ∷ later) before older start old new ran (mid, next, s, t, step, course, more) =
+  runs_rounds (r ∷ later) before older start old new ran (mid, next, s, t, step, execution, more) =
       runs_rounds later before (round_of (entries_of older ++ before) r ∷ older) start next new one more where
         timeout : Logged P
         timeout = entry_of (entries_of older ++ before) (HandleTimeout r.now) r.timeout
 
         one : Runs before start (entries_of (round_of (entries_of older ++ before) r ∷ older)) next
         one u =
-            let k = runs_course r.following (timeout ∷ (entries_of older ++ before)) mid next course u in
+            let k = runs_execution r.following (timeout ∷ (entries_of older ++ before)) mid next execution u in
             let a = recomputed mac answers (HandleTimeout r.now) r.timeout old mid s t k.0 step in
             let h = ran a.0 in (
               h.0,
@@ -196,13 +196,13 @@ module _ {H P : Type 0} (mac : H → List ℕ → List ℕ → List ℕ) (answer
                   (old, a.0, h.1, refl, tt, a.1) k.1,
             )
 
-  pub courses-reach : CoursesReach mac answers
-  courses-reach first start last xs r rounds p by fresh course line chain are lasting enough =
+  pub executions-reach : ExecutionsReach mac answers
+  executions-reach first start last xs r rounds p by fresh execution line chain are lasting enough =
       let before : List (Logged P) = pushed [] xs in
       let all : List (LoggedRound P) = rounds_of before [] (r ∷ rounds) in
       let any : Stream = record { u32_after = λ cs. 0; u64_after = λ cs. 0; bytes_after = λ cs n. [] } in
       let ran = runs_rounds (r ∷ rounds) before [] start start last (λ t. (t, (refl, refl))) chain any in
-      let led = leads_on mac answers first xs [] first start (λ t. (t, (refl, refl))) course ran.0 in
+      let led = leads_on mac answers first xs [] first start (λ t. (t, (refl, refl))) execution ran.0 in
       let many = as_many before [] (r ∷ rounds) in
       elim (pairs-are-reached mac answers first led.0 (entries_of all ++ before) fresh before start last all p by
       (record { rest = []; split = refl; at = ran.0; led = led.1; following = any; run = ran.1 })
@@ -210,7 +210,7 @@ module _ {H P : Type 0} (mac : H → List ℕ → List ℕ → List ℕ) (answer
         at = r.now;
         began = begun before (round_of ([] ++ before) r) [] rounds;
         line = line;
-        passing = are_all (λ x. IsPassing by x) before [] (r ∷ rounds) (λ x none. absurd none) (λ front x has. is_passing by front x (are x has));
+        passing = are_all (λ x. IsPassing (is_modern start.timing) by x) before [] (r ∷ rounds) (λ x none. absurd none) (λ front x has. is_passing (is_modern start.timing) by front x (are x has));
         lasting = are_all (λ x. IsLasting x.now start p) before [] (r ∷ rounds) (λ x none. absurd none) (λ front x has. lasting x has);
         enough = subst (λ k. checks_for (is_modern start.timing) (2 * length start.pairs + last.next_number + nominations_ahead start k) ≤ length all + 1 + checks_for (is_modern start.timing) start.next_number)
             (sym (selections-same before (r ∷ rounds))) (omega (arith, many, enough));
@@ -238,26 +238,26 @@ module _ {H P : Type 0} (mac : H → List ℕ → List ℕ → List ℕ) (answer
     by true is = inl (issued.id.0, ap Some (is-sent path issued is))
     by false isnt = inr (λ id out. (let no : false ≡ true = sym isnt ∙ is-on path (Some issued) id out in cc))
 
-  some-check : (path : Path) (rounds : List (CourseRound P)) → ChecksAmong rounds path
-      ⊎ ((x : CourseRound P) (id : List ℕ) → Has rounds x → x.timeout.emitted.issued ≡ Some (issued_as path class.Request id) → ⊥)
+  some-check : (path : Path) (rounds : List (ExecutionRound P)) → ChecksAmong rounds path
+      ⊎ ((x : ExecutionRound P) (id : List ℕ) → Has rounds x → x.timeout.emitted.issued ≡ Some (issued_as path class.Request id) → ⊥)
   some-check path [] = inr (λ x id has out. absurd has)
   some-check path (r ∷ later) = elim (checks-or-not path r.timeout.emitted.issued) [
     | inl (id, out) ↦ inl (r, id, inl refl, out)
     | inr none ↦ elim (some-check path later) [
       | inl k ↦ inl (checks_later r later path k)
       | inr others ↦ inr (λ x id has out. elim has [
-        | inl is ↦ none id (ap (λ (y : CourseRound P). y.timeout.emitted.issued) is ∙ out)
+        | inl is ↦ none id (ap (λ (y : ExecutionRound P). y.timeout.emitted.issued) is ∙ out)
         | inr there ↦ others x id there out
       ])
     ]
   ]
 
-  pub courses-check : CoursesCheck mac answers
-  courses-check first start last xs r rounds p by fresh course role waits unanswered chain are enough =
+  pub executions-check : ExecutionsCheck mac answers
+  executions-check first start last xs r rounds p by fresh execution role waits unanswered chain are enough =
       elim (some-check (path_of start p) (r ∷ rounds)) [
         | inl checks ↦ inl checks
         | inr none ↦
-            inr (courses-announce mac answers first start last xs r rounds p by fresh course role waits unanswered chain
+            inr (executions-announce mac answers first start last xs r rounds p by fresh execution role waits unanswered chain
             (λ x has. (let passed = are x has in
             record { done = passed.done; late = (let late = passed.late in omega (arith, late)); early = passed.early; between = passed.between; met = λ id out. absurd (none x id has out) })) (omega (arith, enough)))
       ]

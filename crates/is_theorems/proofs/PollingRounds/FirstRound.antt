@@ -16,7 +16,7 @@ use Rattle.is_stun.specs.Timing.{is_modern, consent_of}
 use Rattle.is_rules.specs.Agent.{AgentRecord}
 use Rattle.is_rules.specs.Nominating.{numbers}
 use Rattle.is_theorems.specs.Asked.{IsAnsweredIn}
-use Rattle.is_theorems.specs.AskedCourses.{AcceptsSuccessOn, Ends}
+use Rattle.is_theorems.specs.AskedExecutions.{AcceptsSuccessOn, Ends}
 use Rattle.is_rules.specs.declared.emitted.Path.{Path}
 use Rattle.is_rules.specs.Emitted.{issued_as}
 use Rattle.is_theorems.specs.Logs.{Logged}
@@ -39,7 +39,8 @@ use Rattle.is_theorems.proofs.EarlierChecks.ChangedPairs.{Fixed}
 use Rattle.is_theorems.proofs.DuePairs.FirstDuePair.{due-at, timeout-follows}
 use Rattle.is_theorems.proofs.DuePairs.ChecksAhead.{times, none-suffices}
 use Rattle.is_theorems.proofs.DuePairs.NominationsAhead.{to_select, to_send}
-use Rattle.is_theorems.proofs.CallEffects.FailedCallsAndNewAgents.{mtu_kept, controlling_kept, local_kept, enrolment_kept, storing_kept}
+use Rattle.is_theorems.proofs.ExecutionLogs.SegmentsAsExecutions.{ended-fits}
+use Rattle.is_theorems.proofs.CallEffects.FailedCallsAndNewAgents.{mtu_kept, local_kept, enrolment_kept, storing_kept}
 use Rattle.is_rules.proofs.PairLists.RisingNumbers.{rising-each}
 use Rattle.is_theorems.proofs.CallEffects.ServedRequests.{Has-mapped}
 use Rattle.is_theorems.proofs.DuePairs.PollingCycles.{none-left, maintains_pairs-from, distinct-sound}
@@ -51,7 +52,7 @@ use Rattle.is_theorems.specs.FirstTimeouts.{IsReachedIn, PairsAreReachedFromDue,
 use Rattle.is_theorems.proofs.EarlierChecks.FirstTimeout.{Other, timeout-goes}
 use Rattle.is_theorems.proofs.ExecutionLogs.PerAgentExecutions.{either_has}
 use Rattle.is_theorems.proofs.PollingRounds.DuePairsInLogs.{reached-unless, reselected-goes}
-use Rattle.is_theorems.proofs.PollingRounds.InTurnAlong.{InTurn, IsNumbered, IsOfRound, Lined, Never, OffIn, lined, numbered-in-turn, turn-along}
+use Rattle.is_theorems.proofs.PollingRounds.InTurnAlong.{InTurn, IsNumbered, IsOfRound, Lined, Never, OffIn, lined, numbered-in-turn, profile-along, turn-along}
 use Rattle.is_theorems.proofs.PollingRounds.CountedSelections.{paid, paid-within}
 
 lt-is : (n m : ℕ) → n < m → nat_lt n m ≡ true
@@ -190,47 +191,45 @@ module _ {H P : Type 0} where
         }
 
     pub between-keeps : (call : Call P) (e : Entry) (old new : AgentRecord H P) (s t : Stream) → is_some old.remote_creds ≡ true → old.last_time ≡ Some at
-        → (p : PairRecord) → IsSound old → Has old.pairs p → p.number ≡ n → path_of old p ≡ path → is_in_round call ≡ true → Step mac answers old s call e new t
+        → (p : PairRecord) → IsSound old → Has old.pairs p → p.number ≡ n → path_of old p ≡ path → (m : Bool) → is_in_round m call ≡ true → Step mac answers old s call e new t
         → AcceptsSuccessOn call e path ⊎ (MayEnd answers old call e p ⊎ Keeps n old new)
-    between-keeps (ReceivePacket now via bytes) e old new s t known last p sound has number on is (h, drawn) =
+    between-keeps (ReceivePacket now via bytes) e old new s t known last p sound has number on m is (h, drawn) =
         elim (receives-goes n 0 mac answers now old new via path bytes e known
         (λ q there same. (let one : q ≡ p = one_pair old.pairs q p (rising-each old.pairs sound.rising) there has (same ∙ sym number) in ap (λ (y : PairRecord). path_of old y) one ∙ on)) h) [
           | inl (m, reads, flag, success, back) ↦ inl (now, via, m, (refl, refl, reads, flag), success, back)
           | inr k ↦ inr (inr (keeps-from n old new k))
         ]
-    between-keeps PollTransmit e old new s t known last p sound has number on is (given, emitted, (polled, made), drawn) = inr (inr (keeps-to n old _ new (refl, λ d cs le f. f) made))
-    between-keeps PollTimeout e old new s t known last p sound has number on is (deadline, emitted, timed_out, drawn) = inr (inr (asks-keeps n at old new deadline last timed_out))
-    between-keeps PollEvent e old new s t known last p sound has number on is (given, emitted, (polled, made), drawn) = inr (inr (keeps-to n old _ new (refl, λ d cs le f. f) made))
-    between-keeps (AddLocalCandidate c) e old new s t known last p sound has number on is (Ok (Some place), emitted, reported, (named, mid, h, again, emits), drawn) =
+    between-keeps PollTransmit e old new s t known last p sound has number on m is (given, emitted, (polled, made), drawn) = inr (inr (keeps-to n old _ new (refl, λ d cs le f. f) made))
+    between-keeps PollTimeout e old new s t known last p sound has number on m is (deadline, emitted, timed_out, drawn) = inr (inr (asks-keeps n at old new deadline last timed_out))
+    between-keeps PollEvent e old new s t known last p sound has number on m is (given, emitted, (polled, made), drawn) = inr (inr (keeps-to n old _ new (refl, λ d cs le f. f) made))
+    between-keeps (AddLocalCandidate c) e old new s t known last p sound has number on m is (Ok (Some place), emitted, reported, (named, mid, h, again, emits), drawn) =
         elim (local-goes n 0 answers old mid c place p sound has number h) [
           | inl ends ↦ inr (inl (ap (λ (x : Entry). x.answer) reported, ends))
           | inr k ↦ inr (inr (keeps-from n old new (reselected-goes n 0 old mid new named again k)))
         ]
-    between-keeps (AddLocalCandidate c) e old new s t known last p sound has number on is (Ok None, emitted, reported, (named, mid, h, again, emits), drawn) =
+    between-keeps (AddLocalCandidate c) e old new s t known last p sound has number on m is (Ok None, emitted, reported, (named, mid, h, again, emits), drawn) =
         inr (inr (keeps-from n old new (reselected-goes n 0 old mid new named again (goes-same n 0 old mid (none-entered answers old mid c h)))))
-    between-keeps (AddLocalCandidate c) e old new s t known last p sound has number on is (Err error, emitted, reported, (named, mid, h, again, emits), drawn) =
+    between-keeps (AddLocalCandidate c) e old new s t known last p sound has number on m is (Err error, emitted, reported, (named, mid, h, again, emits), drawn) =
         inr (inr (keeps-from n old new (reselected-goes n 0 old mid new named again (goes-same n 0 old mid (enrolment_kept answers old mid c error h)))))
-    between-keeps (AddRemoteCandidate c) e old new s t known last p sound has number on is (Ok _, emitted, reported, (named, mid, h, again, emits), drawn) =
+    between-keeps (AddRemoteCandidate c) e old new s t known last p sound has number on m is (Ok _, emitted, reported, (named, mid, h, again, emits), drawn) =
         elim (remote-goes n 0 old mid c p sound has number h) [
           | inl ends ↦ inr (inl (ap (λ (x : Entry). x.answer) reported, ends))
           | inr k ↦ inr (inr (keeps-from n old new (reselected-goes n 0 old mid new named again k)))
         ]
-    between-keeps (AddRemoteCandidate c) e old new s t known last p sound has number on is (Err error, emitted, reported, (named, mid, h, again, emits), drawn) =
+    between-keeps (AddRemoteCandidate c) e old new s t known last p sound has number on m is (Err error, emitted, reported, (named, mid, h, again, emits), drawn) =
         inr (inr (keeps-from n old new (reselected-goes n 0 old mid new named again (goes-same n 0 old mid (storing_kept old mid c error h)))))
-    between-keeps (SetMtu target warn) e old new s t known last p sound has number on is (Ok _, reported, h, drawn) = inr (inr (keeps-to n old _ new (refl, λ d cs le f. f) h.1))
-    between-keeps (SetMtu target warn) e old new s t known last p sound has number on is (Err error, reported, h, drawn) = inr (inr (keeps-same n old new (mtu_kept old new target warn error h)))
-    between-keeps (SetLocalCredentials creds) e old new s t known last p sound has number on is (Ok _, reported, h, drawn) = inr (inr (keeps-to n old _ new (refl, λ d cs le f. f) h.1))
-    between-keeps (SetLocalCredentials creds) e old new s t known last p sound has number on is (Err error, reported, h, drawn) = inr (inr (keeps-same n old new (local_kept old new creds error h)))
-    between-keeps (SetControlTieBreaker tie) e old new s t known last p sound has number on is (reported, made, drawn) = inr (inr (keeps-to n old _ new (refl, λ d cs le f. f) made))
-    between-keeps (SetMaxCandidatePairs k) e old new s t known last p sound has number on is (reported, made, drawn) = inr (inr (keeps-to n old _ new (refl, λ d cs le f. f) made))
-    between-keeps (SetMaxDiscovered limit) e old new s t known last p sound has number on is (reported, made, drawn) = inr (inr (keeps-to n old _ new (refl, λ d cs le f. f) made))
-    between-keeps (SetRenomination true) e old new s t known last p sound has number on is step = no-case is
-    between-keeps (SetRenomination false) e old new s t known last p sound has number on is (reported, made, drawn) = inr (inr (keeps-to n old _ new (refl, λ d cs le f. f) made))
-    between-keeps (SetTimingAdvance advance) e old new s t known last p sound has number on is (reported, made, drawn) = inr (inr (keeps-to n old _ new (refl, λ d cs le f. f) made))
-    between-keeps (SetLocalPreference object) e old new s t known last p sound has number on is (reported, made, drawn) = inr (inr (keeps-to n old _ new (refl, λ d cs le f. f) made))
-    between-keeps (SetControlling controlling) e old new s t known last p sound has number on is (Ok _, reported, h, drawn) = inr (inr (keeps-to n old _ new (refl, λ d cs le f. f) h.1))
-    between-keeps (SetControlling controlling) e old new s t known last p sound has number on is (Err error, reported, h, drawn) = inr (inr (keeps-same n old new (controlling_kept old new controlling error h)))
-    between-keeps _ e old new s t known last p sound has number on is step = no-case is
+    between-keeps (SetMtu target warn) e old new s t known last p sound has number on m is (Ok _, reported, h, drawn) = inr (inr (keeps-to n old _ new (refl, λ d cs le f. f) h.1))
+    between-keeps (SetMtu target warn) e old new s t known last p sound has number on m is (Err error, reported, h, drawn) = inr (inr (keeps-same n old new (mtu_kept old new target warn error h)))
+    between-keeps (SetLocalCredentials creds) e old new s t known last p sound has number on m is (Ok _, reported, h, drawn) = inr (inr (keeps-to n old _ new (refl, λ d cs le f. f) h.1))
+    between-keeps (SetLocalCredentials creds) e old new s t known last p sound has number on m is (Err error, reported, h, drawn) = inr (inr (keeps-same n old new (local_kept old new creds error h)))
+    between-keeps (SetControlTieBreaker tie) e old new s t known last p sound has number on m is (reported, made, drawn) = inr (inr (keeps-to n old _ new (refl, λ d cs le f. f) made))
+    between-keeps (SetMaxCandidatePairs k) e old new s t known last p sound has number on m is (reported, made, drawn) = inr (inr (keeps-to n old _ new (refl, λ d cs le f. f) made))
+    between-keeps (SetMaxDiscovered limit) e old new s t known last p sound has number on m is (reported, made, drawn) = inr (inr (keeps-to n old _ new (refl, λ d cs le f. f) made))
+    between-keeps (SetRenomination renominates) e old new s t known last p sound has number on m is (reported, made, drawn) = inr (inr (keeps-to n old _ new (refl, λ d cs le f. f) made))
+    between-keeps (SetTimingAdvance advance) e old new s t known last p sound has number on m is (reported, made, drawn) = inr (inr (keeps-to n old _ new (refl, λ d cs le f. f) made))
+    between-keeps (SetLocalPreference object) e old new s t known last p sound has number on m is (reported, made, drawn) = inr (inr (keeps-to n old _ new (refl, λ d cs le f. f) made))
+    between-keeps (SetControlling controlling) e old new s t known last p sound has number on m is (reported, made, drawn) = inr (inr (keeps-to n old _ new (refl, λ d cs le f. f) made))
+    between-keeps _ e old new s t known last p sound has number on m is step = no-case is
 
     -- ---- the first round
 
@@ -246,11 +245,11 @@ module _ {H P : Type 0} where
           ⊎ (IsAnsweredIn (xs ++ timeout ∷ []) path
           ⊎ (IsEndedIn mac answers before start u (xs ++ timeout ∷ []) last t run path ⊎ (Other start p × Waits by n path keeps at last)))
 
-      walk : by ≤ at → (before : List (Logged P)) (start last : AgentRecord H P) (u t : Stream) (xs : List (Logged P)) (timeout : Logged P) (p : PairRecord)
-          → ((x : Logged P) → Has xs x → is_in_round x.call ≡ true) → timeout.call ≡ HandleTimeout at → timeout.entry.answer ≡ Done
+      walk : (m : Bool) → by ≤ at → (before : List (Logged P)) (start last : AgentRecord H P) (u t : Stream) (xs : List (Logged P)) (timeout : Logged P) (p : PairRecord)
+          → ((x : Logged P) → Has xs x → is_in_round m x.call ≡ true) → timeout.call ≡ HandleTimeout at → timeout.entry.answer ≡ Done
           → Run mac answers first s before start u → (run : RunsOn mac answers before start u (xs ++ timeout ∷ []) last t)
           → Lined at by start p → ((m : ℕ) → keeps m ≡ true → answered_at start p m ≡ true) → p.number ≡ n → path_of start p ≡ path → Passes before start u xs timeout last t run p
-      walk from before start last u t [] timeout p fits comes done led (mid, v, (is, same), numbered, given, step) line lasts number on =
+      walk m from before start last u t [] timeout p fits comes done led (mid, v, (is, same), numbered, given, step) line lasts number on =
           let here : Run mac answers first s before mid v = subst (λ (a : AgentRecord H P). Run mac answers first s before a v) (sym is) (subst (λ w. Run mac answers first s before start w) (sym same) led) in
           let sound_last = sound-at (timeout ∷ before) last t (mid, v, here, numbered, given, step) in
           let called : Step mac answers start v (HandleTimeout at) timeout.entry last t =
@@ -259,8 +258,8 @@ module _ {H P : Type 0} where
             | inl checks ↦ inl checks
             | inr waits ↦ inr (inr (inr waits))
           ]
-      walk from before start last u t (x ∷ xs) timeout p fits comes done led (mid, v, run, numbered, given, step) line lasts number on =
-          elim (walk from before start mid u v xs timeout p (λ y has. fits y (inr has)) comes done led run line lasts number on) [
+      walk m from before start last u t (x ∷ xs) timeout p fits comes done led (mid, v, run, numbered, given, step) line lasts number on =
+          elim (walk m from before start mid u v xs timeout p (λ y has. fits y (inr has)) comes done led run line lasts number on) [
             | inl checks ↦ inl checks
             | inr (inl (y, has, is)) ↦ inr (inl (y, inr has, is))
             | inr (inr (inl ended)) ↦ inr (inr (inl (inr ended)))
@@ -269,12 +268,12 @@ module _ {H P : Type 0} where
                 let sound = sound-at ((xs ++ timeout ∷ []) ++ before) mid v here in
                 let sound_last = sound-at (x ∷ ((xs ++ timeout ∷ []) ++ before)) last t (mid, v, here, numbered, given, step) in
                 let ends-here : MayEnd answers mid x.call x.entry w.pair → Ends answers mid x.call x.entry path = λ ends. (w.pair, w.there, (ap (λ (y : Path). y.source) w.on, ap (λ (y : Path). y.destination) w.on), ends) in
-                elim (between-keeps x.call x.entry mid last v t w.checking.peer w.last w.pair sound w.there w.number w.on (fits x (inl refl)) step) [
+                elim (between-keeps x.call x.entry mid last v t w.checking.peer w.last w.pair sound w.there w.number w.on m (fits x (inl refl)) step) [
                   | inl accepts ↦ inr (inl (x, inl refl, accepts))
-                  | inr (inl ends) ↦ inr (inr (inl (inl (fits x (inl refl), ends-here ends))))
+                  | inr (inl ends) ↦ inr (inr (inl (inl (ended-fits answers m mid x.call x.entry path (fits x (inl refl)) (ends-here ends), ends-here ends))))
                   | inr (inr keeps) ↦ elim (pairs-stay mac answers mid last v t x.call x.entry w.pair sound given step w.there) [
                     | inl stays ↦ inr (inr (inr (other, waits-on from mid last w sound_last keeps stays)))
-                    | inr ends ↦ inr (inr (inl (inl (fits x (inl refl), ends-here ends))))
+                    | inr ends ↦ inr (inr (inl (inl (ended-fits answers m mid x.call x.entry path (fits x (inl refl)) (ends-here ends), ends-here ends))))
                   ]
                 ])
           ]
@@ -294,13 +293,13 @@ module _ {H P : Type 0} where
           → (one : Part mac answers first s log before start (entries_of (r ∷ [])) second)
           → (others : Part mac answers first s log (entries_of (r ∷ []) ++ before) second (entries_of later) last)
           → Lined r.now by start p → Stays start → (Stays second → Then second) → by ≤ r.now → r.timeout.call ≡ HandleTimeout r.now → r.timeout.entry.answer ≡ Done
-          → ((x : Logged P) → Has r.following x → is_in_round x.call ≡ true) → ((x : LoggedRound P) → Has later x → IsPassing by x)
+          → ((x : Logged P) → Has r.following x → is_in_round (is_modern start.timing) x.call ≡ true) → ((x : LoggedRound P) → Has later x → IsPassing (is_modern start.timing) by x)
           → ((x : LoggedRound P) → Has later x → IsLasting x.now start p) → SufficesFromDue start second last (length later) most
           → then_owes second + paid then_pays (entries_of later) ≤ most
           → (OffIn Off (entries_of (r ∷ [])) ⊎ OffIn Off (entries_of later))
           ⊎ (IsReachedIn mac answers (r ∷ []) one (path_of start p) ⊎ IsReachedIn mac answers later others (path_of start p))
       due-unless first s log fresh before start second last r later p by most one others line stays then from comes done between passing lasting enough within =
-          elim (walk mac answers by p.number (path_of start p) (answered_at start p) r.now first s fresh (omega (arith, from)) before start second one.at one.following r.following r.timeout p
+          elim (walk mac answers by p.number (path_of start p) (answered_at start p) r.now first s fresh (is_modern start.timing) (omega (arith, from)) before start second one.at one.following r.following r.timeout p
           (λ x has. between x has) comes done one.led one.run line (λ m is. is) refl refl) [
             | inl (id, out) ↦ inr (inl (inl (r, id, inl refl, out)))
             | inr (inl answered) ↦ inr (inl (inr (inl answered)))
@@ -309,19 +308,23 @@ module _ {H P : Type 0} where
               | inl few ↦ absurd (apart other (omega (arith, few)))
               | inr many ↦ elim (turn-along mac answers Stays Off owes pays turns first s fresh before start second one.at one.following (entries_of (r ∷ [])) of_first one.led one.run stays) [
                 | inl off ↦ inl (inl off)
-                | inr still ↦ elim (from-second later others w (then still) passing (λ x has. answered-if start p x.now sound line.there (lasting x has)) (omega (arith, within)) (omega (arith, many))) [
+                | inr still ↦ elim (from-second later others w (then still) (λ x has. subst (λ b. IsPassing b by x) (sym same_rules) (passing x has)) (λ x has. answered-if start p x.now sound line.there (lasting x has)) (omega (arith, within)) (omega (arith, many))) [
                   | inl off ↦ inl (inr off)
                   | inr reached ↦ inr (inr reached)
                 ]
               ]
             ]
           ] where
-            of_first : (x : Logged P) → Has (entries_of (r ∷ [])) x → IsOfRound x
+            of_first : (x : Logged P) → Has (entries_of (r ∷ [])) x → IsOfRound (is_modern start.timing) x
             of_first x has = elim (either_has r.following (r.timeout ∷ []) x has) [
               | inl following ↦ inl (between x following)
               | inr (inl is) ↦ inr (r.now, ap (λ (y : Logged P). y.call) (sym is) ∙ comes)
               | inr (inr none) ↦ absurd none
             ]
+
+            -- the profile stays in the first round
+            same_rules : is_modern second.timing ≡ is_modern start.timing
+            same_rules = profile-along mac answers (is_modern start.timing) before start second one.at one.following (entries_of (r ∷ [])) of_first one.run
 
             sound : IsSound start
             sound = sound-at mac answers by p.number (path_of start p) (answered_at start p) r.now first s fresh before start one.at one.led
@@ -339,7 +342,7 @@ module _ {H P : Type 0} where
             began-lasts x (y ∷ older) m began all = began-lasts y older m began (λ z has. all z (inr has))
 
             from-second : (rounds : List (LoggedRound P)) → (found : Part mac answers first s log (entries_of (r ∷ []) ++ before) second (entries_of rounds) last)
-                → Waits by p.number (path_of start p) (answered_at start p) r.now second → Then second → ((x : LoggedRound P) → Has rounds x → IsPassing by x)
+                → Waits by p.number (path_of start p) (answered_at start p) r.now second → Then second → ((x : LoggedRound P) → Has rounds x → IsPassing (is_modern second.timing) by x)
                 → ((x : LoggedRound P) → Has rounds x → answered_at start p x.now ≡ true)
                 → then_owes second + paid then_pays (entries_of rounds) ≤ most → times (is_modern second.timing) (2 * length second.pairs + last.next_number + most) ≤ length rounds + 1 + times (is_modern second.timing) second.next_number
                 → OffIn Off (entries_of rounds) ⊎ IsReachedIn mac answers rounds found (path_of start p)

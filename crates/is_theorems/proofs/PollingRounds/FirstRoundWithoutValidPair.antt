@@ -11,11 +11,11 @@ use Rattle.is_pair.specs.Pairs.{PairRecord}
 use Rattle.is_pair.specs.Turns.{IsPaced}
 use Rattle.is_stun.specs.declared.timing.StunTiming.{StunTiming}
 use Rattle.is_rules.specs.Agent.{AgentRecord}
-use Rattle.is_theorems.specs.AskedCourses.{SuccessesSelect}
-use Rattle.is_theorems.specs.Courses.{CourseRound, SelectsAmong, ControlsAlong, CourseRounds}
+use Rattle.is_theorems.specs.AskedExecutions.{SuccessesSelect}
+use Rattle.is_theorems.specs.Executions.{ExecutionRound, SelectsAmong, ControlsAlong, ExecutionRounds}
 use Rattle.is_rules.specs.declared.emitted.Path.{Path}
-use Rattle.is_theorems.specs.Exchange.{AreBetween, Course}
-use Rattle.is_theorems.specs.ReachedCourses.{IsPassed, ChecksAmong, CoursesCheck}
+use Rattle.is_theorems.specs.Exchange.{AreBetween, Execution}
+use Rattle.is_theorems.specs.ReachedExecutions.{IsPassed, ChecksAmong, ExecutionsCheck}
 use Rattle.is_theorems.specs.Rounds.{is_between}
 use Rattle.is_theorems.specs.Runs.{IsFresh}
 use Rattle.is_rules.specs.Sending.{path_of}
@@ -27,7 +27,7 @@ use Rattle.is_theorems.proofs.DuePairs.AfterPackets.{NoneValid}
 use Rattle.is_theorems.proofs.DuePairs.NoNominationDue.{NoneIsDue, Quiet, due-none, none-is-due, quiet-call, quiet-timeout}
 use Rattle.is_theorems.proofs.PollingRounds.InTurnAlong.{Lined, lined-unanswered}
 use Rattle.is_theorems.proofs.PathSelection.FirstSuccessInRounds.{SelectsBySuccess, success-selects}
-use Rattle.is_theorems.proofs.PathSelection.NominatedByPeerPerAgent.{course_on}
+use Rattle.is_theorems.proofs.PathSelection.NominatedByPeerPerAgent.{execution_on}
 use Rattle.is_theorems.proofs.CallEffects.PathAndTradeEffects.{path_theorem}
 use Rattle.is_theorems.proofs.ExecutionLogs.LogSegments.{no-case, passed as passed-at}
 use Rattle.is_theorems.proofs.EarlierChecks.BetweenTimeouts.{Ground}
@@ -35,13 +35,13 @@ use Rattle.is_theorems.proofs.DuePairs.FirstDuePair.{Follows, due-at, timeout-fo
 use Rattle.is_theorems.proofs.CallEffects.FailedCallsAndNewAgents.{fresh_sound}
 use Rattle.is_theorems.proofs.DuePairs.PollingCycles.{maintains_pairs-from}
 use Rattle.is_theorems.proofs.StoredPairs.PairsThatStay.{pairs-stay}
-use Rattle.is_theorems.proofs.StoredPairs.TransactionsOverPackets.{sound-course}
+use Rattle.is_theorems.proofs.StoredPairs.TransactionsOverPackets.{sound-execution}
 use Rattle.is_theorems.proofs.DuePairs.AfterNominationAndRemoval.{Base, answered_at, base_of as agent_base}
-use Rattle.is_theorems.specs.FirstChecks.{AreAsManyAsDue, SufficeForDue, CoursesCheckFromDue, times_of}
+use Rattle.is_theorems.specs.FirstChecks.{AreAsManyAsDue, SufficeForDue, ExecutionsCheckFromDue, times_of}
 use Rattle.is_theorems.proofs.EarlierChecks.FirstTimeout.{Other}
 use Rattle.is_theorems.proofs.PollingRounds.FirstRound.{Keeps, Waits, asks-keeps, between-keeps, keeps-to, lt-from, timeout-on, only-one, waits-on}
 
-many-times : {P : Type 0} (rounds : List (CourseRound P)) → length (times_of rounds) ≡ length rounds
+many-times : {P : Type 0} (rounds : List (ExecutionRound P)) → length (times_of rounds) ≡ length rounds
 many-times [] = omega arith
 many-times (r ∷ later) = let k = many-times later in omega (arith, k)
 
@@ -84,13 +84,13 @@ module _ {H P : Type 0} where
 
     -- a success response selects a path
     module _ (select : SuccessesSelect {H = H} {P = P} mac answers) (first : AgentRecord H P) (fresh : IsFresh first) where
-      pub on-call : by ≤ at → (call : Call P) (e : Entry) (old new : AgentRecord H P) (s t : Stream) (zs : List (Call P × Entry)) → Course mac answers zs first old → is_between call ≡ true → GivesBased call
+      pub on-call : by ≤ at → (call : Call P) (e : Entry) (old new : AgentRecord H P) (s t : Stream) (zs : List (Call P × Entry)) → Execution mac answers zs first old → is_between call ≡ true → GivesBased call
           → Calm by n path keeps at old → IsSound old → IsSound new → Step mac answers old s call e new t → new.controlling ≡ true → SelectsBySuccess call e ⊎ Calm by n path keeps at new
       on-call from (ReceivePacket now via bytes) e old new s t zs led is given c sound sound_new step role =
           elim (quiet-call mac answers (ReceivePacket now via bytes) e old new s t refl sound tt (calm-quiet old c) step) [
             | inl (when, by_path, m, (now_is, path_is, reads, flag), success) ↦ inl (success-selects mac answers select first fresh now via bytes e m old new s t zs led c.invalid step role reads flag success)
             | inr q ↦
-                elim (between-keeps mac answers by n path keeps at (ReceivePacket now via bytes) e old new s t c.waits.checking.peer c.waits.last c.waits.pair sound c.waits.there c.waits.number c.waits.on refl step) [
+                elim (between-keeps mac answers by n path keeps at (ReceivePacket now via bytes) e old new s t c.waits.checking.peer c.waits.last c.waits.pair sound c.waits.there c.waits.number c.waits.on true refl step) [
                   | inl (when, by_path, m, (now_is, path_is, reads, flag), success, back) ↦ inl (success-selects mac answers select first fresh now via bytes e m old new s t zs led c.invalid step role reads flag success)
                   | inr (inl ends) ↦ absurd ends
                   | inr (inr held) ↦ inr (still from (ReceivePacket now via bytes) e old new s t is given c sound sound_new step role q.invalid q.quiet held)
@@ -113,8 +113,8 @@ module _ {H P : Type 0} where
           ]
       on-call from _ e old new s t zs led is given c sound sound_new step role = no-case is
 
-      walk : by ≤ at → (xs : List (Call P × Entry)) (old new : AgentRecord H P) (zs : List (Call P × Entry)) → Course mac answers zs first old → AreBetween xs → IsSound old
-          → (course : Course mac answers xs old new) → ControlsAlong mac answers xs old new course → Calm by n path keeps at old
+      walk : by ≤ at → (xs : List (Call P × Entry)) (old new : AgentRecord H P) (zs : List (Call P × Entry)) → Execution mac answers zs first old → AreBetween xs → IsSound old
+          → (execution : Execution mac answers xs old new) → ControlsAlong mac answers xs old new execution → Calm by n path keeps at old
           → ((x : Call P × Entry) × Has xs x × SelectsBySuccess x.0 x.1) ⊎ Calm by n path keeps at new
       walk from [] old new zs led fits sound is along c = inr (subst (λ (a : AgentRecord H P). Calm by n path keeps at a) (sym is) c)
       walk from (x ∷ rest) old new zs led fits sound (mid, s, t, given, step, more) along c =
@@ -122,19 +122,19 @@ module _ {H P : Type 0} where
           elim (on-call from x.0 x.1 old mid s t zs led (fits x (inl refl)) given c sound sound_mid step along.0) [
             | inl selected ↦ inl (x, inl refl, selected)
             | inr calm ↦
-                elim (walk from rest mid new (zs ++ x ∷ []) (course_on mac answers zs (x ∷ []) first old mid led (mid, s, t, given, step, refl)) (λ y has. fits y (inr has)) sound_mid more along.1 calm) [
+                elim (walk from rest mid new (zs ++ x ∷ []) (execution_on mac answers zs (x ∷ []) first old mid led (mid, s, t, given, step, refl)) (λ y has. fits y (inr has)) sound_mid more along.1 calm) [
                   | inl (y, has, selected) ↦ inl (y, inr has, selected)
                   | inr after ↦ inr after
                 ]
           ]
 
   module _ (mac : H → List ℕ → List ℕ → List ℕ) (answers : P → CandidateRecord → ℕ → ℕ → Type 0) where
-    checks-later : (x : CourseRound P) (rounds : List (CourseRound P)) (path : Path) → ChecksAmong rounds path ⊎ SelectsAmong rounds → ChecksAmong (x ∷ rounds) path ⊎ SelectsAmong (x ∷ rounds)
+    checks-later : (x : ExecutionRound P) (rounds : List (ExecutionRound P)) (path : Path) → ChecksAmong rounds path ⊎ SelectsAmong rounds → ChecksAmong (x ∷ rounds) path ⊎ SelectsAmong (x ∷ rounds)
     checks-later x rounds path (inl (r, id, has, out)) = inl (r, id, inr has, out)
     checks-later x rounds path (inr (r, has, selected)) = inr (r, inr has, selected)
 
-    pub courses-check-from-due : CoursesCheck {H = H} {P = P} mac answers → SuccessesSelect {H = H} {P = P} mac answers → CoursesCheckFromDue {H = H} {P = P} mac answers
-    courses-check-from-due check select first start last xs r later p by fresh course role waits unanswered from done early between run passing enough = by-enough enough where
+    pub executions-check-from-due : ExecutionsCheck {H = H} {P = P} mac answers → SuccessesSelect {H = H} {P = P} mac answers → ExecutionsCheckFromDue {H = H} {P = P} mac answers
+    executions-check-from-due check select first start last xs r later p by fresh execution role waits unanswered from done early between run passing enough = by-enough enough where
       path : Path
       path = path_of start p
 
@@ -142,16 +142,16 @@ module _ {H P : Type 0} where
       sound_first = subst (λ (a : AgentRecord H P). IsSound a) (sym fresh.2) (fresh_sound H P first.provider fresh.0 fresh.1)
 
       sound_start : IsSound start
-      sound_start = sound-course mac answers xs first start sound_first course
+      sound_start = sound-execution mac answers xs first start sound_first execution
 
       sound_mid : IsSound run.0
       sound_mid = (path_theorem mac answers start run.0 run.2 run.3 (HandleTimeout r.now) r.timeout sound_start tt run.4).1
 
-      to-mid : Course mac answers (xs ++ (HandleTimeout r.now, r.timeout) ∷ []) first run.0
-      to-mid = course_on mac answers xs ((HandleTimeout r.now, r.timeout) ∷ []) first start run.0 course (run.0, run.2, run.3, tt, run.4, refl)
+      to-mid : Execution mac answers (xs ++ (HandleTimeout r.now, r.timeout) ∷ []) first run.0
+      to-mid = execution_on mac answers xs ((HandleTimeout r.now, r.timeout) ∷ []) first start run.0 execution (run.0, run.2, run.3, tt, run.4, refl)
 
-      to-next : Course mac answers ((xs ++ (HandleTimeout r.now, r.timeout) ∷ []) ++ r.following) first run.1
-      to-next = course_on mac answers (xs ++ (HandleTimeout r.now, r.timeout) ∷ []) r.following first run.0 run.1 to-mid run.6
+      to-next : Execution mac answers ((xs ++ (HandleTimeout r.now, r.timeout) ∷ []) ++ r.following) first run.1
+      to-next = execution_on mac answers (xs ++ (HandleTimeout r.now, r.timeout) ∷ []) r.following first run.0 run.1 to-mid run.6
 
       line : Lined r.now by start p
       line = lined-unanswered r.now by start p waits unanswered
@@ -171,7 +171,7 @@ module _ {H P : Type 0} where
           let one : o ≡ p = only-one start.pairs o p few o_has waits.there in
           no-case (sym is ∙ eq-eqb p.number o.number (ap (λ (x : PairRecord). x.number) (sym one)))
 
-      from-second : (rounds : List (CourseRound P)) → Calm by p.number path (answered_at start p) r.now run.1 → (more : CourseRounds mac answers rounds run.1 last) → ((x : CourseRound P) → Has rounds x → IsPassed by x)
+      from-second : (rounds : List (ExecutionRound P)) → Calm by p.number path (answered_at start p) r.now run.1 → (more : ExecutionRounds mac answers rounds run.1 last) → ((x : ExecutionRound P) → Has rounds x → IsPassed by x)
           → AreAsManyAsDue by run.1 (times_of rounds) → ChecksAmong rounds path ⊎ SelectsAmong rounds
       from-second [] c more passing enough = absurd enough
       from-second (second ∷ rounds) c more passing enough =
@@ -211,8 +211,8 @@ module _ {H P : Type 0} where
       by-enough : SufficeForDue by r.now start run.1 (times_of later) → ChecksAmong (r ∷ later) path ⊎ SelectsAmong (r ∷ later)
       by-enough (inl (late, enough)) =
           let many = many-times later in
-          check first start last xs r later p by fresh course role waits unanswered run (λ x has. open-from (omega (arith, late)) x has) (omega (arith, many, enough)) where
-            open-from : by < r.now → (x : CourseRound P) → Has (r ∷ later) x → IsPassed by x
-            open-from before x (inl is) = subst (λ (y : CourseRound P). IsPassed by y) is (record { done = done; late = before; early = early; between = between })
+          check first start last xs r later p by fresh execution role waits unanswered run (λ x has. open-from (omega (arith, late)) x has) (omega (arith, many, enough)) where
+            open-from : by < r.now → (x : ExecutionRound P) → Has (r ∷ later) x → IsPassed by x
+            open-from before x (inl is) = subst (λ (y : ExecutionRound P). IsPassed by y) is (record { done = done; late = before; early = early; between = between })
             open-from before x (inr has) = passing x has
       by-enough (inr enough) = from-first enough

@@ -14,7 +14,7 @@ use Rattle.is_rules.specs.Nominating.{nominates_at_once, numbers}
 use Rattle.is_rules.specs.Sound.{IsSound, GivesBased}
 use Rattle.is_rules.specs.Steps.{Call, HandleTimeout, Entry, Step}
 use Rattle.is_rules.specs.Timeouts.{timeout_begun, MaintainsPairs}
-use Rattle.is_theorems.specs.Courses.{AcceptsSuccess}
+use Rattle.is_theorems.specs.Executions.{AcceptsSuccess}
 use Rattle.is_theorems.specs.Logs.{Logged}
 use Rattle.is_theorems.specs.Progress.{Awaits, IsChecking, IsUnanswered, checks_for}
 use Rattle.is_theorems.specs.Reached.{IsInLine, IsLasting, IsPassing, Suffice, is_in_round, nominations_ahead, selection_count, selects}
@@ -22,7 +22,7 @@ use Rattle.is_theorems.specs.Rounds.{LoggedRound, RunsOn, began_at, entries_of}
 use Rattle.is_theorems.specs.Runs.{IsFresh, Run}
 use Rattle.is_theorems.proofs.CallEffects.PathAndTradeEffects.{path_theorem}
 use Rattle.is_theorems.proofs.DuePairs.NominationsAhead.{at-once-ends, calls-due, sends-less, sends-more, timeouts-due, to_select, to_send}
-use Rattle.is_theorems.proofs.DuePairs.NoNominationDue.{Quiet, none-at-check, quiet-call, quiet-timeout}
+use Rattle.is_theorems.proofs.DuePairs.NoNominationDue.{Quiet, as-is, modern-stays, modern-stays-timeout, none-at-check, quiet-call, quiet-timeout}
 use Rattle.is_theorems.proofs.ExecutionLogs.LogSegments.{no-case, run-on}
 use Rattle.is_theorems.proofs.ExecutionLogs.LogTheorems.{runs_sound}
 use Rattle.is_theorems.proofs.ExecutionLogs.PerAgentExecutions.{either_has}
@@ -34,15 +34,15 @@ module _ {P : Type 0} where
   OffIn Off xs = (x : Logged P) × Has xs x × Off x.call x.entry
 
   -- a `handle_timeout` call, or one that may come between two of them
-  abbrev pub IsOfRound : Logged P → Type 0
-  IsOfRound x = (is_in_round x.call ≡ true) ⊎ ((now : ℕ) × (x.call ≡ HandleTimeout now))
+  abbrev pub IsOfRound : (modern : Bool) → Logged P → Type 0
+  IsOfRound modern x = (is_in_round modern x.call ≡ true) ⊎ ((now : ℕ) × (x.call ≡ HandleTimeout now))
 
-  pub of_rounds : (by : ℕ) (rounds : List (LoggedRound P)) → ((r : LoggedRound P) → Has rounds r → IsPassing by r) → (x : Logged P) → Has (entries_of rounds) x → IsOfRound x
-  of_rounds by [] passing x has = absurd has
-  of_rounds by (r ∷ older) passing x has = elim (either_has r.following (r.timeout ∷ entries_of older) x has) [
+  pub of_rounds : (m : Bool) (by : ℕ) (rounds : List (LoggedRound P)) → ((r : LoggedRound P) → Has rounds r → IsPassing m by r) → (x : Logged P) → Has (entries_of rounds) x → IsOfRound m x
+  of_rounds m by [] passing x has = absurd has
+  of_rounds m by (r ∷ older) passing x has = elim (either_has r.following (r.timeout ∷ entries_of older) x has) [
     | inl following ↦ inl ((passing r (inl refl)).between x following)
     | inr (inl is) ↦ inr (r.now, ap (λ (y : Logged P). y.call) (sym is) ∙ (passing r (inl refl)).comes)
-    | inr (inr was) ↦ of_rounds by older (λ y there. passing y (inr there)) x was
+    | inr (inr was) ↦ of_rounds m by older (λ y there. passing y (inr there)) x was
   ]
 
 module _ {H P : Type 0} where
@@ -84,7 +84,7 @@ module _ {H P : Type 0} where
     pub at : ℕ
     pub began : began_at rounds ≡ Some at
     pub line : Lined at by start p
-    pub passing : (r : LoggedRound P) → Has rounds r → IsPassing by r
+    pub passing : (r : LoggedRound P) → Has rounds r → IsPassing (is_modern start.timing) by r
     pub lasting : (r : LoggedRound P) → Has rounds r → IsLasting r.now start p
     pub enough : checks_for (is_modern start.timing) (2 * length start.pairs + last.next_number + ahead) ≤ length rounds + 1 + checks_for (is_modern start.timing) start.next_number
 
@@ -104,18 +104,29 @@ module _ {H P : Type 0} (mac : H → List ℕ → List ℕ → List ℕ) (answer
 
   -- A check is sent at once only if one more nomination is to be sent before the call, or counted in it, than after it.
   pub record InTurn (Stays : AgentRecord H P → Type 0) (Off : Call P → Entry → Type 0) (owes : AgentRecord H P → ℕ) (pays : Entry → ℕ) : Type 0 where
-    pub call : (call : Call P) (e : Entry) (old new : AgentRecord H P) (s t : Stream) → is_in_round call ≡ true → IsSound old → GivesBased call → Stays old → Step mac answers old s call e new t
+    pub call : (call : Call P) (e : Entry) (old new : AgentRecord H P) (s t : Stream) → is_in_round (is_modern old.timing) call ≡ true → IsSound old → GivesBased call → Stays old → Step mac answers old s call e new t
         → Off call e ⊎ Stays new
     pub timeout : (now : ℕ) (e : Entry) (old new : AgentRecord H P) (s t : Stream) → IsSound old → Stays old → Step mac answers old s (HandleTimeout now) e new t → Stays new
-    pub owing : (call : Call P) (e : Entry) (old new : AgentRecord H P) (s t : Stream) → is_in_round call ≡ true → Step mac answers old s call e new t → owes new ≤ owes old + pays e
+    pub owing : (call : Call P) (e : Entry) (old new : AgentRecord H P) (s t : Stream) → is_in_round (is_modern old.timing) call ≡ true → Step mac answers old s call e new t → owes new ≤ owes old + pays e
     pub owing_timeout : (now : ℕ) (e : Entry) (old new : AgentRecord H P) (s t : Stream) → Step mac answers old s (HandleTimeout now) e new t → owes new ≤ owes old + pays e
     pub at_once : (now : ℕ) (e : Entry) (old new : AgentRecord H P) (s t : Stream) → is_some old.remote_creds ≡ true → old.lite ≡ false → Stays old
         → (h : MaintainsPairs mac now (timeout_begun now old) s e.emitted new t) → nominates_at_once (all_asked now h.4) ≡ true → owes new + 1 ≤ owes old + pays e
     -- no `handle_timeout` call turns it off
     pub apart : (now : ℕ) (e : Entry) → Off (HandleTimeout now) e → ⊥
 
+  -- the profile stays in rounds
+  pub profile-along : (m : Bool) (before : List (Logged P)) (start last : AgentRecord H P) (u t : Stream) (xs : List (Logged P)) → ((x : Logged P) → Has xs x → IsOfRound m x)
+      → RunsOn mac answers before start u xs last t → is_modern last.timing ≡ is_modern start.timing
+  profile-along m before start last u t [] fits (is, same) = ap (λ (a : AgentRecord H P). is_modern a.timing) is
+  profile-along m before start last u t (x ∷ xs) fits (mid, v, run, number, given, step) =
+      let so_far = profile-along m before start mid u v xs (λ y has. fits y (inr has)) run in
+      elim (fits x (inl refl)) [
+        | inl in_round ↦ modern-stays mac answers m x.call x.entry mid last v t in_round step ∙ so_far
+        | inr (now, comes) ↦ modern-stays-timeout mac answers now x.entry mid last v t (subst (λ (c : Call P). Step mac answers mid v c x.entry last t) comes step) ∙ so_far
+      ]
+
   module _ (Stays : AgentRecord H P → Type 0) (Off : Call P → Entry → Type 0) (owes : AgentRecord H P → ℕ) (pays : Entry → ℕ) (turns : InTurn Stays Off owes pays) (first : AgentRecord H P) (s : Stream) (fresh : IsFresh first) where
-    pub turn-along : (before : List (Logged P)) (start last : AgentRecord H P) (u t : Stream) (xs : List (Logged P)) → ((x : Logged P) → Has xs x → IsOfRound x)
+    pub turn-along : (before : List (Logged P)) (start last : AgentRecord H P) (u t : Stream) (xs : List (Logged P)) → ((x : Logged P) → Has xs x → IsOfRound (is_modern start.timing) x)
         → Run mac answers first s before start u → RunsOn mac answers before start u xs last t → Stays start → OffIn Off xs ⊎ Stays last
     turn-along before start last u t [] fits led (is, same) stays = inr (subst (λ (a : AgentRecord H P). Stays a) (sym is) stays)
     turn-along before start last u t (x ∷ xs) fits led (mid, v, run, number, given, step) stays =
@@ -124,7 +135,7 @@ module _ {H P : Type 0} (mac : H → List ℕ → List ℕ → List ℕ) (answer
           | inr still ↦
               (let sound : IsSound mid = runs_sound mac answers (path_theorem mac answers) first mid s v (xs ++ before) fresh (run-on mac answers first start mid s u v before xs led run) in
               elim (fits x (inl refl)) [
-                | inl in_round ↦ elim (turns.call x.call x.entry mid last v t in_round sound given still step) [
+                | inl in_round ↦ elim (turns.call x.call x.entry mid last v t (as-is (is_modern start.timing) (is_modern mid.timing) x.call (profile-along (is_modern start.timing) before start mid u v xs (λ y has. fits y (inr has)) run) in_round) sound given still step) [
                   | inl off ↦ inl (x, inl refl, off)
                   | inr after ↦ inr after
                 ]

@@ -16,7 +16,7 @@ use Rattle.is_theorems.specs.Runs.{IsFresh, Run}
 use Rattle.is_rules.specs.Sending.{path_of}
 use Rattle.is_rules.specs.Sound.{IsSound}
 use Rattle.is_theorems.specs.Staying.{MayEnd}
-use Rattle.is_rules.specs.Steps.{Call, AddLocalCandidate, AddRemoteCandidate, InvalidateCandidate, RestartIce, RecreateCandidatePairs, HandleTimeout, Entry}
+use Rattle.is_rules.specs.Steps.{Call, SetRenomination, AddLocalCandidate, AddRemoteCandidate, InvalidateCandidate, RestartIce, RecreateCandidatePairs, HandleTimeout, Entry}
 use Rattle.is_rules.specs.declared.emitted.Path.{Path}
 use Rattle.is_theorems.proofs.DuePairs.ChecksAhead.{times, times-kept}
 use Rattle.is_theorems.proofs.StorageBounds.BoundedLists.{at-most-one}
@@ -77,28 +77,35 @@ enough-rounds-in-turn true was now next_was next rounds bound sent m few some ad
 -- ---- calls of a segment in which no candidate is added
 
 module _ {P : Type 0} where
-  between-counts : (call : Call P) → is_in_round call ≡ true → is_timeout call ≡ false
-  between-counts (HandleTimeout now) is = no-case is
-  between-counts _ is = refl
+  between-counts : (m : Bool) (call : Call P) → is_in_round m call ≡ true → is_timeout call ≡ false
+  between-counts m (HandleTimeout now) is = no-case is
+  between-counts m _ is = refl
 
-  steady-signals : (call : Call P) → is_steady call ≡ true → is_signal call ≡ false
+  -- with the profile `Original` more calls may come
+  pub steady-as-original : (m : Bool) (xs : List (Logged P)) → AreSteady m xs → AreSteady false xs
+  steady-as-original m xs are x has = by x.call (are x has) where
+    by : (call : Call P) → is_steady m call ≡ true → is_steady false call ≡ true
+    by (SetRenomination on) is = refl
+    by _ is = is
+
+  steady-signals : (call : Call P) → is_steady false call ≡ true → is_signal call ≡ false
   steady-signals (AddRemoteCandidate c) is = no-case is
   steady-signals _ is = refl
 
-  steady-gathered : (call : Call P) → is_steady call ≡ true → is_gathered call ≡ false
+  steady-gathered : (call : Call P) → is_steady false call ≡ true → is_gathered call ≡ false
   steady-gathered (AddLocalCandidate c) is = no-case is
   steady-gathered _ is = refl
 
-  no-timeouts : (xs : List (Logged P)) → ((x : Logged P) → Has xs x → is_in_round x.call ≡ true) → timeout_count xs ≡ 0
-  no-timeouts [] are = refl
-  no-timeouts (x ∷ xs) are =
-      let rest = no-timeouts xs (λ y has. are y (inr has)) in
+  no-timeouts : (m : Bool) (xs : List (Logged P)) → ((x : Logged P) → Has xs x → is_in_round m x.call ≡ true) → timeout_count xs ≡ 0
+  no-timeouts m [] are = refl
+  no-timeouts m (x ∷ xs) are =
+      let rest = no-timeouts m xs (λ y has. are y (inr has)) in
       let all = sum_by-cons (λ (y : Logged P). cond (is_timeout y.call) 1 0) x xs in
-      let none : cond (is_timeout x.call) 1 0 ≤ 0 = none-of (is_timeout x.call) (between-counts x.call (are x (inl refl))) in
+      let none : cond (is_timeout x.call) 1 0 ≤ 0 = none-of (is_timeout x.call) (between-counts m x.call (are x (inl refl))) in
       omega (arith, rest, all, none)
 
-  module _ (test : Call P → Bool) (none_passes : (call : Call P) → is_steady call ≡ true → test call ≡ false) where
-    none-counted : (xs : List (Logged P)) → AreSteady xs → count_by (λ (y : Logged P). test y.call) xs ≡ 0
+  module _ (test : Call P → Bool) (none_passes : (call : Call P) → is_steady false call ≡ true → test call ≡ false) where
+    none-counted : (xs : List (Logged P)) → AreSteady false xs → count_by (λ (y : Logged P). test y.call) xs ≡ 0
     none-counted [] are = refl
     none-counted (x ∷ xs) are =
         let rest = none-counted xs (λ y has. are y (inr has)) in
@@ -106,26 +113,26 @@ module _ {P : Type 0} where
         let none : cond (test x.call) 1 0 ≤ 0 = none-of (test x.call) (none_passes x.call (are x (inl refl))) in
         omega (arith, rest, all, none)
 
-    counted-before : (xs before : List (Logged P)) → AreSteady xs → count_by (λ (y : Logged P). test y.call) (xs ++ before) ≡ count_by (λ (y : Logged P). test y.call) before
+    counted-before : (xs before : List (Logged P)) → AreSteady false xs → count_by (λ (y : Logged P). test y.call) (xs ++ before) ≡ count_by (λ (y : Logged P). test y.call) before
     counted-before xs before are =
         let sum = sum_by-append (λ (y : Logged P). cond (test y.call) 1 0) xs before in
         let none = none-counted xs are in
         omega (arith, sum, none)
 
-  pub few-timeouts : (rounds : List (LoggedRound P)) → ((r : LoggedRound P) → Has rounds r → (x : Logged P) → Has r.following x → is_in_round x.call ≡ true)
+  pub few-timeouts : (m : Bool) (rounds : List (LoggedRound P)) → ((r : LoggedRound P) → Has rounds r → (x : Logged P) → Has r.following x → is_in_round m x.call ≡ true)
       → timeout_count (entries_of rounds) ≤ length rounds
-  few-timeouts [] are = omega arith
-  few-timeouts (r ∷ older) are =
-      let rest = few-timeouts older (λ x has. are x (inr has)) in
+  few-timeouts m [] are = omega arith
+  few-timeouts m (r ∷ older) are =
+      let rest = few-timeouts m older (λ x has. are x (inr has)) in
       let split = sum_by-append (λ (y : Logged P). cond (is_timeout y.call) 1 0) r.following (r.timeout ∷ entries_of older) in
       let here = sum_by-cons (λ (y : Logged P). cond (is_timeout y.call) 1 0) r.timeout (entries_of older) in
-      let none = no-timeouts r.following (are r (inl refl)) in
+      let none = no-timeouts m r.following (are r (inl refl)) in
       let one = at-most-one (is_timeout r.timeout.call) in
       omega (arith, rest, split, here, none, one)
 
 module _ {H P : Type 0} (mac : H → List ℕ → List ℕ → List ℕ) (answers : P → CandidateRecord → ℕ → ℕ → Type 0) where
   -- nothing in it removes a pair but a timeout
-  may-not : (a : AgentRecord H P) (call : Call P) (e : Entry) (p : PairRecord) → is_in_round call ≡ true → is_steady call ≡ true → MayEnd answers a call e p → ⊥
+  may-not : (a : AgentRecord H P) (call : Call P) (e : Entry) (p : PairRecord) → is_in_round true call ≡ true → is_steady false call ≡ true → MayEnd answers a call e p → ⊥
   may-not a (AddLocalCandidate c) e p between steady ends = no-case steady
   may-not a (AddRemoteCandidate c) e p between steady ends = no-case steady
   may-not a (InvalidateCandidate c) e p between steady ends = no-case between
@@ -135,14 +142,14 @@ module _ {H P : Type 0} (mac : H → List ℕ → List ℕ → List ℕ) (answer
   may-not a _ e p between steady ends = absurd ends
 
   pub none-ends : (before : List (Logged P)) (start : AgentRecord H P) (u : Stream) (part : List (Logged P)) (last : AgentRecord H P) (t : Stream) (run : RunsOn mac answers before start u part last t) (path : Path)
-      → AreSteady part → IsEndedIn mac answers before start u part last t run path → ⊥
+      → AreSteady false part → IsEndedIn mac answers before start u part last t run path → ⊥
   none-ends before start u [] last t run path steady ended = absurd ended
   none-ends before start u (x ∷ part) last t run path steady (inl (between, (p, has, joins, ends))) = may-not run.0 x.call x.entry p between (steady x (inl refl)) ends
   none-ends before start u (x ∷ part) last t run path steady (inr ended) = none-ends before start u part run.0 run.1 run.2 path (λ y has. steady y (inr has)) ended
 
   -- as many pairs as the caller allows, after a segment in which no candidate is added
   pub few-pairs : (most limit : ℕ) (first : AgentRecord H P) (s : Stream) (log : List (Logged P)) → IsFresh first → IsLimited mac answers most first s log → FormsFew mac answers limit first s log
-      → (rest part before : List (Logged P)) (last : AgentRecord H P) (t : Stream) → log ≡ rest ++ (part ++ before) → AreSteady part → Run mac answers first s (part ++ before) last t
+      → (rest part before : List (Logged P)) (last : AgentRecord H P) (t : Stream) → log ≡ rest ++ (part ++ before) → AreSteady false part → Run mac answers first s (part ++ before) last t
       → length last.pairs ≤ pair_bound limit most (gathered_count before) (signal_count before)
   few-pairs most limit first s log fresh limited few rest part before last t split steady led =
       subst (λ k. length last.pairs ≤ pair_bound limit most k (signal_count before)) (counted-before is_gathered steady-gathered part before steady)
@@ -153,7 +160,7 @@ module _ {H P : Type 0} (mac : H → List ℕ → List ℕ → List ℕ) (answer
 
   -- rounds that suffice whatever pairs requests add in them suffice with those that they do
   pub suffice-steady : (first : AgentRecord H P) (s : Stream) (log : List (Logged P)) → IsFresh first → (before part : List (Logged P)) (start last : AgentRecord H P)
-      → (found : Part mac answers first s log before start part last) → start.lite ≡ false → AreSteady part → ConsentLastsIn mac answers before start found.at part last found.following found.run
+      → (found : Part mac answers first s log before start part last) → start.lite ≡ false → AreSteady false part → ConsentLastsIn mac answers before start found.at part last found.following found.run
       → (pairs bound sent rounds : ℕ) → length start.pairs ≤ pairs → length last.pairs ≤ bound → timeout_count part ≤ rounds
       → times (is_modern start.timing) (2 * pairs + bound + sent) * start.timing.max_retransmits + times (is_modern start.timing) rounds ≤ (rounds + 1) * start.timing.max_retransmits
       → times (is_modern start.timing) (2 * length start.pairs + last.next_number + sent) ≤ rounds + 1 + times (is_modern start.timing) start.next_number
@@ -174,15 +181,18 @@ module _ {H P : Type 0} (mac : H → List ℕ → List ℕ → List ℕ) (answer
       elim (reached first s log fresh before start last rounds p by part (record { at = f.at; began = f.began; line = f.line; passing = f.passing; lasting = f.lasting; enough = enough })) [
         | inl checks ↦ inl checks
         | inr (inl answered) ↦ inr answered
-        | inr (inr ended) ↦ absurd (none-ends before start part.at (entries_of rounds) last part.following part.run (path_of start p) f.steady ended)
+        | inr (inr ended) ↦ absurd (none-ends before start part.at (entries_of rounds) last part.following part.run (path_of start p) steady ended)
       ] where
+        steady : AreSteady false (entries_of rounds)
+        steady = steady-as-original (is_modern start.timing) (entries_of rounds) f.steady
+
         now : length last.pairs ≤ pair_bound limit most (gathered_count before) (signal_count before)
-        now = few-pairs most limit first s log fresh limited few part.rest (entries_of rounds) before last part.following part.split f.steady
+        now = few-pairs most limit first s log fresh limited few part.rest (entries_of rounds) before last part.following part.split steady
             (run-on mac answers first start last s part.at part.following before (entries_of rounds) part.led part.run)
 
         enough : times (is_modern start.timing) (2 * length start.pairs + last.next_number + nominations_ahead start (selection_count (entries_of rounds))) ≤ length rounds + 1 + times (is_modern start.timing) start.next_number
         enough =
             let all = f.enough in
-            suffice-steady first s log fresh before (entries_of rounds) start last part f.line.checking.full f.steady consents
+            suffice-steady first s log fresh before (entries_of rounds) start last part f.line.checking.full steady consents
             (length start.pairs) (pair_bound limit most (gathered_count before) (signal_count before)) (nominations_ahead start (selection_count (entries_of rounds))) (length rounds) (omega arith) now
-            (few-timeouts rounds (λ r has. (f.passing r has).between)) (omega (arith, all))
+            (few-timeouts (is_modern start.timing) rounds (λ r has. (f.passing r has).between)) (omega (arith, all))

@@ -15,13 +15,13 @@ use Rattle.is_stun.specs.declared.timing.StunTiming.{StunTiming}
 use Rattle.is_stun.specs.Timing.{is_modern}
 use Rattle.is_rules.specs.declared.emitted.Path.{Path}
 use Rattle.is_rules.specs.Agent.{AgentRecord}
-use Rattle.is_theorems.specs.AskedCourses.{Ends, EndsAlong, IsAnsweredAlong, SuccessesSelect}
-use Rattle.is_theorems.specs.Courses.{ControlsAlong, CourseRound, CourseRounds}
-use Rattle.is_theorems.specs.Exchange.{AreBetween, Course}
+use Rattle.is_theorems.specs.AskedExecutions.{Ends, EndsAlong, IsAnsweredAlong, SuccessesSelect}
+use Rattle.is_theorems.specs.Executions.{ControlsAlong, ExecutionRound, ExecutionRounds}
+use Rattle.is_theorems.specs.Exchange.{AreBetween, Execution}
 use Rattle.is_rules.specs.Polls.{PollsTimeout, soon}
 use Rattle.is_theorems.specs.Progress.{Awaits, IsUnanswered}
 use Rattle.is_theorems.specs.Reached.{IsInLine, IsLasting, nominations_ahead}
-use Rattle.is_theorems.specs.ReachedCourses.{IsAnsweredAmong, IsPassed, PassRounds, selections_among}
+use Rattle.is_theorems.specs.ReachedExecutions.{IsAnsweredAmong, IsPassed, PassRounds, selections_among}
 use Rattle.is_theorems.specs.Runs.{IsFresh}
 use Rattle.is_theorems.specs.SelectedInTime.{SelectsBy}
 use Rattle.is_rules.specs.Sending.{path_of}
@@ -38,13 +38,13 @@ use Rattle.is_theorems.proofs.DuePairs.PollingCycles.{maintains_pairs-from}
 use Rattle.is_theorems.proofs.DuePairs.AfterNominationAndRemoval.{Base, answered-if, answered_at}
 use Rattle.is_theorems.proofs.DuePairs.AfterPackets.{NoneValid}
 use Rattle.is_theorems.proofs.PathSelection.FirstSuccessInRounds.{SelectsBySuccess}
-use Rattle.is_theorems.proofs.PathSelection.NominatedByPeerPerAgent.{course_on}
+use Rattle.is_theorems.proofs.PathSelection.NominatedByPeerPerAgent.{execution_on}
 use Rattle.is_theorems.proofs.StoredPairs.PairsThatStay.{pairs-stay}
-use Rattle.is_theorems.proofs.StoredPairs.TransactionsOverPackets.{sound-course}
+use Rattle.is_theorems.proofs.StoredPairs.TransactionsOverPackets.{sound-execution}
 use Rattle.is_rules.proofs.PollsAndResponses.NextTimeout.{pacing-short, timeouts-in-time}
-use Rattle.is_theorems.specs.FirstChecks.{CoursesCheckFromDue, SufficeForDue, times_of}
-use Rattle.is_theorems.specs.FirstTimeouts.{AreInRound, IsOpenRound, EndsAmong, RoundsSuffice, Suffices, CoursesReachFromDue}
-use Rattle.is_theorems.specs.InTime.{ChecksBy, ComeBy, CoursesCheckInTime, CoursesReachInTime, IsPrompt, IsPunctual, IsReachedBy, IsTimed, KeepsPace, NextComesInTime, RoundsComeInTime}
+use Rattle.is_theorems.specs.FirstChecks.{ExecutionsCheckFromDue, SufficeForDue, times_of}
+use Rattle.is_theorems.specs.FirstTimeouts.{AreInRound, IsOpenRound, EndsAmong, RoundsSuffice, Suffices, ExecutionsReachFromDue}
+use Rattle.is_theorems.specs.InTime.{ChecksBy, ComeBy, ExecutionsCheckInTime, ExecutionsReachInTime, IsPrompt, IsPunctual, IsReachedBy, IsTimed, KeepsPace, NextComesInTime, RoundsComeInTime}
 use Rattle.is_theorems.specs.Pacing.{advance_after}
 use Rattle.is_theorems.proofs.PollingRounds.CountedSelections.{ahead-fewer}
 use Rattle.is_theorems.proofs.PollingRounds.FirstRoundWithoutValidPair.{Calm, on-call}
@@ -68,16 +68,16 @@ never is isnt = let no : true ≡ false = sym is ∙ isnt in absurd (cc)
 -- ---- the times of rounds
 
 module _ {P : Type 0} where
-  come-later : (one two each : ℕ) (rounds : List (CourseRound P)) → one ≤ two → ComeBy one each rounds → ComeBy two each rounds
+  come-later : (one two each : ℕ) (rounds : List (ExecutionRound P)) → one ≤ two → ComeBy one each rounds → ComeBy two each rounds
   come-later one two each [] le come = tt
   come-later one two each (r ∷ later) le (here, more) =
       (omega (arith, here, le), come-later (one + each) (two + each) each later (omega (arith, le)) more)
 
   -- the last of them comes by this time, so each of them does
-  pub come-all : (limit each : ℕ) (r : CourseRound P) (later : List (CourseRound P)) (x : CourseRound P) → Has (r ∷ later) x → ComeBy limit each (r ∷ later)
+  pub come-all : (limit each : ℕ) (r : ExecutionRound P) (later : List (ExecutionRound P)) (x : ExecutionRound P) → Has (r ∷ later) x → ComeBy limit each (r ∷ later)
       → x.now ≤ limit + length later * each
   come-all limit each r later x (inl is) (here, more) =
-      let same : r.now ≡ x.now = ap (λ (y : CourseRound P). y.now) is in omega (arith, here, same)
+      let same : r.now ≡ x.now = ap (λ (y : ExecutionRound P). y.now) is in omega (arith, here, same)
   come-all limit each r [] x (inr has) come = absurd has
   come-all limit each r (y ∷ later) x (inr has) (here, more) =
       let k : x.now ≤ (limit + each) + length later * each = come-all (limit + each) each y later x has more in
@@ -87,25 +87,25 @@ module _ {P : Type 0} where
   -- ---- a success response on the path
 
   -- It is received in one of the rounds. This round, and each one before it, begins at this time or earlier.
-  abbrev pub IsAnsweredBy : Path → ℕ → List (CourseRound P) → Type 0
+  abbrev pub IsAnsweredBy : Path → ℕ → List (ExecutionRound P) → Type 0
   IsAnsweredBy path limit [] = ⊥
   IsAnsweredBy path limit (r ∷ later) = (r.now ≤ limit) × (IsAnsweredAlong r.following path ⊎ IsAnsweredBy path limit later)
 
-  answered-later : (path : Path) (one two : ℕ) (rounds : List (CourseRound P)) → one ≤ two → IsAnsweredBy path one rounds → IsAnsweredBy path two rounds
+  answered-later : (path : Path) (one two : ℕ) (rounds : List (ExecutionRound P)) → one ≤ two → IsAnsweredBy path one rounds → IsAnsweredBy path two rounds
   answered-later path one two [] le answered = absurd answered
   answered-later path one two (r ∷ later) le (here, answered) = (
     omega (arith, here, le),
     elim answered [ inl in_it ↦ inl in_it | inr after ↦ inr (answered-later path one two later (omega (arith, le)) after) ],
   )
 
-  answered-among : (path : Path) (limit : ℕ) (rounds : List (CourseRound P)) → IsAnsweredBy path limit rounds → IsAnsweredAmong rounds path
+  answered-among : (path : Path) (limit : ℕ) (rounds : List (ExecutionRound P)) → IsAnsweredBy path limit rounds → IsAnsweredAmong rounds path
   answered-among path limit [] answered = absurd answered
   answered-among path limit (r ∷ later) (here, inl in_it) = (r, inl refl, in_it)
   answered-among path limit (r ∷ later) (here, inr after) = let k = answered-among path limit later after in (k.0, inr k.1, k.2)
 
 module _ {H P : Type 0} where
   -- the path is reached (`IsReachedBy`), and if by a success response, in a round that begins by this time
-  abbrev pub IsReachedSoon : (mac : H → List ℕ → List ℕ → List ℕ) (answers : P → CandidateRecord → ℕ → ℕ → Type 0) (limit : ℕ) (rounds : List (CourseRound P)) (old new : AgentRecord H P)
+  abbrev pub IsReachedSoon : (mac : H → List ℕ → List ℕ → List ℕ) (answers : P → CandidateRecord → ℕ → ℕ → Type 0) (limit : ℕ) (rounds : List (ExecutionRound P)) (old new : AgentRecord H P)
       → PassRounds mac answers rounds old new → Path → Type 0
   IsReachedSoon mac answers limit rounds old new run path = ChecksBy limit rounds path ⊎ (IsAnsweredBy path limit rounds ⊎ EndsAmong mac answers rounds old new run path)
 
@@ -135,32 +135,32 @@ module _ {H P : Type 0} where
 
     -- after the `handle_timeout` call: a success response is received on the path, or a pair of the path may be removed, or the pair waits and
     -- the next call comes in time
-    abbrev Passed : (at : ℕ) (xs : List (Call P × Entry)) (old new : AgentRecord H P) → Course mac answers xs old new → Type 0
-    Passed at xs old new course =
+    abbrev Passed : (at : ℕ) (xs : List (Call P × Entry)) (old new : AgentRecord H P) → Execution mac answers xs old new → Type 0
+    Passed at xs old new execution =
         IsAnsweredAlong xs path
-        ⊎ (EndsAlong mac answers xs old new course path
+        ⊎ (EndsAlong mac answers xs old new execution path
         ⊎ (Waits by n path keeps at new × (new.timing_advance ≤ pace) × ((next : ℕ) → IsPrompt delay next xs → next ≤ at + (pace + delay))))
 
-    walk : (at : ℕ) → by ≤ at → (xs : List (Call P × Entry)) (old new : AgentRecord H P) → Waits by n path keeps at old → IsSound old → old.timing_advance ≤ pace → KeepsPace pace xs → AreInRound xs
-        → (course : Course mac answers xs old new) → Passed at xs old new course
-    walk at from [] old new w sound slow keeping fits is =
+    walk : (modern : Bool) (at : ℕ) → by ≤ at → (xs : List (Call P × Entry)) (old new : AgentRecord H P) → Waits by n path keeps at old → IsSound old → old.timing_advance ≤ pace → KeepsPace pace xs → AreInRound modern xs
+        → (execution : Execution mac answers xs old new) → Passed at xs old new execution
+    walk modern at from [] old new w sound slow keeping fits is =
         inr (inr (
           subst (λ (a : AgentRecord H P). Waits by n path keeps at a) (sym is) w,
           subst (λ (a : AgentRecord H P). a.timing_advance ≤ pace) (sym is) slow,
           λ next none. absurd none.2,
         ))
-    walk at from (x ∷ rest) old new w sound slow keeping fits (mid, s, t, given, step, more) =
+    walk modern at from (x ∷ rest) old new w sound slow keeping fits (mid, s, t, given, step, more) =
         let sound_mid : IsSound mid = (path_theorem mac answers old mid s t x.0 x.1 sound given step).1 in
         let slow_mid : mid.timing_advance ≤ pace = stays-slow x.0 old.timing_advance mid.timing_advance pace (pacing-is-set mac answers old mid s t x.0 x.1 step) (omega (arith, slow)) (λ k is. keeping x k (inl refl) is) in
         let ends-here : MayEnd answers old x.0 x.1 w.pair → Ends answers old x.0 x.1 path =
         λ ends. (w.pair, w.there, (ap (λ (y : Path). y.source) w.on, ap (λ (y : Path). y.destination) w.on), ends) in
-        elim (between-keeps mac answers by n path keeps at x.0 x.1 old mid s t w.checking.peer w.last w.pair sound w.there w.number w.on (fits x (inl refl)) step) [
+        elim (between-keeps mac answers by n path keeps at x.0 x.1 old mid s t w.checking.peer w.last w.pair sound w.there w.number w.on modern (fits x (inl refl)) step) [
           | inl accepts ↦ inl (x, inl refl, accepts)
           | inr (inl ends) ↦ inr (inl (inl (ends-here ends)))
           | inr (inr kept) ↦ elim (pairs-stay mac answers old mid s t x.0 x.1 w.pair sound given step w.there) [
             | inr ends ↦ inr (inl (inl (ends-here ends)))
             | inl stays ↦
-                elim (walk at from rest mid new (waits-on mac answers by n path keeps at from old mid w sound_mid kept stays) sound_mid slow_mid (λ y k has. keeping y k (inr has)) (λ y has. fits y (inr has)) more) [
+                elim (walk modern at from rest mid new (waits-on mac answers by n path keeps at from old mid w sound_mid kept stays) sound_mid slow_mid (λ y k has. keeping y k (inr has)) (λ y has. fits y (inr has)) more) [
                   | inl (y, has, accepts) ↦ inl (y, inr has, accepts)
                   | inr (inl ends) ↦ inr (inl (inr ends))
                   | inr (inr (after, slow_after, prompt)) ↦
@@ -194,26 +194,26 @@ module _ {H P : Type 0} where
           lasting = lasting;
         }
 
-    timely : (r : CourseRound P) (later : List (CourseRound P)) (old last : AgentRecord H P) (p : PairRecord) → IsSound old → Lined r.now by old p
+    timely : (modern : Bool) (r : ExecutionRound P) (later : List (ExecutionRound P)) (old last : AgentRecord H P) (p : PairRecord) → IsSound old → Lined r.now by old p
         → ((m : ℕ) → keeps m ≡ true → answered_at old p m ≡ true) → p.number ≡ n → path_of old p ≡ path
-        → by ≤ r.now → r.timeout.answer ≡ Done → AreInRound r.following → (run : PassRounds mac answers (r ∷ later) old last) → ((x : CourseRound P) → Has later x → IsOpenRound by x)
-        → ((x : CourseRound P) → Has later x → keeps x.now ≡ true) → old.timing_advance ≤ pace → ((x : CourseRound P) → Has (r ∷ later) x → KeepsPace pace x.following) → IsPunctual delay r later
+        → by ≤ r.now → r.timeout.answer ≡ Done → AreInRound modern r.following → (run : PassRounds mac answers (r ∷ later) old last) → ((x : ExecutionRound P) → Has later x → IsOpenRound modern by x)
+        → ((x : ExecutionRound P) → Has later x → keeps x.now ≡ true) → old.timing_advance ≤ pace → ((x : ExecutionRound P) → Has (r ∷ later) x → KeepsPace pace x.following) → IsPunctual delay r later
         → ComeBy r.now (pace + delay) (r ∷ later) ⊎ IsReachedSoon mac answers (r.now + length later * (pace + delay)) (r ∷ later) old last run path
-    timely r [] old last p sound line lasts number on from done between run opens lasting slow keeping punctual = inl (omega arith, tt)
-    timely r (x ∷ later) old last p sound line lasts number on from done between (mid, after, s, t, step, course, more) opens lasting slow keeping (prompt, punctual) =
+    timely modern r [] old last p sound line lasts number on from done between run opens lasting slow keeping punctual = inl (omega arith, tt)
+    timely modern r (x ∷ later) old last p sound line lasts number on from done between (mid, after, s, t, step, execution, more) opens lasting slow keeping (prompt, punctual) =
         let sound_mid : IsSound mid = (path_theorem mac answers old mid s t (HandleTimeout r.now) r.timeout sound tt step).1 in
         let same : mid.timing_advance ≡ old.timing_advance = pacing-is-set mac answers old mid s t (HandleTimeout r.now) r.timeout step in
         let m : suc (length later) * (pace + delay) ≡ length later * (pace + delay) + (pace + delay) = suc-mul (length later) (pace + delay) in
         elim (timeout-on mac answers by n path keeps r.now (omega (arith, from)) r.timeout old mid s t p done step sound sound_mid line lasts number on) [
           | inl (id, out) ↦ inr (inl (r, inl refl, (id, out), omega arith))
-          | inr (other, w) ↦ elim (walk r.now (omega (arith, from)) r.following mid after w sound_mid (omega (arith, slow, same)) (keeping r (inl refl)) (λ y has. between y has) course) [
+          | inr (other, w) ↦ elim (walk modern r.now (omega (arith, from)) r.following mid after w sound_mid (omega (arith, slow, same)) (keeping r (inl refl)) (λ y has. between y has) execution) [
             | inl answered ↦ inr (inr (inl (omega arith, inl answered)))
             | inr (inl ends) ↦ inr (inr (inr (inl ends)))
             | inr (inr (v, slow_after, in_time)) ↦
                 (let close : x.now ≤ r.now + (pace + delay) = in_time x.now prompt in
-                let round : IsOpenRound by x = opens x (inl refl) in
+                let round : IsOpenRound modern by x = opens x (inl refl) in
                 let late = round.late in
-                elim (timely x later after last v.pair (sound-course mac answers r.following mid after sound_mid course) (in-line r.now x.now after v (λ valid. v.lasts x.now (lasting x (inl refl)))) v.lasts v.number v.on
+                elim (timely modern x later after last v.pair (sound-execution mac answers r.following mid after sound_mid execution) (in-line r.now x.now after v (λ valid. v.lasts x.now (lasting x (inl refl)))) v.lasts v.number v.on
                 (omega (arith, late)) round.done (λ y has. (let fits = round.between in fits y has)) more (λ y has. opens y (inr has))
                 (λ y has. lasting y (inr has)) (omega (arith, slow_after)) (λ y has. keeping y (inr has)) punctual) [
                   | inl come ↦ inl (omega arith, come-later x.now (r.now + (pace + delay)) (pace + delay) (x ∷ later) (omega (arith, close)) come)
@@ -227,18 +227,18 @@ module _ {H P : Type 0} where
   -- ---- the theorems
 
   module _ (mac : H → List ℕ → List ℕ → List ℕ) (answers : P → CandidateRecord → ℕ → ℕ → Type 0) where
-    pub sound-after : (first start : AgentRecord H P) (xs : List (Call P × Entry)) → IsFresh first → Course mac answers xs first start → IsSound start
-    sound-after first start xs fresh course =
-        sound-course mac answers xs first start (subst (λ (a : AgentRecord H P). IsSound a) (sym fresh.2) (fresh_sound H P first.provider fresh.0 fresh.1)) course
+    pub sound-after : (first start : AgentRecord H P) (xs : List (Call P × Entry)) → IsFresh first → Execution mac answers xs first start → IsSound start
+    sound-after first start xs fresh execution =
+        sound-execution mac answers xs first start (subst (λ (a : AgentRecord H P). IsSound a) (sym fresh.2) (fresh_sound H P first.provider fresh.0 fresh.1)) execution
 
     pub next-comes-in-time : NextComesInTime {H = H} {P = P} mac answers
-    next-comes-in-time first start mid after xs following s t timeout p by pace delay now next fresh course line from done step between more slow keeps prompt =
-        let sound : IsSound start = sound-after first start xs fresh course in
+    next-comes-in-time first start mid after xs following s t timeout p by pace delay now next fresh execution line from done step between more slow keeps prompt =
+        let sound : IsSound start = sound-after first start xs fresh execution in
         let sound_mid : IsSound mid = (path_theorem mac answers start mid s t (HandleTimeout now) timeout sound tt step).1 in
         let same : mid.timing_advance ≡ start.timing_advance = pacing-is-set mac answers start mid s t (HandleTimeout now) timeout step in
         elim (timeout-on mac answers by p.number (path_of start p) (answered_at start p) now (omega (arith, from)) timeout start mid s t p done step sound sound_mid (lined now by start p line) (λ m is. is) refl refl) [
           | inl checks ↦ inr (inl checks)
-          | inr (other, w) ↦ elim (walk mac answers pace delay by p.number (path_of start p) (answered_at start p) now (omega (arith, from)) following mid after w sound_mid (omega (arith, slow, same)) (λ y k has. keeps y k has) (λ y has. between y has) more) [
+          | inr (other, w) ↦ elim (walk mac answers pace delay by p.number (path_of start p) (answered_at start p) (is_modern start.timing) now (omega (arith, from)) following mid after w sound_mid (omega (arith, slow, same)) (λ y k has. keeps y k has) (λ y has. between y has) more) [
             | inl answered ↦ inr (inr (inl answered))
             | inr (inl ends) ↦ inr (inr (inr ends))
             | inr (inr (v, slow_after, in_time)) ↦ inl (in_time next prompt)
@@ -246,18 +246,18 @@ module _ {H P : Type 0} where
         ]
 
     -- the same, with a bound on the round of a success response
-    pub rounds-come-soon : (first start last : AgentRecord H P) (xs : List (Call P × Entry)) (r : CourseRound P) (later : List (CourseRound P)) (p : PairRecord) (by pace delay : ℕ)
-        → IsFresh first → Course mac answers xs first start → Lined r.now by start p → by ≤ r.now → r.timeout.answer ≡ Done → AreInRound r.following
-        → (run : PassRounds mac answers (r ∷ later) start last) → ((x : CourseRound P) → Has later x → IsOpenRound by x)
-        → ((x : CourseRound P) → Has later x → IsLasting x.now start p) → IsTimed pace delay start r later
+    pub rounds-come-soon : (first start last : AgentRecord H P) (xs : List (Call P × Entry)) (r : ExecutionRound P) (later : List (ExecutionRound P)) (p : PairRecord) (by pace delay : ℕ)
+        → IsFresh first → Execution mac answers xs first start → Lined r.now by start p → by ≤ r.now → r.timeout.answer ≡ Done → AreInRound (is_modern start.timing) r.following
+        → (run : PassRounds mac answers (r ∷ later) start last) → ((x : ExecutionRound P) → Has later x → IsOpenRound (is_modern start.timing) by x)
+        → ((x : ExecutionRound P) → Has later x → IsLasting x.now start p) → IsTimed pace delay start r later
         → ComeBy r.now (pace + delay) (r ∷ later) ⊎ IsReachedSoon mac answers (r.now + length later * (pace + delay)) (r ∷ later) start last run (path_of start p)
-    rounds-come-soon first start last xs r later p by pace delay fresh course line from done between run opens lasting timed =
-        timely mac answers pace delay by p.number (path_of start p) (answered_at start p) r later start last p (sound-after first start xs fresh course) line (λ m is. is) refl refl (omega (arith, from)) done
-        (λ y has. between y has) run opens (λ x has. answered-if start p x.now (sound-after first start xs fresh course) line.there (lasting x has)) (let begins = timed.begins in omega (arith, begins)) timed.keeps timed.punctual
+    rounds-come-soon first start last xs r later p by pace delay fresh execution line from done between run opens lasting timed =
+        timely mac answers pace delay by p.number (path_of start p) (answered_at start p) (is_modern start.timing) r later start last p (sound-after first start xs fresh execution) line (λ m is. is) refl refl (omega (arith, from)) done
+        (λ y has. between y has) run opens (λ x has. answered-if start p x.now (sound-after first start xs fresh execution) line.there (lasting x has)) (let begins = timed.begins in omega (arith, begins)) timed.keeps timed.punctual
 
     pub rounds-come-in-time : RoundsComeInTime {H = H} {P = P} mac answers
-    rounds-come-in-time first start last xs r later p by pace delay fresh course line from done early between run opens lasting timed =
-        elim (rounds-come-soon first start last xs r later p by pace delay fresh course (lined r.now by start p line) (omega (arith, from)) done (λ y has. between y has) run (λ x has. opens x has) (λ x has. lasting x has) timed) [
+    rounds-come-in-time first start last xs r later p by pace delay fresh execution line from done early between run opens lasting timed =
+        elim (rounds-come-soon first start last xs r later p by pace delay fresh execution (lined r.now by start p line) (omega (arith, from)) done (λ y has. between y has) run (λ x has. opens x has) (λ x has. lasting x has) timed) [
           | inl come ↦ inl come
           | inr (inl checks) ↦ inr (inl checks)
           | inr (inr (inl answered)) ↦ inr (inr (inl (answered-among (path_of start p) _ (r ∷ later) answered)))
@@ -266,23 +266,23 @@ module _ {H P : Type 0} where
 
     -- ---- the rounds that suffice
 
-    grows-course : (xs : List (Call P × Entry)) (old new : AgentRecord H P) → IsSound old → Course mac answers xs old new → old.next_number ≤ new.next_number
-    grows-course [] old new sound is = let same : new.next_number ≡ old.next_number = ap (λ (a : AgentRecord H P). a.next_number) is in omega (arith, same)
-    grows-course (x ∷ rest) old new sound (mid, s, t, given, step, more) =
+    grows-execution : (xs : List (Call P × Entry)) (old new : AgentRecord H P) → IsSound old → Execution mac answers xs old new → old.next_number ≤ new.next_number
+    grows-execution [] old new sound is = let same : new.next_number ≡ old.next_number = ap (λ (a : AgentRecord H P). a.next_number) is in omega (arith, same)
+    grows-execution (x ∷ rest) old new sound (mid, s, t, given, step, more) =
         let law = path_theorem mac answers old mid s t x.0 x.1 sound given step in
         let one : old.next_number ≤ mid.next_number = law.0.counter in
-        let two : mid.next_number ≤ new.next_number = grows-course rest mid new law.1 more in
+        let two : mid.next_number ≤ new.next_number = grows-execution rest mid new law.1 more in
         omega (arith, one, two)
 
-    sound-round : (r : CourseRound P) (later : List (CourseRound P)) (old last : AgentRecord H P) → IsSound old → (run : PassRounds mac answers (r ∷ later) old last)
+    sound-round : (r : ExecutionRound P) (later : List (ExecutionRound P)) (old last : AgentRecord H P) → IsSound old → (run : PassRounds mac answers (r ∷ later) old last)
         → IsSound run.1 × (old.next_number ≤ run.1.next_number)
-    sound-round r later old last sound (mid, after, s, t, step, course, more) =
+    sound-round r later old last sound (mid, after, s, t, step, execution, more) =
         let law = path_theorem mac answers old mid s t (HandleTimeout r.now) r.timeout sound tt step in
         let one : old.next_number ≤ mid.next_number = law.0.counter in
-        let two : mid.next_number ≤ after.next_number = grows-course r.following mid after law.1 course in
-        (sound-course mac answers r.following mid after law.1 course, omega (arith, one, two))
+        let two : mid.next_number ≤ after.next_number = grows-execution r.following mid after law.1 execution in
+        (sound-execution mac answers r.following mid after law.1 execution, omega (arith, one, two))
 
-    grows : (rounds : List (CourseRound P)) (old last : AgentRecord H P) → IsSound old → PassRounds mac answers rounds old last → old.next_number ≤ last.next_number
+    grows : (rounds : List (ExecutionRound P)) (old last : AgentRecord H P) → IsSound old → PassRounds mac answers rounds old last → old.next_number ≤ last.next_number
     grows [] old last sound is = let same : last.next_number ≡ old.next_number = ap (λ (a : AgentRecord H P). a.next_number) is in omega (arith, same)
     grows (r ∷ later) old last sound run =
         let k = sound-round r later old last sound run in
@@ -291,18 +291,18 @@ module _ {H P : Type 0} where
         omega (arith, one, two)
 
     -- the first so many of the rounds that follow a first one
-    record Cut (delay many : ℕ) (r : CourseRound P) (later : List (CourseRound P)) (old last : AgentRecord H P) (run : PassRounds mac answers (r ∷ later) old last) : Type 0 where
-      front : List (CourseRound P)
+    record Cut (delay many : ℕ) (r : ExecutionRound P) (later : List (ExecutionRound P)) (old last : AgentRecord H P) (run : PassRounds mac answers (r ∷ later) old last) : Type 0 where
+      front : List (ExecutionRound P)
       end : AgentRecord H P
       more : PassRounds mac answers front run.1 end
       count : length front ≡ many
-      within : (x : CourseRound P) → Has front x → Has later x
+      within : (x : ExecutionRound P) → Has front x → Has later x
       fewer : end.next_number ≤ last.next_number
       selections : selections_among front ≤ selections_among later
       punctual : IsPunctual delay r front
       ends : (path : Path) → EndsAmong mac answers front run.1 end more path → EndsAmong mac answers later run.1 last run.6 path
 
-    cut : (delay many : ℕ) (r : CourseRound P) (later : List (CourseRound P)) (old last : AgentRecord H P) → IsSound old → (run : PassRounds mac answers (r ∷ later) old last)
+    cut : (delay many : ℕ) (r : ExecutionRound P) (later : List (ExecutionRound P)) (old last : AgentRecord H P) → IsSound old → (run : PassRounds mac answers (r ∷ later) old last)
         → many ≤ length later → IsPunctual delay r later → Cut delay many r later old last run
     cut delay zero r later old last sound run enough punctual = record {
       front = [];
@@ -345,27 +345,27 @@ module _ {H P : Type 0} where
         inr (inr (omega (arith, k)))
 
     -- all of them
-    reach-all : CoursesReachFromDue {H = H} {P = P} mac answers
-        → (first start last : AgentRecord H P) (xs : List (Call P × Entry)) (r : CourseRound P) (later : List (CourseRound P)) (p : PairRecord) (by pace delay : ℕ)
-        → IsFresh first → Course mac answers xs first start → IsInLine r.now by start p → by ≤ r.now → r.timeout.answer ≡ Done → r.now < MAX → AreInRound r.following
-        → (run : PassRounds mac answers (r ∷ later) start last) → ((x : CourseRound P) → Has later x → IsOpenRound by x)
-        → ((x : CourseRound P) → Has later x → IsLasting x.now start p) → RoundsSuffice by start run.1 last r later (length later)
+    reach-all : ExecutionsReachFromDue {H = H} {P = P} mac answers
+        → (first start last : AgentRecord H P) (xs : List (Call P × Entry)) (r : ExecutionRound P) (later : List (ExecutionRound P)) (p : PairRecord) (by pace delay : ℕ)
+        → IsFresh first → Execution mac answers xs first start → IsInLine r.now by start p → by ≤ r.now → r.timeout.answer ≡ Done → r.now < MAX → AreInRound (is_modern start.timing) r.following
+        → (run : PassRounds mac answers (r ∷ later) start last) → ((x : ExecutionRound P) → Has later x → IsOpenRound (is_modern start.timing) by x)
+        → ((x : ExecutionRound P) → Has later x → IsLasting x.now start p) → RoundsSuffice by start run.1 last r later (length later)
         → IsTimed pace delay start r later → IsReachedBy mac answers (r.now + length later * (pace + delay)) (r ∷ later) start last run (path_of start p)
-    reach-all reach first start last xs r later p by pace delay fresh course line from done early between run opens lasting enough timed =
-        elim (rounds-come-in-time first start last xs r later p by pace delay fresh course line (omega (arith, from)) done (omega (arith, early)) (λ y has. between y has) run opens (λ x has. lasting x has) timed) [
+    reach-all reach first start last xs r later p by pace delay fresh execution line from done early between run opens lasting enough timed =
+        elim (rounds-come-in-time first start last xs r later p by pace delay fresh execution line (omega (arith, from)) done (omega (arith, early)) (λ y has. between y has) run opens (λ x has. lasting x has) timed) [
           | inr reached ↦ reached
-          | inl come ↦ elim (reach first start last xs r later p by fresh course line (omega (arith, from)) done (omega (arith, early)) (λ y has. between y has) run opens (λ x has. lasting x has) enough) [
+          | inl come ↦ elim (reach first start last xs r later p by fresh execution line (omega (arith, from)) done (omega (arith, early)) (λ y has. between y has) run opens (λ x has. lasting x has) enough) [
             | inl (y, id, has, out) ↦ inl (y, has, (id, out), come-all r.now (pace + delay) r later y has come)
             | inr others ↦ inr others
           ]
         ]
 
-    pub courses-reach-in-time : CoursesReachFromDue {H = H} {P = P} mac answers → CoursesReachInTime {H = H} {P = P} mac answers
-    courses-reach-in-time reach first start last xs r later p by pace delay many fresh course line from done early between run opens lasting enough long timed =
-        let c = cut delay many r later start last (sound-after first start xs fresh course) run (omega (arith, long)) timed.punctual in
+    pub executions-reach-in-time : ExecutionsReachFromDue {H = H} {P = P} mac answers → ExecutionsReachInTime {H = H} {P = P} mac answers
+    executions-reach-in-time reach first start last xs r later p by pace delay many fresh execution line from done early between run opens lasting enough long timed =
+        let c = cut delay many r later start last (sound-after first start xs fresh execution) run (omega (arith, long)) timed.punctual in
         let fewer = c.fewer in
         let count : length c.front ≡ many = c.count in
-        elim (reach-all reach first start c.end xs r c.front p by pace delay fresh course line (omega (arith, from)) done (omega (arith, early)) (λ y has. between y has)
+        elim (reach-all reach first start c.end xs r c.front p by pace delay fresh execution line (omega (arith, from)) done (omega (arith, early)) (λ y has. between y has)
         (run.0, run.1, run.2, run.3, run.4, run.5, c.more) (λ y has. opens y (c.within y has)) (λ y has. lasting y (c.within y has))
         (subst (λ k. RoundsSuffice by start run.1 c.end r c.front k) (sym count) (suffices-earlier by r.now many start run.1 c.end last
         (nominations_ahead start (selections_among (r ∷ c.front))) (nominations_ahead start (selections_among (r ∷ later))) (nominations_ahead run.1 (selections_among c.front)) (nominations_ahead run.1 (selections_among later))
@@ -384,8 +384,8 @@ module _ {H P : Type 0} where
 
     module _ (pace delay by n : ℕ) (path : Path) (keeps : ℕ → Bool) (select : SuccessesSelect {H = H} {P = P} mac answers) (first : AgentRecord H P) (fresh : IsFresh first) where
       -- a success response selects a path, or the pair waits and the next call comes in time
-      calm-walk : (at : ℕ) → by ≤ at → (xs : List (Call P × Entry)) (old new : AgentRecord H P) (zs : List (Call P × Entry)) → Course mac answers zs first old → AreBetween xs → IsSound old
-          → (course : Course mac answers xs old new) → ControlsAlong mac answers xs old new course → Calm by n path keeps at old → old.timing_advance ≤ pace → KeepsPace pace xs
+      calm-walk : (at : ℕ) → by ≤ at → (xs : List (Call P × Entry)) (old new : AgentRecord H P) (zs : List (Call P × Entry)) → Execution mac answers zs first old → AreBetween xs → IsSound old
+          → (execution : Execution mac answers xs old new) → ControlsAlong mac answers xs old new execution → Calm by n path keeps at old → old.timing_advance ≤ pace → KeepsPace pace xs
           → ((x : Call P × Entry) × Has xs x × SelectsBySuccess x.0 x.1)
           ⊎ (Calm by n path keeps at new × (new.timing_advance ≤ pace) × ((next : ℕ) → IsPrompt delay next xs → next ≤ at + (pace + delay)))
       calm-walk at from [] old new zs led fits sound is along c slow keeping =
@@ -400,7 +400,7 @@ module _ {H P : Type 0} where
           elim (on-call mac answers by n path keeps at select first fresh from x.0 x.1 old mid s t zs led (fits x (inl refl)) given c sound sound_mid step along.0) [
             | inl selected ↦ inl (x, inl refl, selected)
             | inr calm ↦
-                elim (calm-walk at from rest mid new (zs ++ x ∷ []) (course_on mac answers zs (x ∷ []) first old mid led (mid, s, t, given, step, refl)) (λ y has. fits y (inr has)) sound_mid more along.1 calm slow_mid
+                elim (calm-walk at from rest mid new (zs ++ x ∷ []) (execution_on mac answers zs (x ∷ []) first old mid led (mid, s, t, given, step, refl)) (λ y has. fits y (inr has)) sound_mid more along.1 calm slow_mid
                 (λ y k has. keeping y k (inr has))) [
                   | inl (y, has, selected) ↦ inl (y, inr has, selected)
                   | inr (after, slow_after, prompt) ↦ inr (after, slow_after, λ next k. by-place next k.0 k.1 k.2 k.3 k.4 k.5 prompt)
@@ -423,18 +423,18 @@ module _ {H P : Type 0} where
         quiet : NoneIsDue a
         paced : IsPaced a.timing
 
-      calm-timely : (r : CourseRound P) (later : List (CourseRound P)) (old last : AgentRecord H P) (zs : List (Call P × Entry)) (p : PairRecord) → Course mac answers zs first old → IsSound old
-          → Open r.now old p → by ≤ r.now → r.timeout.answer ≡ Done → AreBetween r.following → CourseRounds mac answers (r ∷ later) old last
-          → ((x : CourseRound P) → Has later x → IsPassed by x)
-          → old.timing_advance ≤ pace → ((x : CourseRound P) → Has (r ∷ later) x → KeepsPace pace x.following) → IsPunctual delay r later
+      calm-timely : (r : ExecutionRound P) (later : List (ExecutionRound P)) (old last : AgentRecord H P) (zs : List (Call P × Entry)) (p : PairRecord) → Execution mac answers zs first old → IsSound old
+          → Open r.now old p → by ≤ r.now → r.timeout.answer ≡ Done → AreBetween r.following → ExecutionRounds mac answers (r ∷ later) old last
+          → ((x : ExecutionRound P) → Has later x → IsPassed by x)
+          → old.timing_advance ≤ pace → ((x : ExecutionRound P) → Has (r ∷ later) x → KeepsPace pace x.following) → IsPunctual delay r later
           → ComeBy r.now (pace + delay) (r ∷ later) ⊎ (ChecksBy (r.now + length later * (pace + delay)) (r ∷ later) path ⊎ SelectsBy (r.now + length later * (pace + delay)) (r ∷ later))
       calm-timely r [] old last zs p led sound unchanged_step from done between run opens slow keeping punctual = inl (omega arith, tt)
-      calm-timely r (x ∷ later) old last zs p led sound unchanged_step from done between (mid, after, s, t, step, role, course, along, more) opens slow keeping (prompt, punctual) =
+      calm-timely r (x ∷ later) old last zs p led sound unchanged_step from done between (mid, after, s, t, step, role, execution, along, more) opens slow keeping (prompt, punctual) =
           let sound_mid : IsSound mid = (path_theorem mac answers old mid s t (HandleTimeout r.now) r.timeout sound tt step).1 in
           let same : mid.timing_advance ≡ old.timing_advance = pacing-is-set mac answers old mid s t (HandleTimeout r.now) r.timeout step in
           let m : suc (length later) * (pace + delay) ≡ length later * (pace + delay) + (pace + delay) = suc-mul (length later) (pace + delay) in
-          let to-mid : Course mac answers (zs ++ (HandleTimeout r.now, r.timeout) ∷ []) first mid =
-          course_on mac answers zs ((HandleTimeout r.now, r.timeout) ∷ []) first old mid led (mid, s, t, tt, step, refl) in
+          let to-mid : Execution mac answers (zs ++ (HandleTimeout r.now, r.timeout) ∷ []) first mid =
+          execution_on mac answers zs ((HandleTimeout r.now, r.timeout) ∷ []) first old mid led (mid, s, t, tt, step, refl) in
           let still : Quiet mid = quiet-timeout mac answers r.now r.timeout old mid s t sound
           (record { full = unchanged_step.line.checking.full; invalid = unchanged_step.invalid; quiet = unchanged_step.quiet }) step in
           let after-call = timeout-follows mac r.now (timeout_begun r.now old) mid s t r.timeout.emitted unchanged_step.line.checking.peer unchanged_step.line.checking.full
@@ -442,7 +442,7 @@ module _ {H P : Type 0} where
           elim (timeout-on mac answers by n path keeps r.now (omega (arith, from)) r.timeout old mid s t p done step sound sound_mid unchanged_step.line
           (λ m _. answered-if old p m sound unchanged_step.line.there (λ valid. never valid (unchanged_step.invalid p unchanged_step.line.there))) unchanged_step.number unchanged_step.on) [
             | inl (id, out) ↦ inr (inl (r, inl refl, (id, out), omega arith))
-            | inr (other, w) ↦ elim (calm-walk r.now (omega (arith, from)) r.following mid after (zs ++ (HandleTimeout r.now, r.timeout) ∷ []) to-mid (λ y has. between y has) sound_mid course along
+            | inr (other, w) ↦ elim (calm-walk r.now (omega (arith, from)) r.following mid after (zs ++ (HandleTimeout r.now, r.timeout) ∷ []) to-mid (λ y has. between y has) sound_mid execution along
                 (record {
                   waits = w;
                   invalid = still.invalid;
@@ -456,8 +456,8 @@ module _ {H P : Type 0} where
                       let round : IsPassed by x = opens x (inl refl) in
                       let late = round.late in
                       elim (calm-timely x later after last ((zs ++ (HandleTimeout r.now, r.timeout) ∷ []) ++ r.following) c.waits.pair
-                      (course_on mac answers (zs ++ (HandleTimeout r.now, r.timeout) ∷ []) r.following first mid after to-mid course)
-                      (sound-course mac answers r.following mid after sound_mid course)
+                      (execution_on mac answers (zs ++ (HandleTimeout r.now, r.timeout) ∷ []) r.following first mid after to-mid execution)
+                      (sound-execution mac answers r.following mid after sound_mid execution)
                       (record {
                         line = in-line mac answers pace delay by n path keeps r.now x.now after c.waits (λ valid. never valid (c.invalid c.waits.pair c.waits.there));
                         number = c.waits.number;
@@ -477,34 +477,34 @@ module _ {H P : Type 0} where
           ]
 
     -- a path is selected by this time, or the check is sent
-    pub check-or-select : CoursesCheckFromDue {H = H} {P = P} mac answers → SuccessesSelect {H = H} {P = P} mac answers
-        → (first start last : AgentRecord H P) (xs : List (Call P × Entry)) (r : CourseRound P) (later : List (CourseRound P)) (p : PairRecord) (by pace delay : ℕ)
-        → IsFresh first → Course mac answers xs first start → start.controlling ≡ true → Awaits r.now by start p → IsUnanswered start p
+    pub check-or-select : ExecutionsCheckFromDue {H = H} {P = P} mac answers → SuccessesSelect {H = H} {P = P} mac answers
+        → (first start last : AgentRecord H P) (xs : List (Call P × Entry)) (r : ExecutionRound P) (later : List (ExecutionRound P)) (p : PairRecord) (by pace delay : ℕ)
+        → IsFresh first → Execution mac answers xs first start → start.controlling ≡ true → Awaits r.now by start p → IsUnanswered start p
         → by ≤ r.now → r.timeout.answer ≡ Done → r.now < MAX → AreBetween r.following
-        → (run : CourseRounds mac answers (r ∷ later) start last) → ((x : CourseRound P) → Has later x → IsPassed by x)
+        → (run : ExecutionRounds mac answers (r ∷ later) start last) → ((x : ExecutionRound P) → Has later x → IsPassed by x)
         → SufficeForDue by r.now start run.1 (times_of later) → IsTimed pace delay start r later
         → ChecksBy (r.now + length later * (pace + delay)) (r ∷ later) (path_of start p) ⊎ SelectsBy (r.now + length later * (pace + delay)) (r ∷ later)
-    check-or-select check select first start last xs r later p by pace delay fresh course role waits unanswered from done early between run passing enough timed =
-        elim (calm-timely pace delay by p.number (path_of start p) (answered_at start p) select first fresh r later start last xs p course (sound-after first start xs fresh course)
+    check-or-select check select first start last xs r later p by pace delay fresh execution role waits unanswered from done early between run passing enough timed =
+        elim (calm-timely pace delay by p.number (path_of start p) (answered_at start p) select first fresh r later start last xs p execution (sound-after first start xs fresh execution)
         (record {
           line = lined-unanswered r.now by start p waits unanswered;
           number = refl;
           on = refl;
           invalid = λ q has. (let none = unanswered.invalid in none q has);
           role = role;
-          quiet = due-none start (sound-after first start xs fresh course) role waits.checking.full unanswered.calm;
+          quiet = due-none start (sound-after first start xs fresh execution) role waits.checking.full unanswered.calm;
           paced = waits.paced;
         }) (omega (arith, from)) done (λ y has. between y has) run passing (let begins = timed.begins in omega (arith, begins)) timed.keeps timed.punctual) [
           | inr reached ↦ reached
-          | inl come ↦ elim (check first start last xs r later p by fresh course role waits unanswered (omega (arith, from)) done (omega (arith, early)) (λ y has. between y has) run passing enough) [
+          | inl come ↦ elim (check first start last xs r later p by fresh execution role waits unanswered (omega (arith, from)) done (omega (arith, early)) (λ y has. between y has) run passing enough) [
             | inl (y, id, has, out) ↦ inl (y, has, (id, out), come-all r.now (pace + delay) r later y has come)
             | inr (y, has, selected) ↦ inr (y, has, selected, come-all r.now (pace + delay) r later y has come)
           ]
         ]
 
-    pub courses-check-in-time : CoursesCheckFromDue {H = H} {P = P} mac answers → SuccessesSelect {H = H} {P = P} mac answers → CoursesCheckInTime {H = H} {P = P} mac answers
-    courses-check-in-time check select first start last xs r later p by pace delay fresh course role waits unanswered from done early between run passing enough timed =
-        elim (check-or-select check select first start last xs r later p by pace delay fresh course role waits unanswered (omega (arith, from)) done (omega (arith, early)) (λ y has. between y has) run passing enough timed) [
+    pub executions-check-in-time : ExecutionsCheckFromDue {H = H} {P = P} mac answers → SuccessesSelect {H = H} {P = P} mac answers → ExecutionsCheckInTime {H = H} {P = P} mac answers
+    executions-check-in-time check select first start last xs r later p by pace delay fresh execution role waits unanswered from done early between run passing enough timed =
+        elim (check-or-select check select first start last xs r later p by pace delay fresh execution role waits unanswered (omega (arith, from)) done (omega (arith, early)) (λ y has. between y has) run passing enough timed) [
           | inl checks ↦ inl checks
           | inr (y, has, selected, by_then) ↦ inr (y, has, selected)
         ]

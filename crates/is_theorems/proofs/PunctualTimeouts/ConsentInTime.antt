@@ -19,13 +19,13 @@ use Rattle.is_rules.specs.Steps.{Call, SetMtu, SetControlTieBreaker, SetMaxCandi
 use Rattle.is_rules.specs.Settling.{loses_selected, Reselects}
 use Rattle.is_rules.specs.Timeouts.{at_request, timeout_begun, MaintainsPairs, ServesQueued, TimesOut}
 use Rattle.is_theorems.specs.Consent.{ConsentEndsInTime, ConsentHolds, IsPolledIn}
-use Rattle.is_theorems.specs.Exchange.{Course}
+use Rattle.is_theorems.specs.Exchange.{Execution}
 use Rattle.is_theorems.specs.FirstTimeouts.{AreInRound}
 use Rattle.is_theorems.specs.InTime.{KeepsPace}
 use Rattle.is_theorems.specs.Reached.{is_in_round}
 use Rattle.is_rules.proofs.PollsAndResponses.NextTimeout.{pacing-short, timeouts-in-time}
 use Rattle.is_theorems.proofs.CallEffects.AddedCandidates.{by_adding_local, by_adding_remote, by_waking}
-use Rattle.is_theorems.proofs.CallEffects.FailedCallsAndNewAgents.{mtu_kept, controlling_kept, local_kept, enrolment_kept, storing_kept}
+use Rattle.is_theorems.proofs.CallEffects.FailedCallsAndNewAgents.{mtu_kept, local_kept, enrolment_kept, storing_kept}
 use Rattle.is_theorems.proofs.ExecutionLogs.LogSegments.{no-case}
 use Rattle.is_theorems.proofs.DuePairs.ConsentAfterTimeouts.{maintains-consents}
 use Rattle.is_theorems.proofs.PunctualTimeouts.ChecksInTime.{stays-slow}
@@ -45,7 +45,7 @@ module _ {H P : Type 0} where
   module _ (mac : H → List ℕ → List ℕ → List ℕ) (answers : P → CandidateRecord → ℕ → ℕ → Type 0) where
     -- ---- what comes between two `handle_timeout` calls
 
-    pub round-clock : (call : Call P) (e : Entry) (old new : AgentRecord H P) (s t : Stream) → is_in_round call ≡ true → Step mac answers old s call e new t → clock_of new ≡ clock_of old
+    pub round-clock : (call : Call P) (e : Entry) (old new : AgentRecord H P) (s t : Stream) → is_in_round true call ≡ true → Step mac answers old s call e new t → clock_of new ≡ clock_of old
     round-clock (ReceivePacket at via bytes) e old new s t is (h, drawn) = ap (λ (p : Pace). p.clock) (receives mac answers at old new via bytes e h)
     round-clock PollTransmit e old new s t is (given, reported, (polled, made), drawn) = clocked _ new made
     round-clock PollTimeout e old new s t is (deadline, reported, h, drawn) = by_waking old new deadline h (λ made. clocked old new made) (λ at made. clocked _ new made)
@@ -70,8 +70,7 @@ module _ {H P : Type 0} where
     round-clock (SetRenomination renominates) e old new s t is h = clocked _ new h.1
     round-clock (SetTimingAdvance by) e old new s t is h = clocked _ new h.1
     round-clock (SetLocalPreference object) e old new s t is h = clocked _ new h.1
-    round-clock (SetControlling controlling) e old new s t is (Ok _, reported, h, drawn) = clocked _ new h.1
-    round-clock (SetControlling controlling) e old new s t is (Err error, reported, h, drawn) = clocked old new (controlling_kept old new controlling error h)
+    round-clock (SetControlling controlling) e old new s t is h = clocked _ new h.1
     round-clock _ e old new s t is h = no-case is
 
     -- ---- the time that `poll_timeout` returns
@@ -91,9 +90,9 @@ module _ {H P : Type 0} where
           deadline-is a b h = cc
 
     walk : (pace delay now next : ℕ) (c : Consent) (polled : AgentRecord H P) (p : PairRecord) → Has polled.pairs p → (xs : List (Call P × Entry)) (old new : AgentRecord H P)
-        → old.lite ≡ false → old.last_time ≡ Some now → consent_of old.timing ≡ Some c → old.timing_advance ≤ pace → KeepsPace pace xs → AreInRound xs
-        → (course : Course mac answers xs old new) → IsPolledIn mac answers delay next polled xs old new course → next ≤ max (consent_end c p) (now + pace) + delay
-    walk pace delay now next c polled p has [] old new full last rule slow keeps fits course none = absurd none
+        → old.lite ≡ false → old.last_time ≡ Some now → consent_of old.timing ≡ Some c → old.timing_advance ≤ pace → KeepsPace pace xs → AreInRound true xs
+        → (execution : Execution mac answers xs old new) → IsPolledIn mac answers delay next polled xs old new execution → next ≤ max (consent_end c p) (now + pace) + delay
+    walk pace delay now next c polled p has [] old new full last rule slow keeps fits execution none = absurd none
     walk pace delay now next c polled p has (x ∷ rest) old new full last rule slow keeps fits (mid, s, t, given, step, more) (inl (here, called, (deadline, answer, close))) =
         polled-soon pace delay now next deadline c x.1 old mid s t p full last rule (omega (arith, slow))
         (subst (λ (k : Call P). Step mac answers old s k x.1 mid t) called step) answer (omega (arith, close)) (subst (λ (a : AgentRecord H P). Has a.pairs p) here has)
@@ -130,7 +129,7 @@ module _ {H P : Type 0} where
         let in_time =
         walk mac answers pace delay now next c polled p there xs first last
         (ap (λ (k : Pace). k.clock.lite) call ∙ full) (ap (λ (k : Pace). k.clock.last_time) call) (ap (λ (k : Pace). consent_of k.clock.timing) call ∙ ruled) (omega (arith, begins))
-        (λ y by among. f.keeps y by among) (λ y among. f.between y among) f.course f.prompt in
+        (λ y by among. f.keeps y by among) (λ y among. f.between y among) f.execution f.prompt in
         omega (arith, in_time)
 
 pub consent-holds : {H : Type 0} (P : Type 0) (mac : H → List ℕ → List ℕ → List ℕ) → ConsentHolds P mac

@@ -1,59 +1,60 @@
 -- A path is selected in time in the rounds of a log. What mutants/specifications changes is read by tactics.
-use Rattle.std.proofs.Common.{◌≡◌, ℕ, ◌+◌, ◌*◌, ◌≤◌, ◌⊎◌, true, List, [], ◌∷◌, ◌++◌, length, suc, is_some, inl, inr, refl, ap, sym, ◌∙◌, subst, arith, append_assoc}
+use Rattle.std.proofs.Common.{◌≡◌, ℕ, ◌+◌, ◌*◌, ◌≤◌, ◌⊎◌, Bool, true, List, [], ◌∷◌, ◌++◌, length, suc, is_some, inl, inr, refl, ap, sym, ◌∙◌, subst, arith, append_assoc}
 use Rattle.std.proofs.lemmas.List.{append-nil}
 use Rattle.rand_core.specs.Stream.{Stream}
 use Rattle.is_proto.specs.Lists.{Has}
+use Rattle.is_stun.specs.Timing.{is_modern}
 use Rattle.is_candidate.specs.Candidates.{CandidateRecord}
 use Rattle.is_rules.specs.declared.emitted.Path.{Path}
 use Rattle.is_rules.specs.Agent.{AgentRecord}
 use Rattle.is_rules.specs.Effects.{last_of}
 use Rattle.is_rules.specs.Sending.{path_of}
 use Rattle.is_rules.specs.Steps.{Call, Entry, HandleTimeout, Done, Step}
-use Rattle.is_theorems.specs.Courses.{AcceptsSuccess, ControlsAlong, CourseRound, CourseRounds}
-use Rattle.is_theorems.specs.Exchange.{AreBetween, Course}
+use Rattle.is_theorems.specs.Executions.{AcceptsSuccess, ControlsAlong, ExecutionRound, ExecutionRounds}
+use Rattle.is_theorems.specs.Exchange.{AreBetween, Execution}
 use Rattle.is_theorems.specs.FirstChecks.{SufficeForDue, times_of}
 use Rattle.is_theorems.specs.FirstTimeouts.{AreInRound, EndsAmong, IsOpenRound, Suffices}
 use Rattle.is_theorems.specs.InTime.{SendsCheckOn}
 use Rattle.is_theorems.specs.Logs.{Logged}
 use Rattle.is_theorems.specs.OpenRounds.{ArePlain}
 use Rattle.is_theorems.specs.Reached.{is_in_round, IsEndedIn, IsPassing}
-use Rattle.is_theorems.specs.ReachedCourses.{PassRounds}
+use Rattle.is_theorems.specs.ReachedExecutions.{PassRounds}
 use Rattle.is_theorems.specs.Rounds.{LoggedRound, entries_of, is_between, RunsOn, IsControllingIn}
-use Rattle.is_theorems.specs.SelectedInTime.{AcceptsBy, CoursesSelectInTime, in_any_role, IsAnsweredWithin, SelectsBy, SufficeForCheck}
+use Rattle.is_theorems.specs.SelectedInTime.{AcceptsBy, ExecutionsSelectInTime, in_any_role, IsAnsweredWithin, SelectsBy, SufficeForCheck}
 use Rattle.is_theorems.specs.ServedSoon.{IsOvertakenAmong}
 use Rattle.is_theorems.specs.UrgentFirst.{IsOvertaken, IsOvertakenIn}
 use Rattle.is_theorems.specs.TimedSelections.{AcceptsInBy, logged_times, OvertakeLater, PathsAreSelectedInTime, SelectsInBy}
 use Rattle.is_theorems.proofs.CallEffects.ExternalViews.{Has-front, Has-rear}
 use Rattle.is_theorems.proofs.ExecutionLogs.LogSegments.{now-controlling, starts-controlling}
-use Rattle.is_theorems.proofs.ExecutionLogs.SegmentsAsExecutions.{among_onto, calls_onto, course_from, course_onto, course_to, onto_has, pass_from, pass_onto, round_from, rounds_count, rounds_is, rounds_onto, split-run}
+use Rattle.is_theorems.proofs.ExecutionLogs.SegmentsAsExecutions.{among_onto, calls_onto, execution_from, execution_onto, execution_to, onto_has, pass_from, pass_onto, round_from, rounds_count, rounds_is, rounds_onto, split-run}
 use Rattle.is_theorems.proofs.PunctualTimeouts.ChecksInTimeInLogs.{call-is, timed}
 use Rattle.is_theorems.proofs.UrgentPairs.RoundsOfUrgentPairs.{split-overtaken}
 
 module _ {P : Type 0} where
   -- ---- the rounds of a log in parts
 
-  onto-join : (xs ys : List (LoggedRound P)) (more : List (CourseRound P)) → rounds_onto (xs ++ ys) more ≡ rounds_onto ys (rounds_onto xs more)
+  onto-join : (xs ys : List (LoggedRound P)) (more : List (ExecutionRound P)) → rounds_onto (xs ++ ys) more ≡ rounds_onto ys (rounds_onto xs more)
   onto-join [] ys more = refl
   onto-join (x ∷ xs) ys more = onto-join xs ys (round_from x ∷ more)
 
-  onto-front : (xs : List (LoggedRound P)) (more : List (CourseRound P)) → rounds_onto xs more ≡ rounds_onto xs [] ++ more
+  onto-front : (xs : List (LoggedRound P)) (more : List (ExecutionRound P)) → rounds_onto xs more ≡ rounds_onto xs [] ++ more
   onto-front [] more = refl
   onto-front (x ∷ older) more =
       onto-front older (round_from x ∷ more)
       ∙ (sym (append_assoc (rounds_onto older []) (round_from x ∷ []) more)
-      ∙ ap (λ (l : List (CourseRound P)). l ++ more) (sym (onto-front older (round_from x ∷ []))))
+      ∙ ap (λ (l : List (ExecutionRound P)). l ++ more) (sym (onto-front older (round_from x ∷ []))))
 
   -- all rounds: a first one, later ones, and more
   whole : (r : LoggedRound P) (later more : List (LoggedRound P)) → rounds_onto (more ++ (later ++ r ∷ [])) [] ≡ round_from r ∷ (rounds_onto later [] ++ rounds_onto more [])
   whole r later more =
       onto-join more (later ++ r ∷ []) []
       ∙ (onto-join later (r ∷ []) (rounds_onto more [])
-      ∙ ap (λ (l : List (CourseRound P)). round_from r ∷ l) (onto-front later (rounds_onto more [])))
+      ∙ ap (λ (l : List (ExecutionRound P)). round_from r ∷ l) (onto-front later (rounds_onto more [])))
 
-  round-of : (rounds : List (LoggedRound P)) (y : CourseRound P) → Has (rounds_onto rounds []) y → (x : LoggedRound P) × Has rounds x × (round_from x ≡ y)
+  round-of : (rounds : List (LoggedRound P)) (y : ExecutionRound P) → Has (rounds_onto rounds []) y → (x : LoggedRound P) × Has rounds x × (round_from x ≡ y)
   round-of rounds y has = elim (rounds_is rounds [] y has) [ inl found ↦ found | inr none ↦ absurd none ]
 
-  times-onto : (rounds : List (LoggedRound P)) (more : List (CourseRound P)) → times_of (rounds_onto rounds more) ≡ logged_times rounds ++ times_of more
+  times-onto : (rounds : List (LoggedRound P)) (more : List (ExecutionRound P)) → times_of (rounds_onto rounds more) ≡ logged_times rounds ++ times_of more
   times-onto [] more = refl
   times-onto (r ∷ older) more = times-onto older (round_from r ∷ more) ∙ sym (append_assoc (logged_times older) (r.now ∷ []) (times_of more))
 
@@ -62,37 +63,37 @@ module _ {P : Type 0} where
 
   -- ---- what comes in a round
 
-  fits : (rounds : List (LoggedRound P)) → ((x : LoggedRound P) → Has rounds x → (y : Logged P) → Has x.following y → is_in_round y.call ≡ true)
-      → (x : LoggedRound P) → Has rounds x → (c : CourseRound P) → round_from x ≡ c → AreInRound c.following
-  fits rounds between x has c same y there =
+  fits : (m : Bool) (rounds : List (LoggedRound P)) → ((x : LoggedRound P) → Has rounds x → (y : Logged P) → Has x.following y → is_in_round m y.call ≡ true)
+      → (x : LoggedRound P) → Has rounds x → (c : ExecutionRound P) → round_from x ≡ c → AreInRound m c.following
+  fits m rounds between x has c same y there =
       let z = call-is x c same y there in
       let in_round = between x has z.0 z.1 in
-      subst (λ (v : Call P × Entry). is_in_round v.0 ≡ true) z.2 (search in_round)
+      subst (λ (v : Call P × Entry). is_in_round m v.0 ≡ true) z.2 (search in_round)
 
-  plain-fits : (rounds : List (LoggedRound P)) → ArePlain rounds → (x : LoggedRound P) → Has rounds x → (c : CourseRound P) → round_from x ≡ c → AreBetween c.following
+  plain-fits : (rounds : List (LoggedRound P)) → ArePlain rounds → (x : LoggedRound P) → Has rounds x → (c : ExecutionRound P) → round_from x ≡ c → AreBetween c.following
   plain-fits rounds plain x has c same y there =
       let z = call-is x c same y there in
       let between = plain x has z.0 z.1 in
       subst (λ (v : Call P × Entry). is_between v.0 ≡ true) z.2 (search between)
 
-  passes : (by : ℕ) (x : LoggedRound P) (c : CourseRound P) → round_from x ≡ c → AreInRound c.following → IsPassing by x → IsOpenRound by c
-  passes by x c same between passing = record {
-    done = subst (λ (d : CourseRound P). d.timeout.answer ≡ Done) same passing.done;
-    late = (let late = passing.late in let at = ap (λ (d : CourseRound P). d.now) same in omega (arith, late, at));
-    early = (let early = passing.early in let at = ap (λ (d : CourseRound P). d.now) same in omega (arith, early, at));
+  passes : (m : Bool) (by : ℕ) (x : LoggedRound P) (c : ExecutionRound P) → round_from x ≡ c → AreInRound m c.following → IsPassing m by x → IsOpenRound m by c
+  passes m by x c same between passing = record {
+    done = subst (λ (d : ExecutionRound P). d.timeout.answer ≡ Done) same passing.done;
+    late = (let late = passing.late in let at = ap (λ (d : ExecutionRound P). d.now) same in omega (arith, late, at));
+    early = (let early = passing.early in let at = ap (λ (d : ExecutionRound P). d.now) same in omega (arith, early, at));
     between = λ y has. between y has;
   }
 
   -- ---- a success response
 
-  accepts-from : (limit : ℕ) (older : List (LoggedRound P)) (more : List (CourseRound P)) → ((x : LoggedRound P) → Has older x → x.now ≤ limit) → AcceptsBy limit more → AcceptsBy limit (rounds_onto older more)
+  accepts-from : (limit : ℕ) (older : List (LoggedRound P)) (more : List (ExecutionRound P)) → ((x : LoggedRound P) → Has older x → x.now ≤ limit) → AcceptsBy limit more → AcceptsBy limit (rounds_onto older more)
   accepts-from limit [] more in_time accepts = accepts
   accepts-from limit (x ∷ older) more in_time accepts =
       accepts-from limit older (round_from x ∷ more) (λ y has. in_time y (inr has)) (in_time x (inl refl), inr accepts)
 
   accepts : (limit : ℕ) (rounds : List (LoggedRound P)) → AcceptsInBy limit rounds → AcceptsBy limit (rounds_onto rounds [])
   accepts limit rounds k =
-      subst (λ (l : List (CourseRound P)). AcceptsBy limit l) (sym (ap (λ (l : List (LoggedRound P)). rounds_onto l []) k.split ∙ onto-join k.newer (k.round ∷ k.older) []))
+      subst (λ (l : List (ExecutionRound P)). AcceptsBy limit l) (sym (ap (λ (l : List (LoggedRound P)). rounds_onto l []) k.split ∙ onto-join k.newer (k.round ∷ k.older) []))
       (accepts-from limit k.older (round_from k.round ∷ rounds_onto k.newer []) (λ y has. before y (inr has)) (
         before k.round (inl refl),
         inl ((k.response.call, k.response.entry), onto_has k.round.following [] k.response (inl k.received), search k.accepted),
@@ -104,7 +105,7 @@ module _ {P : Type 0} where
   selects-in limit rounds (c, has, (y, there, success, selected), soon) =
       let x = round-of rounds c has in
       let z = call-is x.0 c x.2 y there in
-      let at = ap (λ (d : CourseRound P). d.now) x.2 in
+      let at = ap (λ (d : ExecutionRound P). d.now) x.2 in
       record {
         round = x.0;
         there = x.1;
@@ -118,18 +119,18 @@ module _ {P : Type 0} where
 module _ {H P : Type 0} (mac : H → List ℕ → List ℕ → List ℕ) (answers : P → CandidateRecord → ℕ → ℕ → Type 0) where
   -- ---- the agent is controlling in the rounds
 
-  along-from : (more : List (Call P × Entry)) (a b last : AgentRecord H P) (same : a ≡ b) (course : Course mac answers more a last) → ControlsAlong mac answers more a last course
-      → ControlsAlong mac answers more b last (course_from mac answers more a b last same course)
-  along-from [] a b last same course along = tt
-  along-from (x ∷ rest) a b last same (mid, s, t, given, step, course) along = along
+  along-from : (more : List (Call P × Entry)) (a b last : AgentRecord H P) (same : a ≡ b) (execution : Execution mac answers more a last) → ControlsAlong mac answers more a last execution
+      → ControlsAlong mac answers more b last (execution_from mac answers more a b last same execution)
+  along-from [] a b last same execution along = tt
+  along-from (x ∷ rest) a b last same (mid, s, t, given, step, execution) along = along
 
   along-onto : (xs : List (Logged P)) (more : List (Call P × Entry)) (before : List (Logged P)) (start mid last : AgentRecord H P) (s t : Stream)
       → (run : RunsOn mac answers before start s xs mid t) → IsControllingIn mac answers before start s xs mid t run
-      → (course : Course mac answers more mid last) → ControlsAlong mac answers more mid last course
-      → ControlsAlong mac answers (calls_onto xs more) start last (course_onto mac answers xs more before start mid last s t run course)
-  along-onto [] more before start mid last s t is role course along = along-from more mid start last is.0 course along
-  along-onto (x ∷ older) more before start mid last s t (old, u, run, number, given, step) role course along =
-      along-onto older ((x.call, x.entry) ∷ more) before start old last s u run role.1 (mid, u, t, given, step, course) (role.0, along)
+      → (execution : Execution mac answers more mid last) → ControlsAlong mac answers more mid last execution
+      → ControlsAlong mac answers (calls_onto xs more) start last (execution_onto mac answers xs more before start mid last s t run execution)
+  along-onto [] more before start mid last s t is role execution along = along-from more mid start last is.0 execution along
+  along-onto (x ∷ older) more before start mid last s t (old, u, run, number, given, step) role execution along =
+      along-onto older ((x.call, x.entry) ∷ more) before start old last s u run role.1 (mid, u, t, given, step, execution) (role.0, along)
 
   -- so it is in two parts of a segment
   both-control : (before : List (Logged P)) (start last : AgentRecord H P) (u t : Stream) (xs older : List (Logged P)) → (run : RunsOn mac answers before start u (xs ++ older) last t)
@@ -141,19 +142,19 @@ module _ {H P : Type 0} (mac : H → List ℕ → List ℕ → List ℕ) (answer
       let k = both-control before start m u v xs older run role.1 in
       (k.0, (role.0, k.1))
 
-  abbrev rounds-from : (more : List (CourseRound P)) (a b last : AgentRecord H P) → a ≡ b → CourseRounds mac answers more a last → CourseRounds mac answers more b last
+  abbrev rounds-from : (more : List (ExecutionRound P)) (a b last : AgentRecord H P) → a ≡ b → ExecutionRounds mac answers more a last → ExecutionRounds mac answers more b last
   rounds-from [] a b last same is = is ∙ same
-  rounds-from (r ∷ later) a b last same (mid, next, s, t, step, role, course, along, more) =
-      (mid, next, s, t, subst (λ (z : AgentRecord H P). Step mac answers z s (HandleTimeout r.now) r.timeout mid t) same step, role, course, along, more)
+  rounds-from (r ∷ later) a b last same (mid, next, s, t, step, role, execution, along, more) =
+      (mid, next, s, t, subst (λ (z : AgentRecord H P). Step mac answers z s (HandleTimeout r.now) r.timeout mid t) same step, role, execution, along, more)
 
   abbrev Comes : List (LoggedRound P) → Type 0
   Comes rounds = (r : LoggedRound P) → Has rounds r → r.timeout.call ≡ HandleTimeout r.now
 
-  abbrev rounds-onto : (rounds : List (LoggedRound P)) (more : List (CourseRound P)) (before : List (Logged P)) (start mid last : AgentRecord H P) (s t : Stream) → Comes rounds
+  abbrev rounds-onto : (rounds : List (LoggedRound P)) (more : List (ExecutionRound P)) (before : List (Logged P)) (start mid last : AgentRecord H P) (s t : Stream) → Comes rounds
       → (run : RunsOn mac answers before start s (entries_of rounds) mid t) → IsControllingIn mac answers before start s (entries_of rounds) mid t run
-      → CourseRounds mac answers more mid last → CourseRounds mac answers (rounds_onto rounds more) start last
-  rounds-onto [] more before start mid last s t comes is role course = rounds-from more mid start last is.0 course
-  rounds-onto (r ∷ older) more before start mid last s t comes run role course =
+      → ExecutionRounds mac answers more mid last → ExecutionRounds mac answers (rounds_onto rounds more) start last
+  rounds-onto [] more before start mid last s t comes is role execution = rounds-from more mid start last is.0 execution
+  rounds-onto (r ∷ older) more before start mid last s t comes run role execution =
       let h = split-run mac answers before start mid s t r.following (r.timeout ∷ entries_of older) run in
       let roles = both-control before start mid s t r.following (r.timeout ∷ entries_of older) run role in
       rounds-onto older (round_from r ∷ more) before start h.2.0 last s h.2.1 (λ x has. comes x (inr has)) h.2.2 roles.0.1 (
@@ -163,25 +164,25 @@ module _ {H P : Type 0} (mac : H → List ℕ → List ℕ → List ℕ) (answer
         h.1,
         subst (λ (c : Call P). Step mac answers h.2.0 h.2.1 c r.timeout.entry h.0 h.1) (comes r (inl refl)) h.2.5,
         roles.0.0,
-        course_onto mac answers r.following [] ((r.timeout ∷ entries_of older) ++ before) h.0 mid mid h.1 t h.3 refl,
+        execution_onto mac answers r.following [] ((r.timeout ∷ entries_of older) ++ before) h.0 mid mid h.1 t h.3 refl,
         along-onto r.following [] ((r.timeout ∷ entries_of older) ++ before) h.0 mid mid h.1 t h.3 roles.1 refl tt,
-        course,
+        execution,
       )
 
   -- ---- the same rounds in any role
 
-  any-from : (more : List (CourseRound P)) (a b last : AgentRecord H P) (same : a ≡ b) (course : CourseRounds mac answers more a last)
-      → in_any_role mac answers more b last (rounds-from more a b last same course) ≡ pass_from mac answers more a b last same (in_any_role mac answers more a last course)
-  any-from [] a b last same course = refl
-  any-from (r ∷ later) a b last same course = refl
+  any-from : (more : List (ExecutionRound P)) (a b last : AgentRecord H P) (same : a ≡ b) (execution : ExecutionRounds mac answers more a last)
+      → in_any_role mac answers more b last (rounds-from more a b last same execution) ≡ pass_from mac answers more a b last same (in_any_role mac answers more a last execution)
+  any-from [] a b last same execution = refl
+  any-from (r ∷ later) a b last same execution = refl
 
-  any-onto : (rounds : List (LoggedRound P)) (more : List (CourseRound P)) (before : List (Logged P)) (start mid last : AgentRecord H P) (s t : Stream) (comes : Comes rounds)
+  any-onto : (rounds : List (LoggedRound P)) (more : List (ExecutionRound P)) (before : List (Logged P)) (start mid last : AgentRecord H P) (s t : Stream) (comes : Comes rounds)
       → (run : RunsOn mac answers before start s (entries_of rounds) mid t) (role : IsControllingIn mac answers before start s (entries_of rounds) mid t run)
-      → (course : CourseRounds mac answers more mid last)
-      → in_any_role mac answers (rounds_onto rounds more) start last (rounds-onto rounds more before start mid last s t comes run role course)
-      ≡ pass_onto mac answers rounds more before start mid last s t comes run (in_any_role mac answers more mid last course)
-  any-onto [] more before start mid last s t comes is role course = any-from more mid start last is.0 course
-  any-onto (r ∷ older) more before start mid last s t comes run role course =
+      → (execution : ExecutionRounds mac answers more mid last)
+      → in_any_role mac answers (rounds_onto rounds more) start last (rounds-onto rounds more before start mid last s t comes run role execution)
+      ≡ pass_onto mac answers rounds more before start mid last s t comes run (in_any_role mac answers more mid last execution)
+  any-onto [] more before start mid last s t comes is role execution = any-from more mid start last is.0 execution
+  any-onto (r ∷ older) more before start mid last s t comes run role execution =
       let h = split-run mac answers before start mid s t r.following (r.timeout ∷ entries_of older) run in
       let roles = both-control before start mid s t r.following (r.timeout ∷ entries_of older) run role in
       any-onto older (round_from r ∷ more) before start h.2.0 last s h.2.1 (λ x has. comes x (inr has)) h.2.2 roles.0.1 (
@@ -191,32 +192,32 @@ module _ {H P : Type 0} (mac : H → List ℕ → List ℕ → List ℕ) (answer
         h.1,
         subst (λ (c : Call P). Step mac answers h.2.0 h.2.1 c r.timeout.entry h.0 h.1) (comes r (inl refl)) h.2.5,
         roles.0.0,
-        course_onto mac answers r.following [] ((r.timeout ∷ entries_of older) ++ before) h.0 mid mid h.1 t h.3 refl,
+        execution_onto mac answers r.following [] ((r.timeout ∷ entries_of older) ++ before) h.0 mid mid h.1 t h.3 refl,
         along-onto r.following [] ((r.timeout ∷ entries_of older) ++ before) h.0 mid mid h.1 t h.3 roles.1 refl tt,
-        course,
+        execution,
       )
 
   -- what may remove a pair in the rounds of the execution may do so in the segment
-  ended-in : (path : Path) (rounds : List (LoggedRound P)) (more : List (CourseRound P)) (before : List (Logged P)) (start mid last : AgentRecord H P) (s t : Stream) (comes : Comes rounds)
-      → ((r : LoggedRound P) → Has rounds r → (x : Logged P) → Has r.following x → is_in_round x.call ≡ true)
-      → (run : RunsOn mac answers before start s (entries_of rounds) mid t) (role : IsControllingIn mac answers before start s (entries_of rounds) mid t run) (course : CourseRounds mac answers more mid last)
-      → EndsAmong mac answers (rounds_onto rounds more) start last (in_any_role mac answers (rounds_onto rounds more) start last (rounds-onto rounds more before start mid last s t comes run role course)) path
-      → IsEndedIn mac answers before start s (entries_of rounds) mid t run path ⊎ EndsAmong mac answers more mid last (in_any_role mac answers more mid last course) path
-  ended-in path rounds more before start mid last s t comes between run role course ended =
-      among_onto mac answers path rounds more before start mid last s t comes between run (in_any_role mac answers more mid last course)
+  ended-in : (m : Bool) (path : Path) (rounds : List (LoggedRound P)) (more : List (ExecutionRound P)) (before : List (Logged P)) (start mid last : AgentRecord H P) (s t : Stream) (comes : Comes rounds)
+      → ((r : LoggedRound P) → Has rounds r → (x : Logged P) → Has r.following x → is_in_round m x.call ≡ true)
+      → (run : RunsOn mac answers before start s (entries_of rounds) mid t) (role : IsControllingIn mac answers before start s (entries_of rounds) mid t run) (execution : ExecutionRounds mac answers more mid last)
+      → EndsAmong mac answers (rounds_onto rounds more) start last (in_any_role mac answers (rounds_onto rounds more) start last (rounds-onto rounds more before start mid last s t comes run role execution)) path
+      → IsEndedIn mac answers before start s (entries_of rounds) mid t run path ⊎ EndsAmong mac answers more mid last (in_any_role mac answers more mid last execution) path
+  ended-in m path rounds more before start mid last s t comes between run role execution ended =
+      among_onto mac answers m path rounds more before start mid last s t comes between run (in_any_role mac answers more mid last execution)
       (subst (λ (z : PassRounds mac answers (rounds_onto rounds more) start last). EndsAmong mac answers (rounds_onto rounds more) start last z path)
-      (any-onto rounds more before start mid last s t comes run role course) ended)
+      (any-onto rounds more before start mid last s t comes run role execution) ended)
 
   -- ---- how many rounds check other pairs before the one with the number
 
-  overtaken-from : (n k : ℕ) (more : List (CourseRound P)) (a b last : AgentRecord H P) (same : a ≡ b) (pass : PassRounds mac answers more a last)
+  overtaken-from : (n k : ℕ) (more : List (ExecutionRound P)) (a b last : AgentRecord H P) (same : a ≡ b) (pass : PassRounds mac answers more a last)
       → IsOvertakenAmong mac answers n k more b last (pass_from mac answers more a b last same pass) → IsOvertakenAmong mac answers n k more a last pass
   overtaken-from n k [] a b last same pass overtaken = overtaken
   overtaken-from n k (r ∷ later) a b last same pass (inl others) = inl others
   overtaken-from n k (r ∷ later) a b last same pass (inr (j, is, here, others)) =
       inr (j, is, subst (λ (z : AgentRecord H P). IsOvertaken n r.now z r.timeout.emitted) (sym same) here, others)
 
-  overtaken-onto : (n k : ℕ) (rounds : List (LoggedRound P)) (more : List (CourseRound P)) (before : List (Logged P)) (start mid last : AgentRecord H P) (s t : Stream) (comes : Comes rounds)
+  overtaken-onto : (n k : ℕ) (rounds : List (LoggedRound P)) (more : List (ExecutionRound P)) (before : List (Logged P)) (start mid last : AgentRecord H P) (s t : Stream) (comes : Comes rounds)
       → (run : RunsOn mac answers before start s (entries_of rounds) mid t) (pass : PassRounds mac answers more mid last)
       → IsOvertakenAmong mac answers n k (rounds_onto rounds more) start last (pass_onto mac answers rounds more before start mid last s t comes run pass)
       → (i j : ℕ) × (k ≡ i + j) × IsOvertakenIn mac answers n i before start s (entries_of rounds) mid t run × IsOvertakenAmong mac answers n j more mid last pass
@@ -232,7 +233,7 @@ module _ {H P : Type 0} (mac : H → List ℕ → List ℕ → List ℕ) (answer
         h.2.1,
         h.1,
         subst (λ (c : Call P). Step mac answers h.2.0 h.2.1 c r.timeout.entry h.0 h.1) (comes r (inl refl)) h.2.5,
-        course_onto mac answers r.following [] ((r.timeout ∷ entries_of older) ++ before) h.0 mid mid h.1 t h.3 refl,
+        execution_onto mac answers r.following [] ((r.timeout ∷ entries_of older) ++ before) h.0 mid mid h.1 t h.3 refl,
         pass,
       ) overtaken) where
         by-parts : {Whole In Among Here : ℕ → Type 0}
@@ -247,16 +248,16 @@ module _ {H P : Type 0} (mac : H → List ℕ → List ℕ → List ℕ) (answer
 
   -- ---- the theorem
 
-  pub selected-in-time : CoursesSelectInTime {H = H} {P = P} mac answers → PathsAreSelectedInTime {H = H} {P = P} mac answers
+  pub selected-in-time : ExecutionsSelectInTime {H = H} {P = P} mac answers → PathsAreSelectedInTime {H = H} {P = P} mac answers
   selected-in-time select first s log fresh k p by pace delay trip f =
       elim (select first k.start k.end k.last (calls_onto k.before []) r later more p by pace delay trip fresh
-      (course_to mac answers k.before first k.start k.start [] s k.one.at k.one.led refl) (starts-controlling mac answers k.before k.start k.second k.one.at k.one.following (entries_of (k.opening ∷ [])) k.one.run (search k.controls))
+      (execution_to mac answers k.before first k.start k.start [] s k.one.at k.one.led refl) (starts-controlling mac answers k.before k.start k.second k.one.at k.one.following (entries_of (k.opening ∷ [])) k.one.run (search k.controls))
       f.waits f.unanswered (let due = f.due in omega (arith, due)) f.done (let early = f.early in omega (arith, early))
       (λ y has. between r (inl refl) y has) run onward (λ y has. passed y has) (λ y has. between y (inr (Has-rear later more y has))) enough (timed pace delay k.start k.opening k.later f.timed) answered) [
-        | inl selected_by ↦ inl (bounded (selects-in limit rounds (subst (λ (l : List (CourseRound P)). SelectsBy limit l) (sym all) (subst (λ n. SelectsBy (r.now + n * (pace + delay) + trip) course_rounds) count selected_by))))
-        | inr ended ↦ inr (elim (ended-in path (k.opening ∷ []) later k.before k.start k.second k.end k.one.at k.one.following opens (λ x has. fits_at x (opening-in x has)) k.one.run k.controls run_later ended) [
+        | inl selected_by ↦ inl (bounded (selects-in limit rounds (subst (λ (l : List (ExecutionRound P)). SelectsBy limit l) (sym all) (subst (λ n. SelectsBy (r.now + n * (pace + delay) + trip) execution_rounds) count selected_by))))
+        | inr ended ↦ inr (elim (ended-in (is_modern k.start.timing) path (k.opening ∷ []) later k.before k.start k.second k.end k.one.at k.one.following opens (λ x has. fits_at x (opening-in x has)) k.one.run k.controls run_later ended) [
           | inl here ↦ inl (search here)
-          | inr others ↦ elim (ended-in path k.later [] (entries_of (k.opening ∷ []) ++ k.before) k.second k.end k.end k.others.at k.others.following comes_later (λ x has. fits_at x (later-in x has)) k.others.run role_later refl others) [
+          | inr others ↦ elim (ended-in (is_modern k.start.timing) path k.later [] (entries_of (k.opening ∷ []) ++ k.before) k.second k.end k.end k.others.at k.others.following comes_later (λ x has. fits_at x (later-in x has)) k.others.run role_later refl others) [
             | inl there ↦ inr (search there)
             | inr none ↦ absurd none
           ]
@@ -271,19 +272,19 @@ module _ {H P : Type 0} (mac : H → List ℕ → List ℕ → List ℕ) (answer
         limit : ℕ
         limit = k.opening.now + length k.later * (pace + delay) + trip
 
-        r : CourseRound P
+        r : ExecutionRound P
         r = round_from k.opening
 
-        later : List (CourseRound P)
+        later : List (ExecutionRound P)
         later = rounds_onto k.later []
 
-        more : List (CourseRound P)
+        more : List (ExecutionRound P)
         more = rounds_onto k.more []
 
-        course_rounds : List (CourseRound P)
-        course_rounds = r ∷ (later ++ more)
+        execution_rounds : List (ExecutionRound P)
+        execution_rounds = r ∷ (later ++ more)
 
-        all : rounds_onto rounds [] ≡ course_rounds
+        all : rounds_onto rounds [] ≡ execution_rounds
         all = whole k.opening k.later k.more
 
         count : length later ≡ length k.later
@@ -300,7 +301,7 @@ module _ {H P : Type 0} (mac : H → List ℕ → List ℕ → List ℕ) (answer
           in_time = (let in_time = found.in_time in omega (arith, in_time));
         }
 
-        fits_at : (x : LoggedRound P) → Has rounds x → (y : Logged P) → Has x.following y → is_in_round y.call ≡ true
+        fits_at : (x : LoggedRound P) → Has rounds x → (y : Logged P) → Has x.following y → is_in_round (is_modern k.start.timing) y.call ≡ true
         fits_at x has y there = search (k.between x has y there)
 
         later-in : (x : LoggedRound P) → Has k.later x → Has rounds x
@@ -315,39 +316,39 @@ module _ {H P : Type 0} (mac : H → List ℕ → List ℕ → List ℕ) (answer
         comes_later : Comes k.later
         comes_later x has = k.comes x (later-in x has)
 
-        round-at : (y : CourseRound P) → Has course_rounds y → (x : LoggedRound P) × Has rounds x × (round_from x ≡ y)
-        round-at y has = round-of rounds y (subst (λ (l : List (CourseRound P)). Has l y) (sym all) has)
+        round-at : (y : ExecutionRound P) → Has execution_rounds y → (x : LoggedRound P) × Has rounds x × (round_from x ≡ y)
+        round-at y has = round-of rounds y (subst (λ (l : List (ExecutionRound P)). Has l y) (sym all) has)
 
-        between : (y : CourseRound P) → Has course_rounds y → AreInRound y.following
-        between y has = let x = round-at y has in fits rounds (λ z there v inside. fits_at z there v inside) x.0 x.1 y x.2
+        between : (y : ExecutionRound P) → Has execution_rounds y → AreInRound (is_modern k.start.timing) y.following
+        between y has = let x = round-at y has in fits (is_modern k.start.timing) rounds (λ z there v inside. fits_at z there v inside) x.0 x.1 y x.2
 
-        passed : (y : CourseRound P) → Has later y → IsOpenRound by y
+        passed : (y : ExecutionRound P) → Has later y → IsOpenRound (is_modern k.start.timing) by y
         passed y has =
             let x = round-of k.later y has in
-            passes by x.0 y x.2 (λ v inside. between y (inr (Has-front later more y has)) v inside) (f.passing x.0 x.1)
+            passes (is_modern k.start.timing) by x.0 y x.2 (λ v inside. between y (inr (Has-front later more y has)) v inside) (f.passing x.0 x.1)
 
-        answered : IsAnsweredWithin trip course_rounds (path_of k.start p)
+        answered : IsAnsweredWithin trip execution_rounds (path_of k.start p)
         answered y has sends =
             let x = round-at y has in
-            subst (λ (l : List (CourseRound P)). AcceptsBy (y.now + trip) l) all
-            (subst (λ (c : CourseRound P). AcceptsBy (c.now + trip) (rounds_onto rounds [])) x.2
-            (accepts (x.0.now + trip) rounds (search (f.answered x.0 x.1 (subst (λ (c : CourseRound P). SendsCheckOn c.timeout (path_of k.start p)) (sym x.2) sends)))))
+            subst (λ (l : List (ExecutionRound P)). AcceptsBy (y.now + trip) l) all
+            (subst (λ (c : ExecutionRound P). AcceptsBy (c.now + trip) (rounds_onto rounds [])) x.2
+            (accepts (x.0.now + trip) rounds (search (f.answered x.0 x.1 (subst (λ (c : ExecutionRound P). SendsCheckOn c.timeout (path_of k.start p)) (sym x.2) sends)))))
 
         role_later : IsControllingIn mac answers (entries_of (k.opening ∷ []) ++ k.before) k.second k.others.at (entries_of k.later) k.end k.others.following k.others.run
         role_later = search k.controls_later
 
-        run_later : CourseRounds mac answers later k.second k.end
+        run_later : ExecutionRounds mac answers later k.second k.end
         run_later = rounds-onto k.later [] (entries_of (k.opening ∷ []) ++ k.before) k.second k.end k.end k.others.at k.others.following comes_later k.others.run role_later refl
 
-        run : CourseRounds mac answers (r ∷ later) k.start k.end
+        run : ExecutionRounds mac answers (r ∷ later) k.start k.end
         run = rounds-onto (k.opening ∷ []) later k.before k.start k.second k.end k.one.at k.one.following opens k.one.run k.controls run_later
 
-        onward : CourseRounds mac answers more k.end k.last
+        onward : ExecutionRounds mac answers more k.end k.last
         onward =
             rounds-onto k.more [] (entries_of k.later ++ (entries_of (k.opening ∷ []) ++ k.before)) k.end k.last k.last k.onward.at k.onward.following
             (λ x has. k.comes x (Has-front k.more (k.later ++ k.opening ∷ []) x has)) k.onward.run (search k.controls_onward) refl
 
-        plain-round : ArePlain (k.later ++ k.opening ∷ []) → (x : CourseRound P) → Has (r ∷ later) x → AreBetween x.following
+        plain-round : ArePlain (k.later ++ k.opening ∷ []) → (x : ExecutionRound P) → Has (r ∷ later) x → AreBetween x.following
         plain-round plain x (inl is) = plain-fits (k.later ++ k.opening ∷ []) plain k.opening (Has-rear k.later (k.opening ∷ []) k.opening (inl refl)) x is
         plain-round plain x (inr has) = let z = round-of k.later x has in plain-fits (k.later ++ k.opening ∷ []) plain z.0 (Has-front k.later (k.opening ∷ []) z.0 z.1) x z.2
 

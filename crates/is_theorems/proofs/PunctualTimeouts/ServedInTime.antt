@@ -3,16 +3,16 @@
 use Rattle.std.proofs.Common.{ℕ, ◌+◌, List, inl, inr, refl, arith}
 use Rattle.is_candidate.specs.Candidates.{CandidateRecord}
 use Rattle.is_theorems.specs.InTime.{RoundsComeInTime}
-use Rattle.is_theorems.specs.ServedSoon.{ServedCoursesReach, ServedCoursesReachInTime}
+use Rattle.is_theorems.specs.ServedSoon.{ServedExecutionsReach, ServedExecutionsReachInTime}
 use Rattle.is_theorems.proofs.PunctualTimeouts.ChecksInTime.{come-all}
 
 module _ {H P : Type 0} (mac : H → List ℕ → List ℕ → List ℕ) (answers : P → CandidateRecord → ℕ → ℕ → Type 0) where
-  pub served-reach-in-time : ServedCoursesReach {H = H} {P = P} mac answers → RoundsComeInTime {H = H} {P = P} mac answers → ServedCoursesReachInTime {H = H} {P = P} mac answers
-  served-reach-in-time reach come first start last xs r later p by m pace delay fresh course line served run opens lasting quiet enough timed =
+  pub served-reach-in-time : ServedExecutionsReach {H = H} {P = P} mac answers → RoundsComeInTime {H = H} {P = P} mac answers → ServedExecutionsReachInTime {H = H} {P = P} mac answers
+  served-reach-in-time reach come first start last xs r later p by m pace delay fresh execution line served run opens lasting quiet enough timed =
       let round = opens r (inl refl) in
-      elim (come first start last xs r later p by pace delay fresh course line (let late = round.late in omega (arith, late)) (let done = round.done in search done) (let early = round.early in omega (arith, early))
+      elim (come first start last xs r later p by pace delay fresh execution line (let late = round.late in omega (arith, late)) (let done = round.done in search done) (let early = round.early in omega (arith, early))
       (λ y has. (let in_round = round.between in in_round y has)) run (λ x has. opens x (inr has)) (λ x has. lasting x (inr has)) (search timed)) [
-        | inl coming ↦ elim (reach first start last xs r later p by m fresh course line served run (λ x has. opens x has) (λ x has. lasting x has) (λ x has. (let still = quiet x has in search still)) (omega (arith, enough))) [
+        | inl coming ↦ elim (reach first start last xs r later p by m fresh execution line served run (λ x has. opens x has) (λ x has. lasting x has) (λ x has. (let still = quiet x has in search still)) (omega (arith, enough))) [
           | inl (inl (x, id, has, out)) ↦ inl (inl (x, has, (id, out), (let in_time = come-all r.now (pace + delay) r later x has coming in omega (arith, in_time))))
           | inl (inr others) ↦ inl (inr others)
           | inr overtaken ↦ inr (search overtaken)

@@ -30,8 +30,8 @@ use Rattle.is_theorems.proofs.DuePairs.NominationsAhead.{Dues, calls-due, timeou
 use Rattle.is_theorems.proofs.ExecutionLogs.LogSegments.{no-case, run-on}
 use Rattle.is_theorems.proofs.ExecutionLogs.PerAgentExecutions.{either_has}
 use Rattle.is_theorems.proofs.PollingRounds.CountedSelections.{ahead-fewer}
-use Rattle.is_theorems.proofs.PollingRounds.InTurnAlong.{IsOfRound}
-use Rattle.is_theorems.proofs.PollingRounds.LimitedPairsAndRequests.{few-pairs, few-timeouts, none-ends, suffice-steady}
+use Rattle.is_theorems.proofs.PollingRounds.InTurnAlong.{IsOfRound, profile-along}
+use Rattle.is_theorems.proofs.PollingRounds.LimitedPairsAndRequests.{few-pairs, few-timeouts, none-ends, steady-as-original, suffice-steady}
 use Rattle.is_theorems.proofs.PunctualTimeouts.ChecksInTimeInLogs.{come-in-time}
 use Rattle.is_theorems.proofs.RemainingChecks.PairsThatRequestsAdd.{part-spends}
 use Rattle.is_theorems.proofs.RemainingChecks.RemainingAfterRules.{Held, held_of}
@@ -97,11 +97,11 @@ ahead-of false true due_was due_now selected n plain due = no-case (sym (plain r
 ahead-of true true due_was due_now selected n plain due = let one = one-owed due_was due_now selected due in omega (arith, one)
 
 module _ {H P : Type 0} (mac : H → List ℕ → List ℕ → List ℕ) (answers : P → CandidateRecord → ℕ → ℕ → Type 0) where
-  dues : (x : Logged P) (old new : AgentRecord H P) (s t : Stream) → IsOfRound x → Step mac answers old s x.call x.entry new t → Dues (selects x.entry) old new
+  dues : (x : Logged P) (old new : AgentRecord H P) (s t : Stream) → IsOfRound (is_modern old.timing) x → Step mac answers old s x.call x.entry new t → Dues (selects x.entry) old new
   dues x old new s t (inl between) step = calls-due mac answers x.call x.entry old new s t between step
   dues x old new s t (inr (now, comes)) step = timeouts-due mac answers now x.entry old new s t (subst (λ (c : Call P). Step mac answers old s c x.entry new t) comes step)
 
-  ahead-along : (before : List (Logged P)) (start last : AgentRecord H P) (u t : Stream) (xs : List (Logged P)) → ((x : Logged P) → Has xs x → IsOfRound x)
+  ahead-along : (before : List (Logged P)) (start last : AgentRecord H P) (u t : Stream) (xs : List (Logged P)) → ((x : Logged P) → Has xs x → IsOfRound (is_modern start.timing) x)
       → RunsOn mac answers before start u xs last t → (n : ℕ) → nominations_ahead last n ≤ nominations_ahead start (selection_count xs + n)
   ahead-along before start last u t [] fits run n =
       let same : nominations_ahead last n ≡ nominations_ahead start n = ap (λ (a : AgentRecord H P). nominations_ahead a n) run.0 in
@@ -109,7 +109,8 @@ module _ {H P : Type 0} (mac : H → List ℕ → List ℕ → List ℕ) (answer
       omega (arith, same, none)
   ahead-along before start last u t (x ∷ xs) fits (mid, v, run, number, given, step) n =
       let so_far = ahead-along before start mid u v xs (λ y has. fits y (inr has)) run (cond (selects x.entry) 1 0 + n) in
-      let d = dues x mid last v t (fits x (inl refl)) step in
+      let rules : is_modern mid.timing ≡ is_modern start.timing = profile-along mac answers (is_modern start.timing) before start mid u v xs (λ y has. fits y (inr has)) run in
+      let d = dues x mid last v t (subst (λ b. IsOfRound b x) (sym rules) (fits x (inl refl))) step in
       let here : nominations_ahead last n ≤ nominations_ahead mid (cond (selects x.entry) 1 0 + n) = ahead-of (numbers mid) (numbers last) mid.nomination_due last.nomination_due (selects x.entry) n d.0 d.1 in
       let all = sum_by-cons (λ (y : Logged P). cond (selects y.entry) 1 0) x xs in
       let same : nominations_ahead start (selection_count xs + (cond (selects x.entry) 1 0 + n)) ≡ nominations_ahead start (selection_count (x ∷ xs) + n) = ap (λ k. nominations_ahead start k) (let z : selection_count xs + (cond (selects x.entry) 1 0 + n) ≡ selection_count (x ∷ xs) + n = omega (arith, all) in z) in
@@ -165,11 +166,11 @@ module _ {H P : Type 0} (mac : H → List ℕ → List ℕ → List ℕ) (answer
     abbrev sent : ℕ
     sent = nominations_ahead k.start (selection_count (all_entries k.opening k.later))
 
-    opening-between : (x : LoggedRound P) → Has (k.opening ∷ []) x → (y : Logged P) → Has x.following y → is_in_round y.call ≡ true
-    opening-between x (inl is) = subst (λ (z : LoggedRound P). (y : Logged P) → Has z.following y → is_in_round y.call ≡ true) is f.between
+    opening-between : (x : LoggedRound P) → Has (k.opening ∷ []) x → (y : Logged P) → Has x.following y → is_in_round (is_modern k.start.timing) y.call ≡ true
+    opening-between x (inl is) = subst (λ (z : LoggedRound P). (y : Logged P) → Has z.following y → is_in_round (is_modern k.start.timing) y.call ≡ true) is f.between
     opening-between x (inr none) = absurd none
 
-    opening-entries : (x : Logged P) → Has (entries_of (k.opening ∷ [])) x → IsOfRound x
+    opening-entries : (x : Logged P) → Has (entries_of (k.opening ∷ [])) x → IsOfRound (is_modern k.start.timing) x
     opening-entries x has = elim (either_has k.opening.following (k.opening.timeout ∷ []) x has) [
       | inl following ↦ inl (f.between x following)
       | inr (inl is) ↦ inr (k.opening.now, ap (λ (y : Logged P). y.call) (sym is) ∙ f.comes)
@@ -186,13 +187,13 @@ module _ {H P : Type 0} (mac : H → List ℕ → List ℕ → List ℕ) (answer
       later-is : (x : LoggedRound P) → Has o.oldest x → Has k.later x
       later-is x has = subst (λ (l : List (LoggedRound P)). Has l x) (sym o.split) (Has-rear o.over o.oldest x has)
 
-      steady : AreSteady (all_entries k.opening o.oldest)
-      steady x has = search (k.steady x (among x has))
+      steady : AreSteady false (all_entries k.opening o.oldest)
+      steady = steady-as-original (is_modern k.start.timing) (all_entries k.opening o.oldest) (λ x has. search (k.steady x (among x has)))
 
-      steady-first : AreSteady (entries_of (k.opening ∷ []))
+      steady-first : AreSteady false (entries_of (k.opening ∷ []))
       steady-first x has = steady x (Has-rear (entries_of o.oldest) (entries_of (k.opening ∷ [])) x has)
 
-      steady-later : AreSteady (entries_of o.oldest)
+      steady-later : AreSteady false (entries_of o.oldest)
       steady-later x has = steady x (Has-front (entries_of o.oldest) (entries_of (k.opening ∷ [])) x has)
 
       moved : (part : List (Logged P)) → all_entries k.opening k.later ≡ part → (found : Part mac answers first s log k.before k.start part k.last)
@@ -208,7 +209,7 @@ module _ {H P : Type 0} (mac : H → List ℕ → List ℕ → List ℕ) (answer
 
       -- ---- the rounds suffice
 
-      few-at : (part : List (Logged P)) (last : AgentRecord H P) → (found : Part mac answers first s log k.before k.start part last) → AreSteady part → length last.pairs ≤ bound
+      few-at : (part : List (Logged P)) (last : AgentRecord H P) → (found : Part mac answers first s log k.before k.start part last) → AreSteady false part → length last.pairs ≤ bound
       few-at part last found steadily =
           let le : length last.pairs ≤ pair_bound limit most (gathered_count k.before) (signal_count k.before) =
           few-pairs mac answers most limit first s log fresh limited few found.rest part k.before last found.following found.split steadily
@@ -217,13 +218,13 @@ module _ {H P : Type 0} (mac : H → List ℕ → List ℕ → List ℕ) (answer
 
       later-timeouts : timeout_count (entries_of o.oldest) ≤ many
       later-timeouts =
-          let le = few-timeouts o.oldest (λ x has. (f.passing x (later-is x has)).between) in
+          let le = few-timeouts (is_modern k.start.timing) o.oldest (λ x has. (f.passing x (later-is x has)).between) in
           let count : length o.oldest ≡ many = o.count in
           omega (arith, le, count)
 
       all-timeouts : timeout_count (all_entries k.opening o.oldest) ≤ many + 1
       all-timeouts =
-          let one : timeout_count (entries_of (k.opening ∷ [])) ≤ 1 = few-timeouts (k.opening ∷ []) opening-between in
+          let one : timeout_count (entries_of (k.opening ∷ [])) ≤ 1 = few-timeouts (is_modern k.start.timing) (k.opening ∷ []) opening-between in
           let sum = sum_by-append (λ (y : Logged P). cond (is_timeout y.call) 1 0) (entries_of o.oldest) (entries_of (k.opening ∷ [])) in
           let le = later-timeouts in
           omega (arith, one, sum, le)
@@ -307,11 +308,11 @@ module _ {H P : Type 0} (mac : H → List ℕ → List ℕ → List ℕ) (answer
       parts : Apart first s log k.before k.start k.last (entries_of k.later) (entries_of (k.opening ∷ []))
       parts = apart first s log k.before k.start k.last (entries_of k.later) (entries_of (k.opening ∷ [])) k.found k.consents
 
-      steady-opening : AreSteady (entries_of (k.opening ∷ []))
-      steady-opening x has = search (k.steady x (Has-rear (entries_of k.later) (entries_of (k.opening ∷ [])) x has))
+      steady-opening : AreSteady false (entries_of (k.opening ∷ []))
+      steady-opening = steady-as-original (is_modern k.start.timing) (entries_of (k.opening ∷ [])) (λ x has. search (k.steady x (Has-rear (entries_of k.later) (entries_of (k.opening ∷ [])) x has)))
 
-      steady-others : AreSteady (entries_of k.later)
-      steady-others x has = search (k.steady x (Has-front (entries_of k.later) (entries_of (k.opening ∷ [])) x has))
+      steady-others : AreSteady false (entries_of k.later)
+      steady-others = steady-as-original (is_modern k.start.timing) (entries_of k.later) (λ x has. search (k.steady x (Has-front (entries_of k.later) (entries_of (k.opening ∷ [])) x has)))
 
       fewer-times : length k.later < many → length k.later * (pace + delay) ≤ many * (pace + delay)
       fewer-times fewer = mul-le-mul_right (pace + delay) (omega (arith, fewer))

@@ -13,7 +13,7 @@ use Rattle.is_stun.specs.Message.{Message}
 use Rattle.is_stun.specs.declared.timing.StunTiming.{StunTiming}
 use Rattle.is_rules.specs.Accepting.{Takes}
 use Rattle.is_rules.specs.Agent.{AgentRecord}
-use Rattle.is_rules.specs.Answers.{TakesSuccess, TakesFailure}
+use Rattle.is_rules.specs.Answers.{HandlesSuccess, HandlesFailure}
 use Rattle.is_rules.specs.Checking.{all_asked, ChecksTop, MayCheck}
 use Rattle.is_rules.specs.declared.credentials.IceCreds.{IceCreds}
 use Rattle.is_rules.specs.declared.places.RemotePlace.{RemotePlace}
@@ -30,7 +30,7 @@ use Rattle.is_rules.specs.Places.{local_place}
 use Rattle.is_rules.specs.Request.{RequestRecord, request_in}
 use Rattle.is_rules.specs.Roles.{conflict_of, switched}
 use Rattle.is_rules.specs.Settling.{loses_selected, Reselects}
-use Rattle.is_rules.specs.Serving.{is_misled, names_another, pair_served, request_counted, selects_at_requests, with_sender, with_sender_at, Drops, Queues, RecordsAndResponds, FindsOrAddsPair, AddsUnknownSender, CountsAndServes, ResolvesRoleConflictBy, ResolvesRoleConflict, Serves}
+use Rattle.is_rules.specs.Serving.{is_misled, is_for_other_peer, pair_served, request_counted, selects_at_requests, with_sender, with_sender_at, Drops, Queues, RecordsAndResponds, FindsOrAddsPair, AddsUnknownSender, CountsAndServes, ResolvesRoleConflictBy, ResolvesRoleConflict, Serves}
 use Rattle.is_rules.specs.Steps.{SetMtu, SetControlTieBreaker, SetMaxCandidatePairs, SetMaxDiscovered, SetIceLite, SetRenomination, SetConsent, SetProfile, SetTimingAdvance, SetInitialStunRto, SetMaxStunRto, SetMaxStunRetransmits, SetLiteTimeout, SetLocalPreference, SetControlling, SetLocalCredentials, SetRemoteCredentials, SkipPairIds, AddLocalCandidate, AddRemoteCandidate, InvalidateCandidate, RestartIce, RecreateCandidatePairs, ReceivePacket, HandleTimeout, PollTransmit, PollTimeout, PollEvent, Entry, Becomes, Receives, NotCalled, quiet}
 use Rattle.is_rules.specs.Settings.{with_retransmits}
 use Rattle.is_rules.specs.Timeouts.{at_request, at_timeout, is_expired, expired_gone, timeout_begun, RemovesExpired, MaintainsPairs, ServesQueued}
@@ -38,7 +38,7 @@ use Rattle.is_rules.specs.Queue.{request_at}
 use Rattle.is_theorems.proofs.CallEffects.AddedCandidates.{by_adding_local, by_adding_remote, by_waking}
 use Rattle.is_theorems.proofs.RuleEffects.UnchangedSettings.{either}
 use Rattle.is_theorems.proofs.RuleEffects.NominatedPairs.{SelectsPath, selects_path}
-use Rattle.is_theorems.proofs.CallEffects.FailedCallsAndNewAgents.{mtu_kept, controlling_kept, local_kept, remote_kept, restart_kept, recreation_kept, enrolment_kept, storing_kept}
+use Rattle.is_theorems.proofs.CallEffects.FailedCallsAndNewAgents.{mtu_kept, local_kept, remote_kept, restart_kept, recreation_kept, enrolment_kept, storing_kept}
 use Rattle.is_theorems.specs.Pacing.{PacingIsSet}
 use Rattle.is_theorems.proofs.RuleEffects.NotedErrors.{recoded, by_failure}
 use Rattle.is_rules.specs.Leaving.{path_left}
@@ -88,10 +88,10 @@ module _ {H P : Type 0} where
 
   -- ---- responses
 
-  failure : (old new : AgentRecord H P) (via : Path) (m : Message) (emitted : Emitted) → TakesFailure old via m emitted new → Same old new
+  failure : (old new : AgentRecord H P) (via : Path) (m : Message) (emitted : Emitted) → HandlesFailure old via m emitted new → Same old new
   failure old new via m emitted h = by_failure (λ _ a. Same old a) old new via m emitted (λ code. refl) (λ code. refl) h
 
-  success : (now : ℕ) (old new : AgentRecord H P) (via : Path) (m : Message) (emitted : Emitted) → TakesSuccess now old via m emitted new → Same old new
+  success : (now : ℕ) (old new : AgentRecord H P) (via : Path) (m : Message) (emitted : Emitted) → HandlesSuccess now old via m emitted new → Same old new
   success now old new via m emitted (recorded, (place, p, after, at, keeps, answered, made), (named, mid, nominates, emitted_is, done)) =
       made-of _ new done ∙ (nominates-same recorded mid named nominates ∙ made-of _ recorded made)
 
@@ -133,7 +133,7 @@ module _ {H P : Type 0} where
       here (Some l) s new emitted h = resolves (conflict_of s q) l s new emitted h
 
       pub serves : (s new : AgentRecord H P) (emitted : Emitted) → Serves mac q s emitted new → Same s new
-      serves s new emitted h = either (names_another s q) h
+      serves s new emitted h = either (is_for_other_peer s q) h
           (λ _ k. made-of s new k.1)
           (λ _ k. here (local_place s.local q) s new emitted k)
 
@@ -217,8 +217,7 @@ module _ {H P : Type 0} where
     pacing-is-set old new s t (SetMaxStunRetransmits n) e h = retransmits (n == 0) n old new s t e h
     pacing-is-set old new s t (SetLiteTimeout by) e h = paced-of _ new h.1
     pacing-is-set old new s t (SetLocalPreference object) e h = paced-of _ new h.1
-    pacing-is-set old new s t (SetControlling controlling) e (Ok _, reported, h, drawn) = paced-of _ new h.1
-    pacing-is-set old new s t (SetControlling controlling) e (Err error, reported, h, drawn) = paced-of old new (controlling_kept old new controlling error h)
+    pacing-is-set old new s t (SetControlling controlling) e h = paced-of _ new h.1
     pacing-is-set old new s t (SetLocalCredentials creds) e (Ok _, reported, h, drawn) = paced-of _ new h.1
     pacing-is-set old new s t (SetLocalCredentials creds) e (Err error, reported, h, drawn) = paced-of old new (local_kept old new creds error h)
     pacing-is-set old new s t (SetRemoteCredentials creds) e (Ok _, reported, h, drawn) = paced-of _ new h.1
@@ -234,10 +233,8 @@ module _ {H P : Type 0} where
         (λ made. paced-of old mid made) (λ f. forms _ mid _ f) (λ k _ addr f. forms _ mid _ f))
     pacing-is-set old new s t (AddRemoteCandidate c) e (Err error, emitted, reported, (path, mid, h, again, is), drawn) =
         reselected old mid new path again (paced-of old mid (storing_kept old mid c error h))
-    pacing-is-set old new s t (InvalidateCandidate c) e (Ok found, emitted, reported, (path, mid, h, again, is), drawn) =
+    pacing-is-set old new s t (InvalidateCandidate c) e (found, emitted, reported, (path, mid, h, again, is), drawn) =
         reselected old mid new path again (invalidates old mid (local_to_discard c old) (remote_to_discard c old) found h)
-    pacing-is-set old new s t (InvalidateCandidate c) e (Err error, emitted, reported, (path, mid, h, again, is), drawn) =
-        reselected old mid new path again (paced-of old mid h.1)
     pacing-is-set old new s t (RestartIce creds keep) e (Ok _, reported, h, drawn) = paced-of _ new h.1
     pacing-is-set old new s t (RestartIce creds keep) e (Err error, reported, h, drawn) = paced-of old new (restart_kept old new creds keep error h)
     pacing-is-set old new s t RecreateCandidatePairs e (Ok _, reported, (some, h), drawn) = forms _ new _ h

@@ -15,7 +15,7 @@ use Rattle.is_theorems.proofs.CallEffects.PathAndTradeEffects.{path_theorem}
 use Rattle.is_theorems.proofs.CallEffects.AddedCandidates.{by_waking}
 use Rattle.is_theorems.proofs.ExecutionLogs.LogTheorems.{runs_sound}
 use Rattle.is_theorems.proofs.ExecutionLogs.LogSegments.{no-case, run-on}
-use Rattle.is_theorems.proofs.CallEffects.FailedCallsAndNewAgents.{mtu_kept, controlling_kept, local_kept}
+use Rattle.is_theorems.proofs.CallEffects.FailedCallsAndNewAgents.{mtu_kept, local_kept}
 use Rattle.is_theorems.specs.NotStarved.{AreSteady, ConsentLastsIn, HaveConsent, RequestsAddFew, is_steady, is_timeout, timeout_count}
 use Rattle.is_theorems.proofs.RemainingChecks.RemainingAfterRules.{Held, Spends, spends-to, spends-none, spends-on, receives-spends, times-out-spends}
 use Rattle.is_theorems.proofs.RemainingChecks.RemainingOfPairs.{unspent-alike, unspents-map, unspents-most}
@@ -30,7 +30,7 @@ module _ {H P : Type 0} (mac : H → List ℕ → List ℕ → List ℕ) (answer
   kept old needed new h made = spends-to m 0 old needed new h made
 
   -- a call of such a segment
-  call-spends : (call : Call P) (old new : AgentRecord H P) (s t : Stream) (e : Entry) → IsSound old → old.lite ≡ false → old.timing.max_retransmits ≡ m → is_steady call ≡ true
+  call-spends : (call : Call P) (old new : AgentRecord H P) (s t : Stream) (e : Entry) → IsSound old → old.lite ≡ false → old.timing.max_retransmits ≡ m → is_steady false call ≡ true
       → ((now : ℕ) → call ≡ HandleTimeout now → HaveConsent now old) → Step mac answers old s call e new t → Spends m (cond (is_timeout call) 1 0) old new
   call-spends (ReceivePacket now via bytes) old new s t e sound full most is consents (h, drawn) = receives-spends m mac answers now old new via bytes e h
   call-spends (HandleTimeout now) old new s t e sound full most is consents (r, emitted, reported, h) = times-out-spends m mac now old new s t r emitted full most sound.rising (consents now refl) h
@@ -47,13 +47,12 @@ module _ {H P : Type 0} (mac : H → List ℕ → List ℕ → List ℕ) (answer
   call-spends (SetRenomination renominates) old new s t e sound full most is consents (reported, made, drawn) = kept old _ new (refl, omega arith, omega arith) made
   call-spends (SetTimingAdvance advance) old new s t e sound full most is consents (reported, made, drawn) = kept old _ new (refl, omega arith, omega arith) made
   call-spends (SetLocalPreference object) old new s t e sound full most is consents (reported, made, drawn) = kept old _ new (refl, omega arith, omega arith) made
-  call-spends (SetControlling controlling) old new s t e sound full most is consents (Ok _, reported, h, drawn) = kept old _ new (refl, omega arith, omega arith) h.1
-  call-spends (SetControlling controlling) old new s t e sound full most is consents (Err error, reported, h, drawn) = spends-none m old new (controlling_kept old new controlling error h)
+  call-spends (SetControlling controlling) old new s t e sound full most is consents (reported, made, drawn) = kept old _ new (refl, omega arith, omega arith) made
   call-spends _ old new s t e sound full most is consents step = no-case is
 
   module _ (first : AgentRecord H P) (s : Stream) (fresh : IsFresh first) (before : List (Logged P)) (start : AgentRecord H P) (u : Stream) (led : Run mac answers first s before start u)
       (full : start.lite ≡ false) (most : start.timing.max_retransmits ≡ m) where
-    pub part-spends : (part : List (Logged P)) (last : AgentRecord H P) (t : Stream) → AreSteady part → (run : RunsOn mac answers before start u part last t)
+    pub part-spends : (part : List (Logged P)) (last : AgentRecord H P) (t : Stream) → AreSteady false part → (run : RunsOn mac answers before start u part last t)
         → ConsentLastsIn mac answers before start u part last t run → Spends m (timeout_count part) start last
     part-spends [] last t steady (is, drawn) consents = spends-none m start last is
     part-spends (x ∷ part) last t steady (mid, v, run, number, given, step) consents =

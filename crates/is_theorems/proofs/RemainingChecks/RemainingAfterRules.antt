@@ -22,7 +22,7 @@ use Rattle.is_stun.specs.Message.{Message}
 use Rattle.is_stun.specs.Timing.{consent_of}
 use Rattle.is_rules.specs.Accepting.{discovered_emitted, Takes}
 use Rattle.is_rules.specs.Agent.{AgentRecord}
-use Rattle.is_rules.specs.Answers.{is_left_out, local_with, mapped_candidate, success_counted, TakesSuccess, TakesFailure}
+use Rattle.is_rules.specs.Answers.{is_left_out, local_with, mapped_candidate, success_counted, HandlesSuccess, HandlesFailure}
 use Rattle.is_rules.specs.Checking.{all_asked, ChecksTop, MayCheck}
 use Rattle.is_rules.specs.declared.credentials.IceCreds.{IceCreds}
 use Rattle.is_rules.specs.declared.places.RemotePlace.{RemotePlace}
@@ -38,7 +38,7 @@ use Rattle.is_rules.specs.Places.{local_place}
 use Rattle.is_rules.specs.Queue.{first_taken, request_at}
 use Rattle.is_rules.specs.Request.{RequestRecord, request_in}
 use Rattle.is_rules.specs.Roles.{conflict_of, switched, switched_sides, with_priority_in}
-use Rattle.is_rules.specs.Serving.{selects_at_requests, after_request, validated_by_peer, is_misled, names_another, pair_served, request_counted, with_sender, with_sender_at, Drops, Queues, RecordsAndResponds, FindsOrAddsPair, AddsUnknownSender, CountsAndServes, ResolvesRoleConflictBy, ResolvesRoleConflict, Serves, as_taken, nominated_by_peer}
+use Rattle.is_rules.specs.Serving.{selects_at_requests, after_request, validated_by_peer, is_misled, is_for_other_peer, pair_served, request_counted, with_sender, with_sender_at, Drops, Queues, RecordsAndResponds, FindsOrAddsPair, AddsUnknownSender, CountsAndServes, ResolvesRoleConflictBy, ResolvesRoleConflict, Serves, as_taken, nominated_by_peer}
 use Rattle.is_rules.specs.States.{evaluated}
 use Rattle.is_rules.specs.Steps.{Entry, Receives}
 use Rattle.is_theorems.specs.NotStarved.{HaveConsent}
@@ -153,7 +153,7 @@ module _ {H P : Type 0} where
       each m (with_priority_in (switched_sides s)) s.pairs (s.next_number * m) (λ p. refl),
     )
 
-    failure : (old new : AgentRecord H P) (via : Path) (message : Message) (emitted : Emitted) → TakesFailure old via message emitted new → Spends 0 old new
+    failure : (old new : AgentRecord H P) (via : Path) (message : Message) (emitted : Emitted) → HandlesFailure old via message emitted new → Spends 0 old new
     failure old new via message emitted h =
         by_failure (λ _ a. Spends 0 old a) old new via message emitted notes
         (λ code. spends-on 0 0 old (recoded code old) (switched (recoded code old)) (notes code) (switches (recoded code old))) h where
@@ -169,7 +169,7 @@ module _ {H P : Type 0} where
       by true = omega arith
       by false = let long : length (a.local ++ mapped_candidate a p mapped ∷ []) ≡ length a.local + 1 = length-append a.local (mapped_candidate a p mapped ∷ []) in omega (arith, long)
 
-    success : (now : ℕ) (old new : AgentRecord H P) (via : Path) (message : Message) (emitted : Emitted) → TakesSuccess now old via message emitted new → Spends 0 old new
+    success : (now : ℕ) (old new : AgentRecord H P) (via : Path) (message : Message) (emitted : Emitted) → HandlesSuccess now old via message emitted new → Spends 0 old new
     success now old new via message emitted (recorded, (place, p, after, at, keeps, (i, c, c_at, is), made), (named, mid, nominates, emitted_is, done)) =
         spends-on 0 0 old recorded new
         (spends-to 0 old _ recorded (
@@ -228,7 +228,7 @@ module _ {H P : Type 0} where
         here (Some l) s new emitted h = resolves (conflict_of s q) l s new emitted h
 
         pub serves-spends : (s new : AgentRecord H P) (emitted : Emitted) → Serves mac q s emitted new → Spends 0 s new
-        serves-spends s new emitted h = either (names_another s q) h (λ _ k. spends-none s new k.1) (λ _ k. here (local_place s.local q) s new emitted k)
+        serves-spends s new emitted h = either (is_for_other_peer s q) h (λ _ k. spends-none s new k.1) (λ _ k. here (local_place s.local q) s new emitted k)
 
         requested : (remote : Option IceCreds) (s new : AgentRecord H P) (emitted : Emitted) → MatchOption remote (Queues q s emitted new) (λ _. Serves mac q s emitted new) → Spends 0 s new
         requested None s new emitted h = spends-to 0 s _ new (refl, omega arith, omega arith) h.1

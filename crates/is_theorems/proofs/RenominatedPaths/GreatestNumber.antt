@@ -24,7 +24,7 @@ use Rattle.is_rules.specs.declared.roles.Conflict.{Conflict}
 use Rattle.is_rules.specs.declared.roles.Conflict.TheVariants.{Absent, Send487, SwitchRole}
 use Rattle.is_rules.specs.Accepting.{Takes}
 use Rattle.is_rules.specs.Agent.{AgentRecord}
-use Rattle.is_rules.specs.Answers.{TakesFailure}
+use Rattle.is_rules.specs.Answers.{HandlesFailure}
 use Rattle.is_rules.specs.Effects.{last_of}
 use Rattle.is_rules.specs.Discarding.{local_to_discard, remote_to_discard, InvalidatesAt, Invalidates}
 use Rattle.is_rules.specs.Emitted.{nothing_emitted, selected_in, selected_only}
@@ -38,7 +38,7 @@ use Rattle.is_rules.specs.Queue.{request_at, first_taken, queued}
 use Rattle.is_rules.specs.Remote.{AddsRemote}
 use Rattle.is_rules.specs.Request.{RequestRecord, request_in}
 use Rattle.is_rules.specs.Roles.{conflict_of, switched}
-use Rattle.is_rules.specs.Serving.{after_request, pair_served, selects_at_requests, with_sender, with_sender_at, sender_candidate, request_counted, is_misled, names_another}
+use Rattle.is_rules.specs.Serving.{after_request, pair_served, selects_at_requests, with_sender, with_sender_at, sender_candidate, request_counted, is_misled, is_for_other_peer}
 use Rattle.is_rules.specs.Serving.{Drops, RecordsAndResponds, FindsOrAddsPair, AddsUnknownSender, CountsAndServes, ResolvesRoleConflictBy, ResolvesRoleConflict, Serves}
 use Rattle.is_rules.specs.Sound.{IsSound}
 use Rattle.is_rules.specs.Sending.{path_of}
@@ -65,8 +65,8 @@ use Rattle.is_theorems.proofs.ExecutionLogs.LogTheorems.{holds, runs_sound}
 use Rattle.is_theorems.proofs.PathSelection.FirstNumbered.{first-in, first-most, first-there}
 use Rattle.is_theorems.proofs.PathSelection.GreatestEligiblePair.{nominates_top}
 use Rattle.is_theorems.proofs.PathSelection.NominationPoints.{All1, All3, AllNumbers, FitOf, fit_of, maintains_pairs_top, success_top}
-use Rattle.is_theorems.proofs.PathSelection.NominatedByPeerPerAgent.{course_on}
-use Rattle.is_theorems.proofs.StoredPairs.TransactionsOverPackets.{sound-course}
+use Rattle.is_theorems.proofs.PathSelection.NominatedByPeerPerAgent.{execution_on}
+use Rattle.is_theorems.proofs.StoredPairs.TransactionsOverPackets.{sound-execution}
 use Rattle.is_theorems.proofs.RenominatedPaths.LastNominatedPerAgent.{names, new-sound}
 use Rattle.is_theorems.proofs.RenominatedPaths.OnePathAtBothAgents.{followed-selected, numbered-is, selects-followed}
 use Rattle.is_theorems.proofs.RuleEffects.ChangedPairs.{eligible_valid, one_changed, parts_of}
@@ -192,7 +192,7 @@ module _ {H P : Type 0} where
 
     serves-settles : (s new : AgentRecord H P) (emitted : Emitted) → ((l : ℕ) → local_place s.local q ≡ Some l → l < length s.local) → FitOf s
         → Serves mac q s emitted new → Settles s emitted new
-    serves-settles s new emitted within fit h = either (names_another s q) h
+    serves-settles s new emitted within fit h = either (is_for_other_peer s q) h
         (λ _ k. settles-same s new emitted k.0 k.1)
         (λ _ k. here-settles (local_place s.local q) s new emitted refl within fit k)
 
@@ -208,7 +208,7 @@ module _ {H P : Type 0} where
     request-settles None q mid emitted (is, made) = inl (ap (λ (a : AgentRecord H P). a.selected_pair) made, ap (λ (x : Emitted). last_of x.selected_paths) is)
     request-settles (Some peer) q mid emitted h = serves-settles mac q old mid emitted (within q) fit h
 
-    failed-settles : (mid : AgentRecord H P) (via : Path) (m : Message) (emitted : Emitted) → TakesFailure old via m emitted mid → Settles old emitted mid
+    failed-settles : (mid : AgentRecord H P) (via : Path) (m : Message) (emitted : Emitted) → HandlesFailure old via m emitted mid → Settles old emitted mid
     failed-settles mid via m emitted h = by_failure (λ e a. Settles old e a) old mid via m emitted (λ code. inl (refl, refl)) (λ code. inl (refl, refl)) h
 
     taken-settles : (c : Class) (now : ℕ) (mid : AgentRecord H P) (via : Path) (m : Message) (emitted : Emitted) → Takes mac c now old via m emitted mid → Settles old emitted mid
@@ -280,9 +280,8 @@ module _ {H P : Type 0} where
       by None (Some place) h = ap (λ (a : AgentRecord H P). a.selected_pair) h.1
       by None None h = ap (λ (a : AgentRecord H P). a.selected_pair) h.1
 
-    invalidates : (c : CandidateRecord) (r : Result Bool IceError) (mid : AgentRecord H P) → Invalidates old c r mid → Leaves mid
-    invalidates c (Ok found) mid h = discards (local_to_discard c old) (remote_to_discard c old) found mid h
-    invalidates c (Err error) mid h = leaves-same mid h.1
+    invalidates : (c : CandidateRecord) (found : Bool) (mid : AgentRecord H P) → Invalidates old c found mid → Leaves mid
+    invalidates c found mid h = discards (local_to_discard c old) (remote_to_discard c old) found mid h
 
     selects-settles : (loses : Bool) (mid : AgentRecord H P) (path : Option Path) → Leaves mid → Reselects loses mid path new
         → Settles old (selected_only path) new
@@ -303,7 +302,7 @@ module _ {H P : Type 0} where
     settles (AddRemoteCandidate c) (r, emitted, is, (path, mid, h, again, emits), drawn) =
         candidate-settles (answer_by done r) emitted is path mid (adds-remote c r mid h) again emits
     settles (InvalidateCandidate c) (r, emitted, is, (path, mid, h, again, emits), drawn) =
-        candidate-settles (answer_by Flag r) emitted is path mid (invalidates c r mid h) again emits
+        candidate-settles (Flag r) emitted is path mid (invalidates c r mid h) again emits
     settles (ReceivePacket now via bytes) h = packet-settles now via bytes h.0
     settles (HandleTimeout now) (r, emitted, is, h) = by-entry (answer_by done r) emitted is (timeout-settles now r emitted h)
     settles call h = calm-settles call refl refl h
@@ -426,10 +425,10 @@ module _ {H P : Type 0} where
 
     pub greatest-last : GreatestAreLast mac answers
     greatest-last first near last before s t now timeout number path new led step done none (goes, (n, most)) =
-        let fit : IsSound near = sound-course mac answers before first near (new-sound mac answers first new) led in
+        let fit : IsSound near = sound-execution mac answers before first near (new-sound mac answers first new) led in
         let law = path_theorem mac answers near last s t (HandleTimeout now) timeout fit tt step in
         let well : timeout.answer ≡ Done = search done in let idle : request_at now near ≡ None = search none in
         let selected = selects-followed mac answers last number most.pair (follows-greatest last number n path goes most) most.eligible (law.0.points (well, idle)) in
         let able = numbered-is last.controlling last.pairs number most.pair most.eligible in
-        let whole = course_on mac answers before ((HandleTimeout now, timeout) ∷ []) first near last led (last, s, t, tt, step, refl) in
+        let whole = execution_on mac answers before ((HandleTimeout now, timeout) ∷ []) first near last led (last, s, t, tt, step, refl) in
         (names mac answers (before ++ (HandleTimeout now, timeout) ∷ []) first last new whole most.pair able.0 (selected ∙ ap Some (sym able.1))).2 ∙ ap Some most.on

@@ -24,7 +24,7 @@ use Rattle.is_rules.specs.declared.emitted.Issued.{Issued}
 use Rattle.is_rules.specs.Emitted.{issued_as, nothing_emitted, reversed}
 use Rattle.is_rules.specs.Accepting.{Takes, discovered_emitted}
 use Rattle.is_rules.specs.Agent.{AgentRecord}
-use Rattle.is_rules.specs.Answers.{TakesSuccess, TakesFailure}
+use Rattle.is_rules.specs.Answers.{HandlesSuccess, HandlesFailure}
 use Rattle.is_theorems.specs.Asked.{IsAskedOn}
 use Rattle.is_rules.specs.Brought.{IsServing}
 use Rattle.is_rules.specs.Checking.{all_asked, ChecksTop, MayCheck}
@@ -37,7 +37,7 @@ use Rattle.is_rules.specs.Queue.{first_taken, queued, request_at}
 use Rattle.is_rules.specs.Request.{RequestRecord, request_in}
 use Rattle.is_rules.specs.Roles.{conflict_of, switched}
 use Rattle.is_rules.specs.Sending.{path_between, path_of}
-use Rattle.is_rules.specs.Serving.{nominates, trigger_time, selects_at_requests, after_request, Drops, is_misled, names_another, nominated_last, pair_served, replied, request_counted, sender_candidate, served, validated_by_peer, with_sender, with_sender_at, RecordsAndResponds, FindsOrAddsPair, AddsUnknownSender, CountsAndServes, ResolvesRoleConflictBy, ResolvesRoleConflict, Serves, as_taken, nominated_by_peer}
+use Rattle.is_rules.specs.Serving.{nominates, trigger_time, selects_at_requests, after_request, Drops, is_misled, is_for_other_peer, nominated_last, pair_served, replied, request_counted, sender_candidate, served, validated_by_peer, with_sender, with_sender_at, RecordsAndResponds, FindsOrAddsPair, AddsUnknownSender, CountsAndServes, ResolvesRoleConflictBy, ResolvesRoleConflict, Serves, as_taken, nominated_by_peer}
 use Rattle.is_rules.specs.Settling.{settled}
 use Rattle.is_rules.specs.Sound.{IsSound}
 use Rattle.is_rules.specs.Steps.{Call, Entry, ReceivePacket, HandleTimeout, Done, Flag, answer_by, done, Receives, Step}
@@ -129,11 +129,11 @@ module _ {H P : Type 0} where
       check-last mac now kept.remote_creds kept new s t issued checking
       ∙ (gives-up-last now named kept second giving ∙ nominates-last (path_left now (at_timeout now old)) named first nominating)
 
-  success-last : (now : ℕ) (old new : AgentRecord H P) (via : Path) (m : Message) (emitted : Emitted) → TakesSuccess now old via m emitted new → new.last_nominated ≡ old.last_nominated
+  success-last : (now : ℕ) (old new : AgentRecord H P) (via : Path) (m : Message) (emitted : Emitted) → HandlesSuccess now old via m emitted new → new.last_nominated ≡ old.last_nominated
   success-last now old new via m emitted (recorded, (place, p, after, found, on, takes, made), (path, named, nominating, is, concluded)) =
       ap (λ (a : AgentRecord H P). a.last_nominated) concluded ∙ nominates-last recorded named path nominating ∙ ap (λ (a : AgentRecord H P). a.last_nominated) made
 
-  failure-last : (old new : AgentRecord H P) (via : Path) (m : Message) (emitted : Emitted) → TakesFailure old via m emitted new → new.last_nominated ≡ old.last_nominated
+  failure-last : (old new : AgentRecord H P) (via : Path) (m : Message) (emitted : Emitted) → HandlesFailure old via m emitted new → new.last_nominated ≡ old.last_nominated
   failure-last old new via m emitted h = by_failure (λ _ a. a.last_nominated ≡ old.last_nominated) old new via m emitted (λ code. refl) (λ code. refl) h
 
   -- ---- serving
@@ -270,7 +270,7 @@ module _ {H P : Type 0} where
     here-at (Some l) s new emitted is based h = resolves (conflict_of s q) l s new emitted (reached s.local q l based is).1 h
 
     serves : (s new : AgentRecord H P) (emitted : Emitted) → ((c : CandidateRecord) → Has s.local c → IsBased c) → Serves mac q s emitted new → Notes s emitted new
-    serves s new emitted based h = either (names_another s q) h (λ _ k. dropped s new emitted k) (λ _ k. here-at (local_place s.local q) s new emitted refl based k)
+    serves s new emitted based h = either (is_for_other_peer s q) h (λ _ k. dropped s new emitted k) (λ _ k. here-at (local_place s.local q) s new emitted refl based k)
 
   -- ---- a transition
 
@@ -327,10 +327,10 @@ module _ {H P : Type 0} where
           by-serving (request_in now via m) old (discovered_emitted m.class emitted via mid) emitted (serving-now peer known is) emitted-is refl refl made
           (serves mac (request_in now via m) old mid emitted sound.based h)
 
-      failure-silent : TakesFailure old via m emitted mid → emitted.issued ≡ None
+      failure-silent : HandlesFailure old via m emitted mid → emitted.issued ≡ None
       failure-silent h = by_failure (λ e _. e.issued ≡ None) old mid via m emitted (λ code. refl) (λ code. refl) h
 
-      success-silent : TakesSuccess now old via m emitted mid → emitted.issued ≡ None
+      success-silent : HandlesSuccess now old via m emitted mid → emitted.issued ≡ None
       success-silent (recorded, records_it, (path, named, nominating, is, concluded)) = ap (λ (y : Emitted). y.issued) is
 
       taken : (c : Class) → m.class ≡ c → Takes mac c now old via m emitted mid → Records old x new

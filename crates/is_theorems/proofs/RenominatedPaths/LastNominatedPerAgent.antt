@@ -9,12 +9,12 @@ use Rattle.is_pair.specs.Multiset.{change_at, change_pair, keeps_check, is_named
 use Rattle.is_pair.specs.Pairs.{PairRecord, is_nominated, is_valid}
 use Rattle.is_rules.specs.declared.emitted.Path.{Path}
 use Rattle.is_rules.specs.Agent.{AgentRecord}
-use Rattle.is_rules.specs.Answers.{goes_back}
+use Rattle.is_rules.specs.Answers.{is_reverse}
 use Rattle.is_theorems.specs.Asked.{IsOnlyPair, UsesAddressesOf}
-use Rattle.is_theorems.specs.AskedCourses.{selected_along, AcceptsSuccessOn, Ends, EndsAlong, IsAnsweredAlong}
+use Rattle.is_theorems.specs.AskedExecutions.{selected_along, AcceptsSuccessOn, Ends, EndsAlong, IsAnsweredAlong}
 use Rattle.is_theorems.specs.Asking.{AreNominatedOn, AcceptsNomination}
 use Rattle.is_rules.specs.Effects.{PathEffect}
-use Rattle.is_theorems.specs.Exchange.{Course}
+use Rattle.is_theorems.specs.Exchange.{Execution}
 use Rattle.is_rules.specs.Issuing.{via_out}
 use Rattle.is_theorems.specs.Logs.{Logged}
 use Rattle.is_rules.specs.Nominating.{eligible_numbered, followed, if_eligible, stays_nominated, nominates_at_once, numbers}
@@ -25,7 +25,7 @@ use Rattle.is_rules.specs.Sound.{IsSound, GivesBased}
 use Rattle.is_rules.specs.Steps.{Call, Entry, HandleTimeout, Step}
 use Rattle.is_theorems.proofs.BasicLemmas.EqualAddresses.{both}
 use Rattle.is_theorems.proofs.PathSelection.SelectedAfterResponse.{nominated-eligible}
-use Rattle.is_theorems.proofs.PathSelection.NominatedByPeerPerAgent.{course_on, names-from}
+use Rattle.is_theorems.proofs.PathSelection.NominatedByPeerPerAgent.{execution_on, names-from}
 use Rattle.is_theorems.proofs.PathSelection.NominatedByPeer.{back-on}
 use Rattle.is_rules.proofs.PairLists.ChosenPair.{named-by, no-some}
 use Rattle.is_theorems.proofs.CallEffects.PathAndTradeEffects.{path_theorem, trade_theorem}
@@ -34,8 +34,8 @@ use Rattle.is_theorems.proofs.PathSelection.SelectedPairIsNominated.{IsNamed}
 use Rattle.is_rules.proofs.PairLists.PairsByNumber.{numbered-found}
 use Rattle.is_theorems.proofs.CallEffects.ServedRequests.{Has-mapped}
 use Rattle.is_theorems.proofs.StoredPairs.PairsThatStay.{pairs-stay}
-use Rattle.is_theorems.proofs.StoredPairs.TransactionsOverPackets.{sound-course}
-use Rattle.is_theorems.specs.RenominatingCourses.{AcceptsNominationLastAlong, AcceptsNominationOnlyAlong, LastAcceptedNominationsAreLast, NominatedAreLast}
+use Rattle.is_theorems.proofs.StoredPairs.TransactionsOverPackets.{sound-execution}
+use Rattle.is_theorems.specs.RenominatingExecutions.{AcceptsNominationLastAlong, AcceptsNominationOnlyAlong, LastAcceptedNominationsAreLast, NominatedAreLast}
 use Rattle.is_theorems.specs.Shared.{IsNewlyCreated}
 use Rattle.is_theorems.proofs.RenominatedPaths.LastNominatedPair.{IsRecordedOn, Records, records-by}
 use Rattle.is_theorems.proofs.RenominatedPaths.OnePathAtBothAgents.{follows-last, path-sent, selects-followed}
@@ -56,16 +56,16 @@ module _ {H P : Type 0} where
 
     -- ---- the path that was selected last
 
-    pub names : (xs : List (Call P × Entry)) (first last : AgentRecord H P) → IsNewlyCreated first → Course mac answers xs first last → IsNamed (selected_along None xs) last
-    names xs first last new course = names-from mac answers xs first last (new-sound first new) (ap (λ (a : AgentRecord H P). a.pairs) new.3) course
+    pub names : (xs : List (Call P × Entry)) (first last : AgentRecord H P) → IsNewlyCreated first → Execution mac answers xs first last → IsNamed (selected_along None xs) last
+    names xs first last new execution = names-from mac answers xs first last (new-sound first new) (ap (λ (a : AgentRecord H P). a.pairs) new.3) execution
 
     -- ---- the controlling agent
 
     pub nominated-last : NominatedAreLast mac answers
     nominated-last first old sent before s t now timeout check id new led step sends set nominated =
         by (checks-as mac answers old sent s t now (via_out check) id timeout sends.emitted step) where
-          whole : Course mac answers (before ++ (HandleTimeout now, timeout) ∷ []) first sent
-          whole = course_on mac answers before ((HandleTimeout now, timeout) ∷ []) first old sent led (sent, s, t, tt, step, refl)
+          whole : Execution mac answers (before ++ (HandleTimeout now, timeout) ∷ []) first sent
+          whole = execution_on mac answers before ((HandleTimeout now, timeout) ∷ []) first old sent led (sent, s, t, tt, step, refl)
 
           by : Checks mac answers now (via_out check) id sent → selected_along None (before ++ (HandleTimeout now, timeout) ∷ []) ≡ Some (via_out check)
           by c =
@@ -96,8 +96,8 @@ module _ {H P : Type 0} where
         | inr ends ↦ inr (p, has, joins, ends)
       ]
 
-      valid-along : (xs : List (Call P × Entry)) (old new : AgentRecord H P) → IsSound old → (course : Course mac answers xs old new) → IsValidAt path old
-          → IsValidAt path new ⊎ EndsAlong mac answers xs old new course path
+      valid-along : (xs : List (Call P × Entry)) (old new : AgentRecord H P) → IsSound old → (execution : Execution mac answers xs old new) → IsValidAt path old
+          → IsValidAt path new ⊎ EndsAlong mac answers xs old new execution path
       valid-along [] old new sound is valid = inl (subst (λ (a : AgentRecord H P). IsValidAt path a) (sym is) valid)
       valid-along (x ∷ rest) old new sound (mid, s, t, based, step, more) valid =
           elim (valid-next old mid s t x.0 x.1 sound based step valid) [
@@ -108,12 +108,12 @@ module _ {H P : Type 0} where
       valid-now : (old new : AgentRecord H P) (call : Call P) (e : Entry) → PathEffect mac old call e new → AcceptsSuccessOn call e path → IsValidAt path new
       valid-now old new call e f (at, by, m, brings, success, back) =
           let k = f.taken at by m brings success in
-          let on = both (keeps_check m.id k.0) (goes_back by (path_of new k.0)) k.2 in
+          let on = both (keeps_check m.id k.0) (is_reverse by (path_of new k.0)) k.2 in
           (k.0, k.1, k.3, back-on by (path_of new k.0) path on.1 back)
 
-      answered-valid : (xs : List (Call P × Entry)) (old new : AgentRecord H P) → IsSound old → (course : Course mac answers xs old new)
-          → (y : Call P × Entry) → Has xs y → AcceptsSuccessOn y.0 y.1 path → IsValidAt path new ⊎ EndsAlong mac answers xs old new course path
-      answered-valid [] old new sound course y has is = absurd has
+      answered-valid : (xs : List (Call P × Entry)) (old new : AgentRecord H P) → IsSound old → (execution : Execution mac answers xs old new)
+          → (y : Call P × Entry) → Has xs y → AcceptsSuccessOn y.0 y.1 path → IsValidAt path new ⊎ EndsAlong mac answers xs old new execution path
+      answered-valid [] old new sound execution y has is = absurd has
       answered-valid (x ∷ rest) old new sound (mid, s, t, based, step, more) y (inl same) is =
           let law = path_theorem mac answers old mid s t x.0 x.1 sound based step in
           let now : AcceptsSuccessOn x.0 x.1 path = subst (λ (z : Call P × Entry). AcceptsSuccessOn z.0 z.1 path) (sym same) is in
@@ -147,8 +147,8 @@ module _ {H P : Type 0} where
           by (inl (kept, none)) = absurd (none path (q, id, serving, uses, out, controlled))
           by (inr (one, recorded, only, asked)) = subst (λ w. IsRecordedOn new w) (sym (only path (q, id, serving, uses, out, controlled))) recorded
 
-      recorded-along : (xs : List (Call P × Entry)) (old new : AgentRecord H P) → IsSound old → (course : Course mac answers xs old new) → AcceptsNominationOnlyAlong mac answers xs old new course path
-          → IsRecordedOn old path → IsRecordedOn new path ⊎ EndsAlong mac answers xs old new course path
+      recorded-along : (xs : List (Call P × Entry)) (old new : AgentRecord H P) → IsSound old → (execution : Execution mac answers xs old new) → AcceptsNominationOnlyAlong mac answers xs old new execution path
+          → IsRecordedOn old path → IsRecordedOn new path ⊎ EndsAlong mac answers xs old new execution path
       recorded-along [] old new sound is only was = inl (subst (λ (a : AgentRecord H P). IsRecordedOn a path) (sym is) was)
       recorded-along (x ∷ rest) old new sound (mid, s, t, based, step, more) (only, later) was =
           let here : (one : Path) → AcceptsNomination old x.0 x.1 one → one ≡ path = λ one accepts_nomination. search (only one accepts_nomination) in
@@ -157,9 +157,9 @@ module _ {H P : Type 0} where
             | inr ends ↦ inr (inl ends)
           ]
 
-      recorded-last : (xs : List (Call P × Entry)) (old new : AgentRecord H P) → IsSound old → (course : Course mac answers xs old new) → AcceptsNominationLastAlong mac answers xs old new course path
-          → IsRecordedOn new path ⊎ EndsAlong mac answers xs old new course path
-      recorded-last [] old new sound course asks = absurd asks
+      recorded-last : (xs : List (Call P × Entry)) (old new : AgentRecord H P) → IsSound old → (execution : Execution mac answers xs old new) → AcceptsNominationLastAlong mac answers xs old new execution path
+          → IsRecordedOn new path ⊎ EndsAlong mac answers xs old new execution path
+      recorded-last [] old new sound execution asks = absurd asks
       recorded-last (x ∷ rest) old new sound (mid, s, t, based, step, more) (inl (accepts_nomination, controlled, later)) =
           let role : mid.controlling ≡ false = search controlled in
           elim (recorded-along rest mid new (path_theorem mac answers old mid s t x.0 x.1 sound based step).1 more later (recorded-now old mid s t x.0 x.1 sound based step accepts_nomination role)) [
@@ -196,15 +196,15 @@ module _ {H P : Type 0} where
     ]
 
     pub last-nomination_accepted : LastAcceptedNominationsAreLast mac answers
-    last-nomination_accepted first start near last before xs s t now timeout path new led course step done none set plain controlled asks replied only_pair =
-        by (sound-course mac answers before first start (new-sound first new) led) where
+    last-nomination_accepted first start near last before xs s t now timeout path new led execution step done none set plain controlled asks replied only_pair =
+        by (sound-execution mac answers before first start (new-sound first new) led) where
           Said : Type 0
           Said = (selected_along None (before ++ (xs ++ (HandleTimeout now, timeout) ∷ [])) ≡ Some path)
-              ⊎ (EndsAlong mac answers xs start near course path ⊎ Ends answers near (HandleTimeout now) timeout path)
+              ⊎ (EndsAlong mac answers xs start near execution path ⊎ Ends answers near (HandleTimeout now) timeout path)
 
-          whole : Course mac answers (before ++ (xs ++ (HandleTimeout now, timeout) ∷ [])) first last
-          whole = course_on mac answers before (xs ++ (HandleTimeout now, timeout) ∷ []) first start last led
-              (course_on mac answers xs ((HandleTimeout now, timeout) ∷ []) start near last course (last, s, t, tt, step, refl))
+          whole : Execution mac answers (before ++ (xs ++ (HandleTimeout now, timeout) ∷ [])) first last
+          whole = execution_on mac answers before (xs ++ (HandleTimeout now, timeout) ∷ []) first start last led
+              (execution_on mac answers xs ((HandleTimeout now, timeout) ∷ []) start near last execution (last, s, t, tt, step, refl))
 
           at_last : IsSound near → IsRecordedOn last path → IsValidAt path last → Said
           at_last sound r w =
@@ -232,11 +232,11 @@ module _ {H P : Type 0} where
 
           by : IsSound start → Said
           by sound =
-              let sound_near = sound-course mac answers xs start near sound course in
+              let sound_near = sound-execution mac answers xs start near sound execution in
               let heard : IsAnsweredAlong xs path = search replied in
-              elim (recorded-last path xs start near sound course asks) [
+              elim (recorded-last path xs start near sound execution asks) [
                 | inr ends ↦ inr (inl ends)
-                | inl r ↦ elim (answered-valid path xs start near sound course heard.0 heard.1 heard.2) [
+                | inl r ↦ elim (answered-valid path xs start near sound execution heard.0 heard.1 heard.2) [
                   | inr ends ↦ inr (inl ends)
                   | inl w ↦ at_timeout sound_near r w
                 ]

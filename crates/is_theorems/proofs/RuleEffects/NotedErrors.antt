@@ -7,7 +7,7 @@ use Rattle.is_pair.specs.Multiset.{change_at, change_pair, is_numbered}
 use Rattle.is_pair.specs.Pairs.{PairRecord, with_error}
 use Rattle.is_stun.specs.Message.{Message}
 use Rattle.is_rules.specs.Agent.{AgentRecord}
-use Rattle.is_rules.specs.Answers.{after_error, error_noted, is_role_conflict, TakesFailure}
+use Rattle.is_rules.specs.Answers.{after_error, error_noted, is_role_conflict, HandlesFailure}
 use Rattle.is_rules.specs.declared.emitted.Emitted.{Emitted}
 use Rattle.is_rules.specs.declared.emitted.Path.{Path}
 use Rattle.is_rules.specs.Emitted.{nothing_emitted}
@@ -52,7 +52,7 @@ module _ {H P : Type 0} where
   pub by_failure : (Holds : Emitted → AgentRecord H P → Type 0) (old new : AgentRecord H P) (via : Path) (m : Message) (emitted : Emitted)
       → ((code : PairRecord → Option ℕ) → Holds nothing_emitted (recoded code old))
       → ((code : PairRecord → Option ℕ) → Holds nothing_emitted (switched (recoded code old)))
-      → TakesFailure old via m emitted new → Holds emitted new
+      → HandlesFailure old via m emitted new → Holds emitted new
   by_failure Holds old new via m emitted stays switches (p, has, on, h) =
       either (is_role_conflict m) h
       (λ _ k. either (same k.0.controlling old.controlling && not (keeps_role old)) k.3

@@ -17,11 +17,11 @@ use Rattle.is_rules.specs.Emitted.{nothing_emitted}
 use Rattle.is_rules.specs.Local.{AddsLocal}
 use Rattle.is_rules.specs.Remote.{AddsRemote}
 use Rattle.is_rules.specs.Restarting.{emptied, Recreates, Restarts}
-use Rattle.is_rules.specs.Settings.{numbers_skipped, SetsControlling, SetsMtu, with_lite_timeout, with_retransmits, with_rtos, with_consent, with_profile}
+use Rattle.is_rules.specs.Settings.{numbers_skipped, controlling_set, SetsMtu, with_lite_timeout, with_retransmits, with_rtos, with_consent, with_profile}
 use Rattle.is_rules.specs.States.{same_state}
-use Rattle.is_rules.specs.Steps.{Call, SetMtu, SetControlTieBreaker, SetMaxCandidatePairs, SetMaxDiscovered, SetIceLite, SetRenomination, SetConsent, SetProfile, SetTimingAdvance, SetInitialStunRto, SetMaxStunRto, SetMaxStunRetransmits, SetLiteTimeout, SetLocalPreference, SetControlling, SetLocalCredentials, SetRemoteCredentials, SkipPairIds, AddLocalCandidate, AddRemoteCandidate, InvalidateCandidate, RestartIce, RecreateCandidatePairs, ReceivePacket, HandleTimeout, PollTransmit, PollTimeout, PollEvent, Flag, added, done, Entry, Step, Becomes, MayDo}
+use Rattle.is_rules.specs.Steps.{Call, SetMtu, SetControlTieBreaker, SetMaxCandidatePairs, SetMaxDiscovered, SetIceLite, SetRenomination, SetConsent, SetProfile, SetTimingAdvance, SetInitialStunRto, SetMaxStunRto, SetMaxStunRetransmits, SetLiteTimeout, SetLocalPreference, SetControlling, SetLocalCredentials, SetRemoteCredentials, SkipPairIds, AddLocalCandidate, AddRemoteCandidate, InvalidateCandidate, RestartIce, RecreateCandidatePairs, ReceivePacket, HandleTimeout, PollTransmit, PollTimeout, PollEvent, Flag, added, answer_by, done, Entry, Step, Becomes, MayDo}
 use Rattle.is_theorems.proofs.CallEffects.AddedCandidates.{by_waking}
-use Rattle.is_theorems.proofs.CallEffects.FailedCallsAndNewAgents.{mtu_kept, controlling_kept, local_kept, remote_kept, restart_kept, recreation_kept}
+use Rattle.is_theorems.proofs.CallEffects.FailedCallsAndNewAgents.{mtu_kept, local_kept, remote_kept, restart_kept, recreation_kept}
 use Rattle.is_theorems.proofs.ConnectedConsent.ConnectedPairs.{HasNominated}
 use Rattle.is_theorems.proofs.RuleEffects.UnchangedSettings.{either}
 use Rattle.is_theorems.proofs.SettledStates.AfterCandidates.{adds-local, invalidates, selecting, signals}
@@ -97,15 +97,14 @@ module _ {H P : Type 0} (mac : H → List ℕ → List ℕ → List ℕ) (answer
         (λ _ k. becomes (with_retransmits n old) refl (λ live. live) (λ was. was) k)
     steps (SetLiteTimeout by) full may h = becomes (with_lite_timeout by old) refl (λ live. live) (λ was. was) h
     steps (SetLocalPreference object) full may h = becomes (record old { preference = Some object }) refl (λ live. live) (λ was. was) h
-    steps (SetControlling controlling) full may h = may-do (SetsControlling old controlling)
-        (λ nothing k. sets (record old { controlling = controlling }) refl (λ live. live) (λ was. was) nothing k.1) (controlling_kept old new controlling) h
+    steps (SetControlling controlling) full may h = becomes (controlling_set controlling old) refl (λ live. live) (λ was. was) h
     steps (SetLocalCredentials creds) full may h = may-do (SetsLocal old creds)
         (λ nothing k. sets (record old { local_creds = creds }) refl (λ live. live) (λ was. was) nothing k.1) (local_kept old new creds) h
     steps (SetRemoteCredentials creds) full may h = may-do (SetsRemote old creds)
         (λ nothing k. sets (record old { remote_creds = Some creds }) refl (λ live. live) (λ was. was) nothing k.1) (remote_kept old new creds) h
     steps (SkipPairIds n) full may h = becomes (numbers_skipped n old) refl (λ live. live) (λ was. was) h
-    steps (AddLocalCandidate c) full may h = selecting old new s t e added (AddsLocal answers old c) (λ mid r k. adds-local answers old mid c r k) h
-    steps (AddRemoteCandidate c) full may h = selecting old new s t e done (AddsRemote old c) (λ mid r k. signals old mid c r k) h
+    steps (AddLocalCandidate c) full may h = selecting old new s t e (answer_by added) (AddsLocal answers old c) (λ mid r k. adds-local answers old mid c r k) h
+    steps (AddRemoteCandidate c) full may h = selecting old new s t e (answer_by done) (AddsRemote old c) (λ mid r k. signals old mid c r k) h
     steps (InvalidateCandidate c) full may h = selecting old new s t e Flag (Invalidates old c) (λ mid r k. invalidates old mid c r k) h
     steps (RestartIce creds keep) full may h = may-do (Restarts old creds keep) (λ _ k. restarts creds keep k) (restart_kept old new creds keep) h
     steps RecreateCandidatePairs full may h = may-do (Recreates old) (λ _ k. recreates k) (recreation_kept old new) h

@@ -54,9 +54,8 @@ module _ {H P : Type 0} where
   discards old mid None (Some k) found (is, made) = subst (λ (a : AgentRecord H P). Grows old a) (sym made) (remote-discards k old)
   discards old mid None None found (is, made) = as-it-was old mid made
 
-  pub invalidates : (old mid : AgentRecord H P) (c : CandidateRecord) (r : Result Bool IceError) → Invalidates old c r mid → Grows old mid
-  invalidates old mid c (Ok found) h = discards old mid (local_to_discard c old) (remote_to_discard c old) found h
-  invalidates old mid c (Err error) h = as-it-was old mid h.1
+  pub invalidates : (old mid : AgentRecord H P) (c : CandidateRecord) (found : Bool) → Invalidates old c found mid → Grows old mid
+  invalidates old mid c found h = discards old mid (local_to_discard c old) (remote_to_discard c old) found h
 
   pub signals : (old mid : AgentRecord H P) (c : CandidateRecord) (r : Result (Unit {0}) IceError) → AddsRemote old c r mid → Grows old mid
   signals old mid c (Ok _) h = by_adding_remote old mid c h
@@ -109,7 +108,7 @@ module _ {H P : Type 0} where
           }
 
   pub selecting : {A : Type 0} (old new : AgentRecord H P) (s t : Stream) (e : Entry) (to_answer : A → Answer)
-      (Does : Result A IceError → AgentRecord H P → Type 0)
-      → ((mid : AgentRecord H P) (r : Result A IceError) → Does r mid → Grows old mid) → MaySelect to_answer Does old s e new t → Outcome old e.emitted new
+      (Does : A → AgentRecord H P → Type 0)
+      → ((mid : AgentRecord H P) (r : A) → Does r mid → Grows old mid) → MaySelect to_answer Does old s e new t → Outcome old e.emitted new
   selecting old new s t e to_answer Does does (r, emitted, is, (path, mid, h, again, out), drawn) =
       subst (λ (x : Emitted). Outcome old x new) (sym (ap (λ (x : Entry). x.emitted) is ∙ out)) (reselects old mid new path (does mid r h) again)

@@ -15,7 +15,7 @@ use Rattle.is_stun.specs.Message.{Message}
 use Rattle.is_stun.specs.Timing.{is_modern}
 use Rattle.is_rules.specs.Accepting.{discovered_emitted, HandlesPacket, Takes}
 use Rattle.is_rules.specs.Agent.{AgentRecord}
-use Rattle.is_rules.specs.Answers.{TakesFailure, TakesSuccess}
+use Rattle.is_rules.specs.Answers.{HandlesFailure, HandlesSuccess}
 use Rattle.is_rules.specs.Checking.{all_asked, check_sent, ChecksTop, MayCheck}
 use Rattle.is_rules.specs.Connecting.{is_connected}
 use Rattle.is_rules.specs.declared.credentials.IceCreds.{IceCreds}
@@ -48,7 +48,7 @@ use Rattle.is_rules.specs.Leaving.{path_left}
 module _ {H P : Type 0} where
   -- ---- responses
 
-  success : (now : ℕ) (old new : AgentRecord H P) (via : Path) (m : Message) (emitted : Emitted) → TakesSuccess now old via m emitted new
+  success : (now : ℕ) (old new : AgentRecord H P) (via : Path) (m : Message) (emitted : Emitted) → HandlesSuccess now old via m emitted new
       → Outcome old emitted new
   success now old new via m emitted (recorded, (i, p, after, found, keeps, took, made), (path, mid, nominates, is, concluded)) =
       let state : mid.state ≡ old.state = nominates-state recorded mid path nominates ∙ ap (λ (a : AgentRecord H P). a.state) made in
@@ -60,7 +60,7 @@ module _ {H P : Type 0} where
       }))
 
   module _ (mac : H → List ℕ → List ℕ → List ℕ) where
-    failure : (q : RequestRecord) (old new : AgentRecord H P) (via : Path) (m : Message) (emitted : Emitted) → TakesFailure old via m emitted new
+    failure : (q : RequestRecord) (old new : AgentRecord H P) (via : Path) (m : Message) (emitted : Emitted) → HandlesFailure old via m emitted new
         → Outcome old emitted new
     failure q old new via m emitted h = by_failure (λ e a. Outcome old e a) old new via m emitted
         (λ code. nothing-done old (recoded code old) (recoded code old) nothing_emitted (notes code) refl refl)

@@ -20,9 +20,9 @@ use Rattle.is_rules.specs.Sending.{path_of}
 use Rattle.is_rules.specs.Sound.{IsSound}
 use Rattle.is_rules.specs.States.{is_nominated_and_valid, same_state}
 use Rattle.is_rules.specs.Steps.{Call, Entry}
-use Rattle.is_theorems.specs.AskedCourses.{selected_along}
-use Rattle.is_theorems.specs.ConsentCourses.{AreNeverLite}
-use Rattle.is_theorems.specs.Exchange.{Course}
+use Rattle.is_theorems.specs.AskedExecutions.{selected_along}
+use Rattle.is_theorems.specs.ConsentExecutions.{AreNeverLite}
+use Rattle.is_theorems.specs.Exchange.{Execution}
 use Rattle.is_theorems.specs.Runs.{IsFresh}
 use Rattle.is_theorems.specs.Settled.{IsModernAlong, StatesAgree}
 use Rattle.is_theorems.proofs.BasicLemmas.EqualAddresses.{both}
@@ -145,7 +145,7 @@ module _ {H P : Type 0} where
     -- ---- executions
 
     along : (xs : List (Call P × Entry)) (old new : AgentRecord H P) (path : Option Path) → IsSound old → IsNamed path old → old.lite ≡ false → AreNeverLite xs
-        → (course : Course mac answers xs old new) → IsModernAlong mac answers xs old new course → Agrees old
+        → (execution : Execution mac answers xs old new) → IsModernAlong mac answers xs old new execution → Agrees old
         → Agrees new × IsNamed (selected_along path xs) new
     along [] old new path sound named full never is rules agrees =
         (subst (λ (a : AgentRecord H P). Agrees a) (sym is) agrees, subst (λ (a : AgentRecord H P). IsNamed path a) (sym is) named)
@@ -162,15 +162,15 @@ module _ {H P : Type 0} where
         (agrees-next old mid x.0 x.1 law.0 agrees path sound named full may o)
 
     pub states-agree : StatesAgree mac answers
-    states-agree first last xs new full course given =
+    states-agree first last xs new full execution given =
         let fresh : IsFresh first = search new in
         let never : AreNeverLite xs = search full in
-        let rules : IsModernAlong mac answers xs first last course = search given in
+        let rules : IsModernAlong mac answers xs first last execution = search given in
         let sound : IsSound first = subst (λ (a : AgentRecord H P). IsSound a) (sym fresh.2) (fresh_sound H P first.provider fresh.0 fresh.1) in
         let none : first.pairs ≡ [] = ap (λ (a : AgentRecord H P). a.pairs) fresh.2 in
         let state : first.state ≡ New = ap (λ (a : AgentRecord H P). a.state) fresh.2 in
         let named : IsNamed None first = λ p has is. absurd (subst (λ (ps : List PairRecord). Has ps p) none has) in
-        let k = along xs first last None sound named (ap (λ (a : AgentRecord H P). a.lite) fresh.2) never course rules (begins first none state) in
+        let k = along xs first last None sound named (ap (λ (a : AgentRecord H P). a.lite) fresh.2) never execution rules (begins first none state) in
         let agrees = k.0 in
         let named_last = k.1 in (
           λ connected. (let on : is_connected last.state ≡ true = search connected in

@@ -16,13 +16,13 @@ use Rattle.is_theorems.specs.Logs.{Logged}
 use Rattle.is_rules.specs.Remote.{AddsRemote, as_remote, with_remote}
 use Rattle.is_rules.specs.Restarting.{Restarts, Recreates, emptied, kept_local, restarted, with_ufrag}
 use Rattle.is_rules.specs.Credentials.{SetsLocal, SetsRemote}
-use Rattle.is_rules.specs.Settings.{SetsControlling, SetsMtu}
+use Rattle.is_rules.specs.Settings.{SetsMtu}
 use Rattle.is_rules.specs.Settling.{loses_selected, Reselects}
 use Rattle.is_theorems.specs.Runs.{IsFresh, Run, run_to}
 use Rattle.is_rules.specs.Steps.{Call, SetMtu, SetControlTieBreaker, SetMaxCandidatePairs, SetMaxDiscovered, SetIceLite, SetRenomination, SetConsent, SetProfile, SetTimingAdvance, SetInitialStunRto, SetMaxStunRto, SetMaxStunRetransmits, SetLiteTimeout, SetLocalPreference, SetControlling, SetLocalCredentials, SetRemoteCredentials, SkipPairIds, AddLocalCandidate, AddRemoteCandidate, InvalidateCandidate, RestartIce, RecreateCandidatePairs, ReceivePacket, HandleTimeout, PollTransmit, PollTimeout, PollEvent, Entry, Step, MayDo}
 use Rattle.is_theorems.proofs.CallEffects.AddedCandidates.{by_adding_local, by_adding_remote, by_waking}
 use Rattle.is_theorems.proofs.RuleEffects.UnchangedSettings.{either}
-use Rattle.is_theorems.proofs.CallEffects.FailedCallsAndNewAgents.{mtu_kept, controlling_kept, local_kept, remote_kept, restart_kept, recreation_kept, enrolment_kept, storing_kept}
+use Rattle.is_theorems.proofs.CallEffects.FailedCallsAndNewAgents.{mtu_kept, local_kept, remote_kept, restart_kept, recreation_kept, enrolment_kept, storing_kept}
 use Rattle.is_theorems.proofs.ExecutionLogs.PointsOfSegments.{deeper, later_point}
 use Rattle.is_theorems.proofs.StorageBounds.BoundedLists.{Fits, Lists, Within, fits-added, fits-changed, fits-mapped, fits-more, fits-none, fits-replaced, is_own}
 use Rattle.is_theorems.proofs.StorageBounds.UnchangedLists.{lists_of, Same, same, forms_same, reselects_same}
@@ -165,7 +165,7 @@ module _ {H P : Type 0} where
     bounds (SetMaxStunRetransmits k) _ h = kept (either (k == 0) h (λ _ x. same old new x.1) (λ _ x. ap (λ (a : AgentRecord H P). lists_of a) x.1))
     bounds (SetLiteTimeout timeout) _ (is, made, drawn) = kept (ap (λ (a : AgentRecord H P). lists_of a) made)
     bounds (SetLocalPreference object) _ (is, made, drawn) = kept (ap (λ (a : AgentRecord H P). lists_of a) made)
-    bounds (SetControlling controlling) _ h = kept (may (SetsControlling old controlling) (λ k. ap (λ (a : AgentRecord H P). lists_of a) k.1) (controlling_kept old new controlling) h)
+    bounds (SetControlling controlling) _ (is, made, drawn) = kept (ap (λ (a : AgentRecord H P). lists_of a) made)
     bounds (SetLocalCredentials creds) _ h = kept (may (SetsLocal old creds) (λ k. ap (λ (a : AgentRecord H P). lists_of a) k.1) (local_kept old new creds) h)
     bounds (SetRemoteCredentials creds) _ h = kept (may (SetsRemote old creds) (λ k. ap (λ (a : AgentRecord H P). lists_of a) k.1) (remote_kept old new creds) h)
     bounds (SkipPairIds k) _ (is, made, drawn) = kept (ap (λ (a : AgentRecord H P). lists_of a) made)
@@ -173,10 +173,8 @@ module _ {H P : Type 0} where
         λ within. selects 1 0 mid path again (adds_local most g n old mid answers c r h within)
     bounds (AddRemoteCandidate c) _ (r, emitted, is, (path, mid, h, again, emits), drawn) =
         λ within. selects 0 1 mid path again (signals most g n old mid c r h within)
-    bounds (InvalidateCandidate c) _ (Ok found, emitted, is, (path, mid, h, again, emits), drawn) =
+    bounds (InvalidateCandidate c) _ (found, emitted, is, (path, mid, h, again, emits), drawn) =
         λ within. selects 0 0 mid path again (discards most g n old mid (local_to_discard c old) (remote_to_discard c old) found h within)
-    bounds (InvalidateCandidate c) _ (Err error, emitted, is, (path, mid, h, again, emits), drawn) =
-        λ within. selects 0 0 mid path again (wider most g n 0 0 (lists_of mid) (by_same most g n old mid (same old mid h.1) within))
     bounds (RestartIce creds keep) _ h = restarts creds keep h
     bounds RecreateCandidatePairs _ h = kept (recreates h)
     bounds (ReceivePacket now via bytes) limit (h, drawn) = lifted (received most g n mac answers now old new via bytes e (limit (cc)) h)

@@ -28,7 +28,7 @@ use Rattle.is_rules.specs.declared.roles.Conflict.{Conflict}
 use Rattle.is_rules.specs.declared.roles.Conflict.TheVariants.{Absent, Send487, SwitchRole}
 use Rattle.is_rules.specs.Accepting.{Takes, HandlesPacket, discovered_emitted}
 use Rattle.is_rules.specs.Agent.{AgentRecord}
-use Rattle.is_rules.specs.Answers.{is_left_out, local_with, mapped_candidate, success_counted, TakesSuccess, TakesFailure}
+use Rattle.is_rules.specs.Answers.{is_left_out, local_with, mapped_candidate, success_counted, HandlesSuccess, HandlesFailure}
 use Rattle.is_rules.specs.Checking.{MayCheck, ChecksTop, all_asked}
 use Rattle.is_rules.specs.Forming.{Combination, SidesRecord, FormsAll, formed, sides_of, with_pair}
 use Rattle.is_rules.specs.Nominating.{Selection, Nominates, NominatesWhere, NamesTop, nominated_by_self, nominated_emitted, with_selection, followed, remains, selection_of, nominates_at_once, numbers}
@@ -36,7 +36,7 @@ use Rattle.is_rules.specs.Places.{is_at, is_live, is_reached, local_place}
 use Rattle.is_rules.specs.Queue.{first_taken, request_at}
 use Rattle.is_rules.specs.Request.{RequestRecord, request_in}
 use Rattle.is_rules.specs.Roles.{conflict_of, switched, switched_sides, with_priority_in}
-use Rattle.is_rules.specs.Serving.{selects_at_requests, after_request, is_misled, names_another, pair_served, request_counted, served, validated_by_peer, with_sender, with_sender_at, Drops, Queues, RecordsAndResponds, FindsOrAddsPair, AddsUnknownSender, CountsAndServes, ResolvesRoleConflictBy, ResolvesRoleConflict, Serves, as_taken, nominated_by_peer}
+use Rattle.is_rules.specs.Serving.{selects_at_requests, after_request, is_misled, is_for_other_peer, pair_served, request_counted, served, validated_by_peer, with_sender, with_sender_at, Drops, Queues, RecordsAndResponds, FindsOrAddsPair, AddsUnknownSender, CountsAndServes, ResolvesRoleConflictBy, ResolvesRoleConflict, Serves, as_taken, nominated_by_peer}
 use Rattle.is_rules.specs.States.{evaluated}
 use Rattle.is_rules.specs.Steps.{Entry, Receives}
 use Rattle.is_rules.specs.Settling.{settled, Reselects}
@@ -249,7 +249,7 @@ module _ {H P : Type 0} where
     by false = let e = appended_fewer old.local (mapped_candidate (success_counted old) p mapped) old.pairs inside in omega (arith, e)
 
   success_fewer : (now : ℕ) (old new : AgentRecord H P) (via : Path) (m : Message) (emitted : Emitted) → ((q : PairRecord) → Has old.pairs q → q.local < length old.local)
-      → TakesSuccess now old via m emitted new → Fewer old new
+      → HandlesSuccess now old via m emitted new → Fewer old new
   success_fewer now old new via m emitted inside (recorded, (i, p, after, found, keeps, (place, c, at, took), made), (path, mid, nominates, is, done)) =
       evaluated_fewer now old mid new done (on old recorded mid (made-as old _ recorded made counts) (nominates_fewer recorded mid path nominates)) where
         counts : extras (own_at (local_with p m.attributes.xor_mapped_address (success_counted old))) (cells (slice_set old.pairs i after)) ≤ surplus old
@@ -261,7 +261,7 @@ module _ {H P : Type 0} where
   switched_fewer : (a : AgentRecord H P) → Fewer a (switched a)
   switched_fewer a = alike a (switched a) (recast a (switched a).pairs (cells-map (with_priority_in (switched_sides a)) (λ p. refl) a.pairs))
 
-  failure_fewer : (old new : AgentRecord H P) (via : Path) (m : Message) (emitted : Emitted) → TakesFailure old via m emitted new → Fewer old new
+  failure_fewer : (old new : AgentRecord H P) (via : Path) (m : Message) (emitted : Emitted) → HandlesFailure old via m emitted new → Fewer old new
   failure_fewer old new via m emitted h =
       by_failure (λ _ a. Fewer old a) old new via m emitted notes
       (λ code. on old (recoded code old) (switched (recoded code old)) (notes code) (switched_fewer (recoded code old))) h where
@@ -316,7 +316,7 @@ module _ {H P : Type 0} where
     here (Some l) s new emitted is h = resolves_by (conflict_of s q) l s new emitted (reached-own s.local q l is) h
 
     serves : (s new : AgentRecord H P) (emitted : Emitted) → Serves mac q s emitted new → Fewer s new
-    serves s new emitted h = either (names_another s q) h (λ _ k. unchanged s new k.1) (λ _ k. here (local_place s.local q) s new emitted refl k)
+    serves s new emitted h = either (is_for_other_peer s q) h (λ _ k. unchanged s new k.1) (λ _ k. here (local_place s.local q) s new emitted refl k)
 
     requested : (remote : Option IceCreds) (s new : AgentRecord H P) (emitted : Emitted) → MatchOption remote (Queues q s emitted new) (λ _. Serves mac q s emitted new) → Fewer s new
     requested None s new emitted h = alike s new (ap (λ (a : AgentRecord H P). grid_of a) h.1)

@@ -23,7 +23,7 @@ use Rattle.is_theorems.specs.Logs.{Logged}
 use Rattle.is_rules.specs.Remote.{AddsRemote}
 use Rattle.is_rules.specs.Restarting.{Restarts, Recreates, emptied}
 use Rattle.is_rules.specs.Credentials.{SetsLocal, SetsRemote}
-use Rattle.is_rules.specs.Settings.{SetsControlling, SetsMtu}
+use Rattle.is_rules.specs.Settings.{SetsMtu}
 use Rattle.is_rules.specs.Settling.{loses_selected, Reselects}
 use Rattle.is_theorems.specs.Runs.{IsFresh, Run, run_to}
 use Rattle.is_rules.specs.Sound.{IsSound}
@@ -36,7 +36,7 @@ use Rattle.is_theorems.proofs.CallEffects.AddedCandidates.{by_adding_local, by_a
 use Rattle.is_theorems.proofs.RuleEffects.UnchangedSettings.{either}
 use Rattle.is_theorems.proofs.ExecutionLogs.LogTheorems.{runs_sound}
 use Rattle.is_theorems.proofs.ExecutionLogs.PointsOfSegments.{deeper, later_point}
-use Rattle.is_theorems.proofs.CallEffects.FailedCallsAndNewAgents.{mtu_kept, controlling_kept, local_kept, remote_kept, restart_kept, recreation_kept, enrolment_kept, storing_kept}
+use Rattle.is_theorems.proofs.CallEffects.FailedCallsAndNewAgents.{mtu_kept, local_kept, remote_kept, restart_kept, recreation_kept, enrolment_kept, storing_kept}
 
 -- a changed candidate of the same kind leaves all kinds
 kinds-put : (cs : List CandidateRecord) (r k : ℕ) (c : CandidateRecord) → c.kind ≡ (candidate_at cs r).kind → (candidate_at (slice_set cs r c) k).kind ≡ (candidate_at cs k).kind
@@ -154,7 +154,7 @@ module _ {H P : Type 0} where
     steps sound (SetMaxStunRetransmits k) h = inl (either (k == 0) h (λ _ x. kept x.1) (λ _ x. placed (cells_in _ x.1)))
     steps sound (SetLiteTimeout timeout) (is, made, drawn) = inl (placed (cells_in _ made))
     steps sound (SetLocalPreference object) (is, made, drawn) = inl (placed (cells_in _ made))
-    steps sound (SetControlling controlling) h = inl (may (SetsControlling old controlling) (λ k. placed (cells_in _ k.1)) (controlling_kept old new controlling) h)
+    steps sound (SetControlling controlling) (is, made, drawn) = inl (placed (cells_in _ made))
     steps sound (SetLocalCredentials creds) h = inl (may (SetsLocal old creds) (λ k. placed (cells_in _ k.1)) (local_kept old new creds) h)
     steps sound (SetRemoteCredentials creds) h = inl (may (SetsRemote old creds) (λ k. placed (cells_in _ k.1)) (remote_kept old new creds) h)
     steps sound (SkipPairIds k) (is, made, drawn) = inl (placed (cells_in _ made))
@@ -162,10 +162,8 @@ module _ {H P : Type 0} where
         selects (AddLocalCandidate c) mid path again (adds_local old mid answers c r h)
     steps sound (AddRemoteCandidate c) (r, emitted, is, (path, mid, h, again, emits), drawn) =
         selects (AddRemoteCandidate c) mid path again (signals old mid c r h)
-    steps sound (InvalidateCandidate c) (Ok found, emitted, is, (path, mid, h, again, emits), drawn) =
+    steps sound (InvalidateCandidate c) (found, emitted, is, (path, mid, h, again, emits), drawn) =
         selects (InvalidateCandidate c) mid path again (inl (discards old mid (local_to_discard c old) (remote_to_discard c old) found h))
-    steps sound (InvalidateCandidate c) (Err error, emitted, is, (path, mid, h, again, emits), drawn) =
-        selects (InvalidateCandidate c) mid path again (inl (unchanged old mid h.1))
     steps sound (RestartIce creds keep) h = inl (restarts creds keep h)
     steps sound RecreateCandidatePairs h = recreates h
     steps sound (ReceivePacket now via bytes) (h, drawn) = inl (received mac answers now old new via bytes e (λ p has. (sound.placed p has).0) h)

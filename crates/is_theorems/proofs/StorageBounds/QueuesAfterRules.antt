@@ -24,7 +24,7 @@ use Rattle.is_rules.specs.declared.places.RemotePlace.TheVariants.{Known, Barred
 use Rattle.is_rules.specs.declared.roles.Conflict.{Conflict}
 use Rattle.is_rules.specs.declared.roles.Conflict.TheVariants.{Absent, Send487, SwitchRole}
 use Rattle.is_rules.specs.Agent.{AgentRecord}
-use Rattle.is_rules.specs.Answers.{TakesSuccess, TakesFailure}
+use Rattle.is_rules.specs.Answers.{HandlesSuccess, HandlesFailure}
 use Rattle.is_rules.specs.Checking.{MayCheck, ChecksTop, all_asked}
 use Rattle.is_rules.specs.Forming.{Combination, FormsAll, formed, with_pair}
 use Rattle.is_rules.specs.Nominating.{Nominates, NominatesWhere, nominated_emitted, with_selection}
@@ -32,7 +32,7 @@ use Rattle.is_rules.specs.Places.{local_place}
 use Rattle.is_rules.specs.Request.{RequestRecord}
 use Rattle.is_rules.specs.Restarting.{events_kept, is_selection, unpaired}
 use Rattle.is_rules.specs.Roles.{conflict_of, switched}
-use Rattle.is_rules.specs.Serving.{trigger_time, selects_at_requests, is_misled, names_another, pair_served, request_counted, with_sender, with_sender_at, Drops, Queues, RecordsAndResponds, FindsOrAddsPair, AddsUnknownSender, CountsAndServes, ResolvesRoleConflictBy, ResolvesRoleConflict, Serves}
+use Rattle.is_rules.specs.Serving.{trigger_time, selects_at_requests, is_misled, is_for_other_peer, pair_served, request_counted, with_sender, with_sender_at, Drops, Queues, RecordsAndResponds, FindsOrAddsPair, AddsUnknownSender, CountsAndServes, ResolvesRoleConflictBy, ResolvesRoleConflict, Serves}
 use Rattle.is_rules.specs.States.{evaluated, has_nominated, has_possible, next_state, same_state, with_state}
 use Rattle.is_rules.specs.Settling.{settled, started, state_at_start, state_settled, Reselects}
 use Rattle.is_rules.specs.Timeouts.{RemovesExpired, MaintainsPairs, at_timeout, expired_gone, is_expired, start_emitted, timeout_begun}
@@ -214,14 +214,14 @@ module _ {H P : Type 0} where
 
   -- ---- responses
 
-  pub success_adds : (now : ℕ) (old new : AgentRecord H P) (via : Path) (m : Message) (emitted : Emitted) → TakesSuccess now old via m emitted new → Adds 0 2 old new
+  pub success_adds : (now : ℕ) (old new : AgentRecord H P) (via : Path) (m : Message) (emitted : Emitted) → HandlesSuccess now old via m emitted new → Adds 0 2 old new
   success_adds now old new via m emitted (recorded, (i, p, after, found, keeps, took, made), (path, mid, nominates, is, done)) =
       as-made 0 2 old (evaluated now mid) new done
       (more 0 1 0 1 old mid (evaluated now mid)
       (more 0 0 0 1 old recorded mid (same old recorded (ap (λ (a : AgentRecord H P). lines_of a) made)) (nominates_adds recorded mid path nominates))
       (evaluated_adds now mid))
 
-  pub failure_adds : (old new : AgentRecord H P) (via : Path) (m : Message) (emitted : Emitted) → TakesFailure old via m emitted new → Adds 0 0 old new
+  pub failure_adds : (old new : AgentRecord H P) (via : Path) (m : Message) (emitted : Emitted) → HandlesFailure old via m emitted new → Adds 0 0 old new
   failure_adds old new via m emitted h = by_failure (λ _ a. Adds 0 0 old a) old new via m emitted (λ code. same old (recoded code old) refl) (λ code. same old (switched (recoded code old)) refl) h
 
   pub forms_adds : (old new : AgentRecord H P) (all : List Combination) → FormsAll old all new → Adds 0 0 old new
@@ -266,7 +266,7 @@ module _ {H P : Type 0} where
     here (Some l) s new emitted h = resolves (conflict_of s q) l s new emitted h
 
     pub serves_adds : (s new : AgentRecord H P) (emitted : Emitted) → Serves mac q s emitted new → Adds 1 2 s new
-    serves_adds s new emitted h = either (names_another s q) h (λ _ k. none s new (kept s new k.1)) (λ _ k. here (local_place s.local q) s new emitted k)
+    serves_adds s new emitted h = either (is_for_other_peer s q) h (λ _ k. none s new (kept s new k.1)) (λ _ k. here (local_place s.local q) s new emitted k)
 
     pub requested_adds : (remote : Option IceCreds) (s new : AgentRecord H P) (emitted : Emitted) → MatchOption remote (Queues q s emitted new) (λ _. Serves mac q s emitted new) → Adds 1 2 s new
     requested_adds None s new emitted h = none s new (same s new (ap (λ (a : AgentRecord H P). lines_of a) h.1))

@@ -31,7 +31,7 @@ use Rattle.is_rules.specs.Remote.{AddsRemote}
 use Rattle.is_rules.specs.Request.{RequestRecord, request_in}
 use Rattle.is_rules.specs.Restarting.{Restarts, Recreates, cleared, emptied, unpaired}
 use Rattle.is_rules.specs.Serving.{Serves}
-use Rattle.is_rules.specs.Settings.{SetsControlling, SetsMtu}
+use Rattle.is_rules.specs.Settings.{SetsMtu}
 use Rattle.is_rules.specs.Settling.{loses_selected, Reselects}
 use Rattle.is_rules.specs.Steps.{Call, SetMtu, SetControlTieBreaker, SetMaxCandidatePairs, SetMaxDiscovered, SetIceLite, SetRenomination, SetConsent, SetProfile, SetTimingAdvance, SetInitialStunRto, SetMaxStunRto, SetMaxStunRetransmits, SetLiteTimeout, SetLocalPreference, SetControlling, SetLocalCredentials, SetRemoteCredentials, SkipPairIds, AddLocalCandidate, AddRemoteCandidate, InvalidateCandidate, RestartIce, RecreateCandidatePairs, ReceivePacket, HandleTimeout, PollTransmit, PollTimeout, PollEvent, Answer, Flag, Entry, Receives, Step, MayDo, Polled, Happened, answer_by, added, done, quiet}
 use Rattle.is_rules.specs.Timeouts.{at_request, MaintainsPairs, TimesOut, timeout_begun}
@@ -40,7 +40,7 @@ use Rattle.is_theorems.proofs.RuleEffects.Reselection.{reselects-none, reselects
 use Rattle.is_theorems.proofs.CallEffects.PathAndTradeEffects.{path_theorem}
 use Rattle.is_theorems.proofs.ExecutionLogs.SharedLogTheorems as shared
 use Rattle.is_theorems.proofs.RuleEffects.UnchangedSettings.{either}
-use Rattle.is_theorems.proofs.CallEffects.FailedCallsAndNewAgents.{mtu_kept, controlling_kept, local_kept, remote_kept, restart_kept, recreation_kept, enrolment_kept, storing_kept}
+use Rattle.is_theorems.proofs.CallEffects.FailedCallsAndNewAgents.{mtu_kept, local_kept, remote_kept, restart_kept, recreation_kept, enrolment_kept, storing_kept}
 use Rattle.is_theorems.specs.Limited.{DiscoveriesStayFew}
 use Rattle.is_theorems.specs.Shared.{IsNewlyCreated, SharedRun}
 use Rattle.is_theorems.specs.Waiting.{is_taken, packets_of, leaves_no_packet, finds_no_packet, most_packets, is_discovery, discovery_count, other_count, events_of, leaves_no_event, finds_no_event, most_events, QueuesAreShort}
@@ -364,7 +364,7 @@ module _ {H P : Type 0} where
       moves (SetMaxStunRetransmits k) h = still (either (k == 0) h (λ _ x. kept old new x.1) (λ _ x. same old new (ap (λ (a : AgentRecord H P). lines_of a) x.1)))
       moves (SetLiteTimeout timeout) (is, made, drawn) = still (same old new (ap (λ (a : AgentRecord H P). lines_of a) made))
       moves (SetLocalPreference object) (is, made, drawn) = still (same old new (ap (λ (a : AgentRecord H P). lines_of a) made))
-      moves (SetControlling controlling) h = still (may (SetsControlling old controlling) (λ k. ap (λ (a : AgentRecord H P). lines_of a) k.1) (controlling_kept old new controlling) h)
+      moves (SetControlling controlling) (is, made, drawn) = still (same old new (ap (λ (a : AgentRecord H P). lines_of a) made))
       moves (SetLocalCredentials creds) h = still (may (SetsLocal old creds) (λ k. ap (λ (a : AgentRecord H P). lines_of a) k.1) (local_kept old new creds) h)
       moves (SetRemoteCredentials creds) h = still (may (SetsRemote old creds) (λ k. ap (λ (a : AgentRecord H P). lines_of a) k.1) (remote_kept old new creds) h)
       moves (SkipPairIds k) (is, made, drawn) = still (same old new (ap (λ (a : AgentRecord H P). lines_of a) made))
@@ -372,10 +372,9 @@ module _ {H P : Type 0} where
           selects mid path again (adds_local old mid c r h) (taken (answer_by added r) emitted mid is (adds_none old mid c r h))
       moves (AddRemoteCandidate c) (r, emitted, is, (path, mid, h, again, emits), drawn) =
           selects mid path again (signals old mid c r h) (taken (answer_by done r) emitted mid is (signals_none old mid c r h))
-      moves (InvalidateCandidate c) (Ok found, emitted, is, (path, mid, h, again, emits), drawn) =
+      moves (InvalidateCandidate c) (found, emitted, is, (path, mid, h, again, emits), drawn) =
           selects mid path again (discards old mid (local_to_discard c old) (remote_to_discard c old) found h)
           (taken (Flag found) emitted mid is (discards_none old mid (local_to_discard c old) (remote_to_discard c old) found h))
-      moves (InvalidateCandidate c) (Err error, emitted, is, (path, mid, h, again, emits), drawn) = selects mid path again (kept old mid h.1) (inr h.1)
       moves (RestartIce creds keep) h = restarts creds keep h
       moves RecreateCandidatePairs h = recreates h
       moves (ReceivePacket now via bytes) (h, drawn) = let r = received now old new via bytes e h in (r.waits, λ limit limited. r.discoveries limit (limited refl))

@@ -9,7 +9,7 @@ use Rattle.is_rules.specs.declared.emitted.Emitted.{Emitted}
 use Rattle.is_rules.specs.declared.emitted.Issued.{Issued}
 use Rattle.is_rules.specs.declared.emitted.Path.{Path}
 use Rattle.is_rules.specs.Agent.{AgentRecord}
-use Rattle.is_rules.specs.Answers.{mapped_added, success_counted, TakesSuccess, TakesFailure}
+use Rattle.is_rules.specs.Answers.{mapped_added, success_counted, HandlesSuccess, HandlesFailure}
 use Rattle.is_rules.specs.Checking.{MayCheck, ChecksTop, all_asked}
 use Rattle.is_rules.specs.Forming.{Combination, FormsAll}
 use Rattle.is_rules.specs.Nominating.{Nominates, NominatesWhere, nominated_emitted, with_selection}
@@ -68,12 +68,12 @@ module _ {H P : Type 0} where
       ∙ (removes_expired_same now named kept second giving ∙ nominates_same (path_left now (at_timeout now old)) named first nominating)
 
   -- a response changes them as its mapped address does
-  pub success_same : (now : ℕ) (old new : AgentRecord H P) (via : Path) (m : Message) (emitted : Emitted) → TakesSuccess now old via m emitted new
+  pub success_same : (now : ℕ) (old new : AgentRecord H P) (via : Path) (m : Message) (emitted : Emitted) → HandlesSuccess now old via m emitted new
       → (p : PairRecord) × Same (mapped_added p m.attributes.xor_mapped_address (success_counted old)) new
   success_same now old new via m emitted (recorded, (i, p, after, found, keeps, took, made), (path, mid, nominates, is, done)) =
       (p, ap (λ (a : AgentRecord H P). lists_of a) done ∙ (nominates_same recorded mid path nominates ∙ ap (λ (a : AgentRecord H P). lists_of a) made))
 
-  pub failure_same : (old new : AgentRecord H P) (via : Path) (m : Message) (emitted : Emitted) → TakesFailure old via m emitted new → Same old new
+  pub failure_same : (old new : AgentRecord H P) (via : Path) (m : Message) (emitted : Emitted) → HandlesFailure old via m emitted new → Same old new
   failure_same old new via m emitted h = by_failure (λ _ a. Same old a) old new via m emitted (λ code. refl) (λ code. refl) h
 
   pub forms_same : (old new : AgentRecord H P) (all : List Combination) → FormsAll old all new → Same old new

@@ -28,8 +28,8 @@ use Rattle.is_rules.specs.Places.{local_place}
 use Rattle.is_rules.specs.Forming.{formed, with_pair}
 use Rattle.is_rules.specs.Nominating.{nominated_by_self, Nominates, followed, remains, selection_of, nominates_at_once, numbers}
 use Rattle.is_rules.specs.Roles.{conflict_of, switched, switched_sides, with_priority_in}
-use Rattle.is_rules.specs.Serving.{selects_at_requests, after_request, served, is_misled, names_another, pair_served, request_counted, with_sender, with_sender_at, validated_by_peer, Drops, Queues, RecordsAndResponds, FindsOrAddsPair, AddsUnknownSender, CountsAndServes, ResolvesRoleConflictBy, ResolvesRoleConflict, Serves, as_taken, nominated_by_peer}
-use Rattle.is_rules.specs.Answers.{TakesSuccess, TakesFailure}
+use Rattle.is_rules.specs.Serving.{selects_at_requests, after_request, served, is_misled, is_for_other_peer, pair_served, request_counted, with_sender, with_sender_at, validated_by_peer, Drops, Queues, RecordsAndResponds, FindsOrAddsPair, AddsUnknownSender, CountsAndServes, ResolvesRoleConflictBy, ResolvesRoleConflict, Serves, as_taken, nominated_by_peer}
+use Rattle.is_rules.specs.Answers.{HandlesSuccess, HandlesFailure}
 use Rattle.is_rules.specs.Accepting.{Takes}
 use Rattle.is_rules.specs.Checking.{all_asked, ChecksTop, MayCheck}
 use Rattle.is_rules.specs.Settling.{settled, Reselects}
@@ -291,7 +291,7 @@ module _ {H P : Type 0} where
       here (Some l) s new emitted h = resolves (conflict_of s q) l s new emitted h
 
       pub keep-serves : (s new : AgentRecord H P) (emitted : Emitted) → Serves mac q s emitted new → Keep s new
-      keep-serves s new emitted h = either (names_another s q) h
+      keep-serves s new emitted h = either (is_for_other_peer s q) h
           (λ _ k. keep-same s new k.1)
           (λ _ k. here (local_place s.local q) s new emitted k)
 
@@ -301,14 +301,14 @@ module _ {H P : Type 0} where
 
     -- ---- responses
 
-    success : (now : ℕ) (old new : AgentRecord H P) (via : Path) (m : Message) (emitted : Emitted) → TakesSuccess now old via m emitted new → Keep old new
+    success : (now : ℕ) (old new : AgentRecord H P) (via : Path) (m : Message) (emitted : Emitted) → HandlesSuccess now old via m emitted new → Keep old new
     success now old new via m emitted (recorded, (place, p, after, at, keeps, (k, c, is_at, is), made), (path, mid, nominates, emitted_is, done)) =
         keep-as old (evaluated now mid) new
         (keeps-on old.pairs recorded.pairs mid.pairs
         (keep-as old _ recorded (keeps-set old.pairs place p after at (ap (λ (x : PairRecord). x.number) is, λ on. subst (λ (x : PairRecord). is_asked x ≡ true) (sym is) on)) made)
         (keep-nominates recorded mid path nominates)) done
 
-    failure : (old new : AgentRecord H P) (via : Path) (m : Message) (emitted : Emitted) → TakesFailure old via m emitted new → Keep old new
+    failure : (old new : AgentRecord H P) (via : Path) (m : Message) (emitted : Emitted) → HandlesFailure old via m emitted new → Keep old new
     failure old new via m emitted h =
         by_failure (λ _ a. Keep old a) old new via m emitted notes
         (λ code. keeps-on old.pairs (recoded code old).pairs (switched (recoded code old)).pairs (notes code)

@@ -33,7 +33,7 @@ use Rattle.is_theorems.proofs.CallEffects.AddedCandidates.{by_waking}
 use Rattle.is_theorems.proofs.RuleEffects.UnchangedSettings.{either}
 use Rattle.is_theorems.proofs.ExecutionLogs.LogTheorems.{runs_sound}
 use Rattle.is_theorems.proofs.ExecutionLogs.LogSegments.{run-on}
-use Rattle.is_theorems.proofs.CallEffects.FailedCallsAndNewAgents.{mtu_kept, controlling_kept, local_kept, remote_kept, restart_kept, recreation_kept, enrolment_kept, storing_kept}
+use Rattle.is_theorems.proofs.CallEffects.FailedCallsAndNewAgents.{mtu_kept, local_kept, remote_kept, restart_kept, recreation_kept, enrolment_kept, storing_kept}
 use Rattle.is_theorems.proofs.StoredPairs.PairsAfterForming.{local-leaves, remote-leaves}
 use Rattle.is_rules.proofs.PairLists.RisingNumbers.{below-each, rising-each}
 use Rattle.is_theorems.proofs.StoredPairs.NumbersThatStay.{is_asked, Persists, Keeps, Keep, keeps-map, keep-same, keep-as, keep-reselects, by-class, keep-serves, maintains_pairs-leaves}
@@ -149,8 +149,7 @@ module _ {H P : Type 0} where
           (λ _ k. inl (becomes _ (λ n asks x. x) k.1))
       lasts (SetLiteTimeout by) (is, made, drawn) = inl (becomes _ (λ n asks x. x) made)
       lasts (SetLocalPreference object) (is, made, drawn) = inl (becomes _ (λ n asks x. x) made)
-      lasts (SetControlling controlling) (Ok _, is, h, drawn) = inl (becomes _ (λ n asks x. x) h.1)
-      lasts (SetControlling controlling) (Err error, is, h, drawn) = inl (as-it-was (controlling_kept old new controlling error h))
+      lasts (SetControlling controlling) (is, made, drawn) = inl (becomes _ (λ n asks x. x) made)
       lasts (SetLocalCredentials creds) (Ok _, is, h, drawn) = inl (becomes _ (λ n asks x. x) h.1)
       lasts (SetLocalCredentials creds) (Err error, is, h, drawn) = inl (as-it-was (local_kept old new creds error h))
       lasts (SetRemoteCredentials creds) (Ok _, is, h, drawn) = inl (becomes _ (λ n asks x. x) h.1)
@@ -171,12 +170,11 @@ module _ {H P : Type 0} where
       ]
       lasts (AddRemoteCandidate c) (Err error, emitted, is, (path, mid, h, again, emits), drawn) =
           inl (as-before mid path again (storing_kept old mid c error h))
-      lasts (InvalidateCandidate c) (Ok found, emitted, is, (path, mid, h, again, emits), drawn) =
+      lasts (InvalidateCandidate c) (found, emitted, is, (path, mid, h, again, emits), drawn) =
           elim (discards old mid c p has (local_to_discard c old) (remote_to_discard c old) found refl refl h) [
             | inl k ↦ inl (selects mid path again k)
             | inr gone ↦ inr (ap (λ (x : Entry). x.answer) is ∙ ap Flag gone.0, gone.1)
           ]
-      lasts (InvalidateCandidate c) (Err error, emitted, is, (path, mid, h, again, emits), drawn) = inl (as-before mid path again h.1)
       lasts (RestartIce creds keep) (Ok _, is, h, drawn) = inr (ap (λ (x : Entry). x.answer) is)
       lasts (RestartIce creds keep) (Err error, is, h, drawn) = inl (as-it-was (restart_kept old new creds keep error h))
       lasts RecreateCandidatePairs (Ok _, is, h, drawn) = inr (ap (λ (x : Entry). x.answer) is)

@@ -30,7 +30,7 @@ use Rattle.is_rules.specs.declared.emitted.Issued as code
 use Rattle.is_rules.specs.declared.emitted.Path.{Path}
 use Rattle.is_rules.specs.declared.emitted.Emitted.{Emitted}
 use Rattle.is_rules.specs.Agent.{AgentRecord}
-use Rattle.is_rules.specs.Answers.{goes_back, keeps_check_on}
+use Rattle.is_rules.specs.Answers.{is_reverse, keeps_check_on}
 use Rattle.is_rules.specs.Checking.{all_asked, check_message, check_sent, IsNextToCheck, ChecksPair, ChecksTop, MayCheck}
 use Rattle.is_theorems.specs.Delivery.{ChecksAreKept}
 use Rattle.is_rules.specs.Forming.{formed, with_pair}
@@ -40,7 +40,7 @@ use Rattle.is_rules.specs.Queue.{request_at, first_taken}
 use Rattle.is_rules.specs.Request.{RequestRecord}
 use Rattle.is_rules.specs.Roles.{conflict_of, switched}
 use Rattle.is_rules.specs.Sending.{path_of}
-use Rattle.is_rules.specs.Serving.{is_misled, names_another, request_counted, with_sender, with_sender_at, Drops, RecordsAndResponds, FindsOrAddsPair, AddsUnknownSender, CountsAndServes, ResolvesRoleConflictBy, ResolvesRoleConflict, Serves}
+use Rattle.is_rules.specs.Serving.{is_misled, is_for_other_peer, request_counted, with_sender, with_sender_at, Drops, RecordsAndResponds, FindsOrAddsPair, AddsUnknownSender, CountsAndServes, ResolvesRoleConflictBy, ResolvesRoleConflict, Serves}
 use Rattle.is_rules.specs.Steps.{Entry, HandleTimeout, Step}
 use Rattle.is_rules.specs.Timeouts.{at_request, timeout_begun, MaintainsPairs, ServesQueued, TimesOut}
 use Rattle.is_rules.specs.Emitted.{issued_only, issued_as, reversed}
@@ -63,7 +63,7 @@ pub same_self : (a : SocketAddr) → same_address a a ≡ true
 same_self (V4 a) = rw (bytes_same (ipv4_octets (v4_ip a)), number_same (v4_port a)) refl
 same_self (V6 a) = rw (bytes_same (ipv6_segments (v6_ip a)), number_same (v6_port a), number_same (v6_flowinfo a), number_same (v6_scope_id a)) refl
 
-pub back_again : (via : Path) → goes_back (reversed via) via ≡ true
+pub back_again : (via : Path) → is_reverse (reversed via) via ≡ true
 back_again via = rw (same_self via.destination, same_self via.source) refl
 
 -- the last one is among the last n, if n is not 0
@@ -139,7 +139,7 @@ module _ {H P : Type 0} (mac : H → List ℕ → List ℕ → List ℕ) (answer
     here (Some l) s new emitted h = resolves_by (conflict_of s q) l s new emitted h
 
     serves : (s new : AgentRecord H P) (emitted : Emitted) → Serves mac q s emitted new → NoCheck emitted
-    serves s new emitted h = either (names_another s q) h (λ _ k. dropped s new emitted k) (λ _ k. here (local_place s.local q) s new emitted k)
+    serves s new emitted h = either (is_for_other_peer s q) h (λ _ k. dropped s new emitted k) (λ _ k. here (local_place s.local q) s new emitted k)
 
   -- ---- the check that is sent
 

@@ -24,8 +24,8 @@ use Rattle.is_rules.specs.declared.emitted.Path.{Path}
 use Rattle.is_rules.specs.declared.emitted.Emitted.{Emitted}
 use Rattle.is_rules.specs.Accepting.{Takes, HandlesPacket, discovered_emitted}
 use Rattle.is_rules.specs.Agent.{AgentRecord}
-use Rattle.is_rules.specs.Answers.{is_left_out, goes_back, keeps_check_on, mapped_candidate, local_with, mapped_added, success_counted, Records, TakesSuccess, TakesFailure}
-use Rattle.is_theorems.specs.Exchange.{AreBetween, Course, ChecksStay}
+use Rattle.is_rules.specs.Answers.{is_left_out, is_reverse, keeps_check_on, mapped_candidate, local_with, mapped_added, success_counted, Records, HandlesSuccess, HandlesFailure}
+use Rattle.is_theorems.specs.Exchange.{AreBetween, Execution, ChecksStay}
 use Rattle.is_rules.specs.Forming.{formed, with_pair}
 use Rattle.is_rules.specs.Limit.{IsSenderPlace}
 use Rattle.is_rules.specs.Nominating.{nominated_by_self, Nominates, NominatesWhere, followed, remains, selection_of, numbers}
@@ -36,7 +36,7 @@ use Rattle.is_rules.specs.Roles.{conflict_of, switched, switched_sides, with_pri
 use Rattle.is_theorems.specs.Rounds.{is_between}
 use Rattle.is_rules.specs.Sending.{path_of, path_between}
 use Rattle.is_rules.specs.Settling.{settled}
-use Rattle.is_rules.specs.Serving.{trigger_time, selects_at_requests, after_request, served, validated_by_peer, is_misled, names_another, pair_served, request_counted, with_sender, with_sender_at, sender_candidate, replied, Drops, Queues, RecordsAndResponds, FindsOrAddsPair, AddsUnknownSender, CountsAndServes, ResolvesRoleConflictBy, ResolvesRoleConflict, Serves, as_taken, nominated_by_peer}
+use Rattle.is_rules.specs.Serving.{trigger_time, selects_at_requests, after_request, served, validated_by_peer, is_misled, is_for_other_peer, pair_served, request_counted, with_sender, with_sender_at, sender_candidate, replied, Drops, Queues, RecordsAndResponds, FindsOrAddsPair, AddsUnknownSender, CountsAndServes, ResolvesRoleConflictBy, ResolvesRoleConflict, Serves, as_taken, nominated_by_peer}
 use Rattle.is_rules.specs.Sound.{IsSound, IsPlaced}
 use Rattle.is_rules.specs.Steps.{Call, Entry, ReceivePacket, PollTransmit, PollTimeout, PollEvent, Step}
 use Rattle.is_theorems.proofs.BasicLemmas.EqualAddresses.{both}
@@ -274,7 +274,7 @@ module _ {H P : Type 0} where
       requested : (remote : Option IceCreds) (s new : AgentRecord H P) (emitted : Emitted)
           → MatchOption remote (Queues q s emitted new) (λ _. Serves mac q s emitted new) → Stays s new
       requested None s new emitted h = subst (λ (a : AgentRecord H P). Stays s a) (sym h.1) (stays_by s _ (inl refl) (inl refl) (same_pairs s.pairs))
-      requested (Some peer) s new emitted h = either (names_another s q) h
+      requested (Some peer) s new emitted h = either (is_for_other_peer s q) h
           (λ _ k. stays_same s new k.1)
           (λ _ k. here (local_place s.local q) s new emitted k)
 
@@ -298,13 +298,13 @@ module _ {H P : Type 0} where
             | inr (own, put) ↦ (after, put, subst (λ (x : PairRecord). Alike x after) (sym own) (answer_alike p after now m.id takes))
           ]
 
-    succeeds : (now : ℕ) (old new : AgentRecord H P) (via : Path) (m : Message) (emitted : Emitted) → TakesSuccess now old via m emitted new → Stays old new
+    succeeds : (now : ℕ) (old new : AgentRecord H P) (via : Path) (m : Message) (emitted : Emitted) → HandlesSuccess now old via m emitted new → Stays old new
     succeeds now old new via m emitted (recorded, recording, (path, mid, nominating, is, made)) =
         stays_on old recorded new (records now old recorded via m recording)
         (stays_on recorded mid new (nominates recorded mid path nominating)
         (subst (λ (a : AgentRecord H P). Stays mid a) (sym made) (stays_by mid _ (inl refl) (inl refl) (same_pairs mid.pairs))))
 
-    fails : (s new : AgentRecord H P) (via : Path) (m : Message) (emitted : Emitted) → TakesFailure s via m emitted new → Stays s new
+    fails : (s new : AgentRecord H P) (via : Path) (m : Message) (emitted : Emitted) → HandlesFailure s via m emitted new → Stays s new
     fails s new via m emitted h =
         by_failure (λ _ a. Stays s a) s new via m emitted notes
         (λ code. stays_on s (recoded code s) (switched (recoded code s)) (notes code) (switches (recoded code s))) h where
@@ -347,12 +347,12 @@ module _ {H P : Type 0} where
           subst (λ (a : AgentRecord H P). Stays old a) (sym made) (stays_by old _ (inl refl) (inl refl) (same_pairs old.pairs))
       one _ e old new s t is step = no-case is
 
-      pub sound-course : (xs : List (Call P × Entry)) (old new : AgentRecord H P) → IsSound old → Course mac answers xs old new → IsSound new
-      sound-course [] old new sound is = subst (λ (a : AgentRecord H P). IsSound a) (sym is) sound
-      sound-course (x ∷ rest) old new sound (mid, s, t, based, step, more) =
-          sound-course rest mid new (path_theorem mac answers old mid s t x.0 x.1 sound based step).1 more
+      pub sound-execution : (xs : List (Call P × Entry)) (old new : AgentRecord H P) → IsSound old → Execution mac answers xs old new → IsSound new
+      sound-execution [] old new sound is = subst (λ (a : AgentRecord H P). IsSound a) (sym is) sound
+      sound-execution (x ∷ rest) old new sound (mid, s, t, based, step, more) =
+          sound-execution rest mid new (path_theorem mac answers old mid s t x.0 x.1 sound based step).1 more
 
-      all : (xs : List (Call P × Entry)) (old new : AgentRecord H P) → AreBetween xs → Course mac answers xs old new → Stays old new
+      all : (xs : List (Call P × Entry)) (old new : AgentRecord H P) → AreBetween xs → Execution mac answers xs old new → Stays old new
       all [] old new fits is = stays_same old new is
       all (x ∷ rest) old new fits (mid, s, t, based, step, more) =
           stays_on old mid new (one x.0 x.1 old mid s t (fits x (inl refl)) step) (all rest mid new (λ y has. fits y (inr has)) more)
@@ -366,7 +366,7 @@ module _ {H P : Type 0} where
       checks-stay old new xs via id sound fits goes kept =
           let k = any_at (keeps_check_on old via id) old.pairs kept in
           let p = k.0 in
-          let here = both (keeps_check id p) (goes_back via (path_of old p)) k.2 in
+          let here = both (keeps_check id p) (is_reverse via (path_of old p)) k.2 in
           let x = all xs old new fits goes p k.1 (sound.placed p k.1) in
           any_has (keeps_check_on new via id) new.pairs x.pair x.there
-          (ap (λ b. b && goes_back via (path_of new x.pair)) (x.checks id ∙ here.0) ∙ (ap (λ w. goes_back via w) (same_path old new p x) ∙ here.1))
+          (ap (λ b. b && is_reverse via (path_of new x.pair)) (x.checks id ∙ here.0) ∙ (ap (λ w. is_reverse via w) (same_path old new p x) ∙ here.1))

@@ -34,8 +34,8 @@ use Rattle.std.specs.List.{list_any}
 use Rattle.is_proto.specs.Packets.{Packet}
 use Rattle.is_candidate.specs.Addresses.{protocol_number}
 use Rattle.is_pair.specs.Multiset.{change_at, keeps_check, change_pair}
-use Rattle.is_rules.specs.Answers.{goes_back, keeps_check_on}
-use Rattle.is_theorems.specs.AskedCourses.{EndsAlong}
+use Rattle.is_rules.specs.Answers.{is_reverse, keeps_check_on}
+use Rattle.is_theorems.specs.AskedExecutions.{EndsAlong}
 use Rattle.is_rules.specs.Checking.{check_sent}
 use Rattle.is_rules.specs.declared.emitted.Issued.{Issued}
 use Rattle.is_theorems.specs.Carried.{CarriedAreServed, CarriedAreAccepted, CarriedBack, CarriedSucceedLater}
@@ -48,13 +48,13 @@ use Rattle.is_theorems.proofs.StoredPairs.StoredChecks.{Checks, checks-as, back_
 use Rattle.is_theorems.proofs.RuleEffects.ChangedPairs.{Has-map}
 use Rattle.is_theorems.proofs.BasicLemmas.UsernamesAndFirstMatches.{any_has}
 use Rattle.is_theorems.proofs.CallEffects.ServedRequests.{Has-mapped}
-use Rattle.is_theorems.proofs.StoredPairs.TransactionsOverPackets.{sound-course}
+use Rattle.is_theorems.proofs.StoredPairs.TransactionsOverPackets.{sound-execution}
 use Rattle.is_rules.specs.Steps.{Call, SetMtu, SetControlTieBreaker, SetMaxCandidatePairs, SetMaxDiscovered, SetIceLite, SetRenomination, SetConsent, SetProfile, SetTimingAdvance, SetInitialStunRto, SetMaxStunRto, SetMaxStunRetransmits, SetLiteTimeout, SetLocalPreference, SetControlling, SetLocalCredentials, SetRemoteCredentials, SkipPairIds, AddLocalCandidate, AddRemoteCandidate, InvalidateCandidate, RestartIce, RecreateCandidatePairs, ReceivePacket, HandleTimeout, PollTransmit, PollTimeout, PollEvent, Done, Flag, Entry, Receives, Step}
 use Rattle.is_rules.specs.Timeouts.{at_request, timeout_begun, MaintainsPairs, ServesQueued}
 use Rattle.is_theorems.proofs.CallEffects.PathAndTradeEffects.{path_theorem}
 use Rattle.is_theorems.proofs.CallEffects.AddedCandidates.{by_waking}
 use Rattle.is_theorems.proofs.RuleEffects.UnchangedSettings.{either}
-use Rattle.is_theorems.proofs.CallEffects.FailedCallsAndNewAgents.{mtu_kept, controlling_kept, local_kept, remote_kept, restart_kept, recreation_kept, enrolment_kept, storing_kept}
+use Rattle.is_theorems.proofs.CallEffects.FailedCallsAndNewAgents.{mtu_kept, local_kept, remote_kept, restart_kept, recreation_kept, enrolment_kept, storing_kept}
 use Rattle.is_theorems.proofs.StoredPairs.PairsAfterForming.{local-leaves, remote-leaves}
 use Rattle.is_rules.proofs.PairLists.RisingNumbers.{below-each, rising-each}
 use Rattle.is_theorems.proofs.StoredPairs.TransactionsAfterRules.{Persists, Keeps, Keep, Sends, keeps-self, keeps-map, keep-same, keep-as, keep-reselects, by-class, keep-serves, maintains_pairs, sent-last}
@@ -182,8 +182,7 @@ module _ {H P : Type 0} where
           (λ _ k. inl (becomes _ (keeps-self old.pairs) k.1))
       lasts (SetLiteTimeout by) (is, made, drawn) = inl (becomes _ (keeps-self old.pairs) made)
       lasts (SetLocalPreference object) (is, made, drawn) = inl (becomes _ (keeps-self old.pairs) made)
-      lasts (SetControlling controlling) (Ok _, is, h, drawn) = inl (becomes _ (keeps-self old.pairs) h.1)
-      lasts (SetControlling controlling) (Err error, is, h, drawn) = inl (as-it-was (controlling_kept old new controlling error h))
+      lasts (SetControlling controlling) (is, made, drawn) = inl (becomes _ (keeps-self old.pairs) made)
       lasts (SetLocalCredentials creds) (Ok _, is, h, drawn) = inl (becomes _ (keeps-self old.pairs) h.1)
       lasts (SetLocalCredentials creds) (Err error, is, h, drawn) = inl (as-it-was (local_kept old new creds error h))
       lasts (SetRemoteCredentials creds) (Ok _, is, h, drawn) = inl (becomes _ (keeps-self old.pairs) h.1)
@@ -204,12 +203,11 @@ module _ {H P : Type 0} where
       ]
       lasts (AddRemoteCandidate c) (Err error, emitted, is, (path, mid, h, again, emits), drawn) =
           inl (as-before mid path again (storing_kept old mid c error h))
-      lasts (InvalidateCandidate c) (Ok found, emitted, is, (path, mid, h, again, emits), drawn) =
+      lasts (InvalidateCandidate c) (found, emitted, is, (path, mid, h, again, emits), drawn) =
           elim (discards old mid c p has (local_to_discard c old) (remote_to_discard c old) found refl refl h) [
             | inl k ↦ inl (selects mid path again k)
             | inr gone ↦ inr (inr (ap (λ (x : Entry). x.answer) is ∙ ap Flag gone.0, gone.1))
           ]
-      lasts (InvalidateCandidate c) (Err error, emitted, is, (path, mid, h, again, emits), drawn) = inl (as-before mid path again h.1)
       lasts (RestartIce creds keep) (Ok _, is, h, drawn) = inr (inr (ap (λ (x : Entry). x.answer) is))
       lasts (RestartIce creds keep) (Err error, is, h, drawn) = inl (as-it-was (restart_kept old new creds keep error h))
       lasts RecreateCandidatePairs (Ok _, is, h, drawn) = inr (inr (ap (λ (x : Entry). x.answer) is))
@@ -397,7 +395,7 @@ module _ {H P : Type 0} where
       within = let long : length (sent_of k.pair ++ c ∷ []) ≡ length (sent_of k.pair) + 1 = length-append (sent_of k.pair) (c ∷ []) in let more = positive in omega (arith, long, more)
 
     -- and is stored while it is pending
-    pends-kept : (a : AgentRecord H P) (number : ℕ) (path via : Path) (check : Check) (later : ℕ) → goes_back via path ≡ true → Pends a number path check later
+    pends-kept : (a : AgentRecord H P) (number : ℕ) (path via : Path) (check : Check) (later : ℕ) → is_reverse via path ≡ true → Pends a number path check later
         → list_any (keeps_check_on a via check.id) a.pairs ≡ true
     pends-kept a number path via check later back k =
         let has : Has (sent_of k.pair) check = subst (λ cs. Has cs check) (sym k.split) (Has-rear k.before (check ∷ k.following) check (inl refl)) in
@@ -405,17 +403,17 @@ module _ {H P : Type 0} where
         let own : has_id check.id o.0 ≡ true = ap (λ (x : Check). bytes_eq x.id check.id) o.2 ∙ bytes_same check.id in
         let kept : keeps_check check.id k.pair ≡ true = any_has (has_id check.id) k.pair.checks o.0 o.1 own in
         any_has (keeps_check_on a via check.id) a.pairs k.pair k.there
-        (ap (λ b. b && goes_back via (path_of a k.pair)) kept ∙ (ap (λ w. goes_back via w) k.on ∙ back))
+        (ap (λ b. b && is_reverse via (path_of a k.pair)) kept ∙ (ap (λ w. is_reverse via w) k.on ∙ back))
 
     -- the check that was sent is still stored, or such a pair may have been removed
-    pub still-kept : (k : SentCheck mac answers) (b : AgentRecord H P) (answer : Packet) (r : ReturnedWhilePending mac answers k b answer) → goes_back (via_out answer) (via_out k.check) ≡ true
-        → (list_any (keeps_check_on r.mid (via_out answer) k.id) r.mid.pairs ≡ true) ⊎ EndsAlong mac answers r.calls k.sent r.mid r.course (via_out k.check)
+    pub still-kept : (k : SentCheck mac answers) (b : AgentRecord H P) (answer : Packet) (r : ReturnedWhilePending mac answers k b answer) → is_reverse (via_out answer) (via_out k.check) ≡ true
+        → (list_any (keeps_check_on r.mid (via_out answer) k.id) r.mid.pairs ≡ true) ⊎ EndsAlong mac answers r.calls k.sent r.mid r.execution (via_out k.check)
     still-kept k b answer r returns =
         let sound = sound-sent mac answers k in
         let x = checks-as mac answers k.sender k.sent k.before k.following k.now (via_out k.check) k.id k.timeout k.sends.emitted k.step in
         let c : Check = check_of k.now x.old.controlling k.id (begun k.now (via_out k.check) k.id k.sent x) in
         let few = r.few in
-        elim (checks-pend-along k.sent r.mid r.calls x.pair.number (via_out k.check) c 0 r.limit sound r.course (search r.keeps) (pends-now k.now (via_out k.check) k.id k.sent sound.checks x) (omega (arith, few))) [
+        elim (checks-pend-along k.sent r.mid r.calls x.pair.number (via_out k.check) c 0 r.limit sound r.execution (search r.keeps) (pends-now k.now (via_out k.check) k.id k.sent sound.checks x) (omega (arith, few))) [
           | inl (n, le, still) ↦ inl (pends-kept r.mid x.pair.number (via_out k.check) (via_out answer) c n returns still)
           | inr ends ↦ inr ends
         ]
@@ -424,7 +422,7 @@ module _ {H P : Type 0} where
         → AnswersAreValid (ReceivePacket back (via_out answer) answer.contents) returned taken → IsValidBy mac answers taken (via_out answer)
     valid-by taken answer back returned (m, brings, class_is) valid = found (valid back (via_out answer) m brings class_is) where
       found : (p : PairRecord) × Has taken.pairs p × (keeps_check_on taken (via_out answer) m.id p ≡ true) × (is_valid p ≡ true) → IsValidBy mac answers taken (via_out answer)
-      found (p, has, keeps, is) = (p, has, (both (keeps_check m.id p) (goes_back (via_out answer) (path_of taken p)) keeps).1, is)
+      found (p, has, keeps, is) = (p, has, (both (keeps_check m.id p) (is_reverse (via_out answer) (path_of taken p)) keeps).1, is)
 
     pub carried-succeed-later : CarriedAreServed {H = H} {P = P} mac answers → CarriedAreAccepted {H = H} {P = P} mac answers → CarriedSucceedLater {H = H} {P = P} mac answers
     carried-succeed-later served_law accepted_law k c apart = (s, returns) where
@@ -442,7 +440,7 @@ module _ {H P : Type 0} where
         | inl still ↦
             (let b = r.receipt in
             let is_taken = accepted_law b.mid b.taken got.receiver got.served s.reply r.answer k.id b.at b.returned got.sound (search b.know) (issued-reply mac answers k c.came got s) (search r.unaltered) still b.delivered in
-            let sound_mid = sound-course mac answers b.calls k.sent b.mid (sound-sent mac answers k) b.course in
+            let sound_mid = sound-execution mac answers b.calls k.sent b.mid (sound-sent mac answers k) b.execution in
             let effect = (path_theorem mac answers b.mid b.taken b.delivered.before b.delivered.following (ReceivePacket b.at (via_out r.answer) r.answer.contents) b.returned sound_mid tt b.delivered.step).0 in
             inl (is_taken, valid-by b.taken r.answer b.at b.returned is_taken effect.taken))
         | inr ends ↦ inr ends
@@ -456,7 +454,7 @@ module _ {H P : Type 0} where
           λ r. e.1 (record {
             answer = e.0.reply;
             unaltered = refl;
-            back = subst (λ w. goes_back w (via_out k.check) ≡ true) (sym e.0.via_back) (back_again (via_out k.check));
+            back = subst (λ w. is_reverse w (via_out k.check) ≡ true) (sym e.0.via_back) (back_again (via_out k.check));
             receipt = r;
           }),
         )

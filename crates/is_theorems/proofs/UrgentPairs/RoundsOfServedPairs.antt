@@ -16,6 +16,7 @@ use Rattle.is_rules.specs.Sound.{IsSound, GivesBased}
 use Rattle.is_rules.specs.Steps.{Call, HandleTimeout, Step}
 use Rattle.is_rules.specs.Timeouts.{is_expired}
 use Rattle.is_theorems.specs.Asked.{IsAnsweredIn}
+use Rattle.is_theorems.specs.AskedExecutions.{Ends}
 use Rattle.is_theorems.specs.KindsInTurn.{WaitsInRounds}
 use Rattle.is_theorems.specs.Logs.{Logged}
 use Rattle.is_theorems.specs.Reached.{ChecksIn, IsEndedIn, IsPassing, is_in_round, selects}
@@ -29,7 +30,7 @@ use Rattle.is_theorems.proofs.DuePairs.AfterNominationAndRemoval.{answered_at, l
 use Rattle.is_theorems.proofs.DuePairs.NoNominationDue.{lite_stays}
 use Rattle.is_theorems.proofs.ExecutionLogs.LogSegments.{run-on}
 use Rattle.is_theorems.proofs.ExecutionLogs.LogTheorems.{runs_sound}
-use Rattle.is_theorems.proofs.ExecutionLogs.SegmentsAsExecutions.{split-ended, split-run}
+use Rattle.is_theorems.proofs.ExecutionLogs.SegmentsAsExecutions.{ended-fits, split-ended, split-run}
 use Rattle.is_theorems.proofs.PollingRounds.DuePairsInLogs.{answered-later, has-following, lasts-at}
 use Rattle.is_theorems.proofs.PollingRounds.WaitingPairs.{begins, total_at}
 use Rattle.is_theorems.proofs.RuleEffects.SelectedPaths.{one_pair}
@@ -48,15 +49,15 @@ is-urgent p asked off = by (nat_lt 0 p.requests) (is_valid p) (is_nominating p.n
   by false b c asked off = absurd (let no : false ≡ true = asked in cc)
 
 -- a call of a segment is one between `handle_timeout` calls, or such a call
-abbrev IsOfRounds : {P : Type 0} → Call P → Type 0
-IsOfRounds call = (is_in_round call ≡ true) ⊎ ((now : ℕ) × (call ≡ HandleTimeout now))
+abbrev IsOfRounds : {P : Type 0} → (modern : Bool) → Call P → Type 0
+IsOfRounds modern call = (is_in_round modern call ≡ true) ⊎ ((now : ℕ) × (call ≡ HandleTimeout now))
 
-no-timeout : {P : Type 0} {R : Type 0} (call : Call P) (now : ℕ) → is_in_round call ≡ true → call ≡ HandleTimeout now → R
-no-timeout call now fits called = absurd (let no : false ≡ true = sym (ap is_in_round called) ∙ fits in cc)
+no-timeout : {P : Type 0} {R : Type 0} (modern : Bool) (call : Call P) (now : ℕ) → is_in_round modern call ≡ true → call ≡ HandleTimeout now → R
+no-timeout modern call now fits called = absurd (let no : false ≡ true = sym (ap (λ c. is_in_round modern c) called) ∙ fits in cc)
 
-still-full : {P : Type 0} (call : Call P) (l : Bool) → IsOfRounds call → lite_set_by call l ≡ l
-still-full call l (inl fits) = lite_stays call l fits
-still-full call l (inr (now, called)) = ap (λ c. lite_set_by c l) called
+still-full : {P : Type 0} (modern : Bool) (call : Call P) (l : Bool) → IsOfRounds modern call → lite_set_by call l ≡ l
+still-full modern call l (inl fits) = lite_stays modern call l fits
+still-full modern call l (inr (now, called)) = ap (λ c. lite_set_by c l) called
 
 module _ {H P : Type 0} (mac : H → List ℕ → List ℕ → List ℕ) (answers : P → CandidateRecord → ℕ → ℕ → Type 0) (first : AgentRecord H P) (s : Stream) (fresh : IsFresh first) where
   sound-at : (log : List (Logged P)) (a : AgentRecord H P) (t : Stream) → Run mac answers first s log a t → IsSound a
@@ -64,16 +65,16 @@ module _ {H P : Type 0} (mac : H → List ℕ → List ℕ → List ℕ) (answer
 
   -- ---- a valid path was valid at the beginning, or is answered
 
-  valid-back : (path : Path) (before : List (Logged P)) (start last : AgentRecord H P) (u t : Stream) (xs : List (Logged P)) → Run mac answers first s before start u
-      → (run : RunsOn mac answers before start u xs last t) → ((x : Logged P) → Has xs x → IsOfRounds x.call) → start.lite ≡ false
+  valid-back : (modern : Bool) (path : Path) (before : List (Logged P)) (start last : AgentRecord H P) (u t : Stream) (xs : List (Logged P)) → Run mac answers first s before start u
+      → (run : RunsOn mac answers before start u xs last t) → ((x : Logged P) → Has xs x → IsOfRounds modern x.call) → start.lite ≡ false
       → (last.lite ≡ false) × (IsValidOn last path → IsValidOn start path ⊎ IsAnsweredIn xs path)
-  valid-back path before start last u t [] led (is, drawn) fits full =
+  valid-back modern path before start last u t [] led (is, drawn) fits full =
       subst (λ (a : AgentRecord H P). (a.lite ≡ false) × (IsValidOn a path → IsValidOn start path ⊎ IsAnsweredIn {P = P} [] path)) (sym is) (full, λ valid. inl valid)
-  valid-back path before start last u t (x ∷ xs) led (mid, v, run, number, given, step) fits full =
-      let k = valid-back path before start mid u v xs led run (λ y has. fits y (inr has)) full in
+  valid-back modern path before start last u t (x ∷ xs) led (mid, v, run, number, given, step) fits full =
+      let k = valid-back modern path before start mid u v xs led run (λ y has. fits y (inr has)) full in
       let sound = sound-at (xs ++ before) mid v (run-on mac answers first start mid s u v before xs led run) in
       let f = (path_theorem mac answers mid last v t x.call x.entry sound given step).0 in (
-        f.lite ∙ (still-full x.call mid.lite (fits x (inl refl)) ∙ k.0),
+        f.lite ∙ (still-full modern x.call mid.lite (fits x (inl refl)) ∙ k.0),
         λ valid. elim (f.valid k.0 path valid) [
           | inl was ↦ elim (k.1 was) [ inl at_start ↦ inl at_start | inr answered ↦ inr (answered-later path x xs answered) ]
           | inr (at, by, m, role, peer, brings, success, kept, creds, signed, back) ↦ inr (x, inl refl, (at, by, m, brings, success, back))
@@ -82,32 +83,33 @@ module _ {H P : Type 0} (mac : H → List ℕ → List ℕ → List ℕ) (answer
 
   -- ---- the pair stays
 
-  stays-between : (path : Path) (p : PairRecord) (before : List (Logged P)) (start a last : AgentRecord H P) (u t : Stream) (xs : List (Logged P)) → Run mac answers first s before a u
-      → (run : RunsOn mac answers before a u xs last t) → ((x : Logged P) → Has xs x → is_in_round x.call ≡ true) → path_of start p ≡ path → Stays start p a
+  stays-between : (modern : Bool) (path : Path) (p : PairRecord) (before : List (Logged P)) (start a last : AgentRecord H P) (u t : Stream) (xs : List (Logged P)) → Run mac answers first s before a u
+      → (run : RunsOn mac answers before a u xs last t) → ((x : Logged P) → Has xs x → is_in_round modern x.call ≡ true) → path_of start p ≡ path → Stays start p a
       → IsEndedIn mac answers before a u xs last t run path ⊎ Stays start p last
-  stays-between path p before start a last u t [] led (is, drawn) fits on stays = inr (subst (λ (x : AgentRecord H P). Stays start p x) (sym is) stays)
-  stays-between path p before start a last u t (x ∷ xs) led (mid, v, run, number, given, step) fits on stays =
-      elim (stays-between path p before start a mid u v xs led run (λ y has. fits y (inr has)) on stays) [
+  stays-between modern path p before start a last u t [] led (is, drawn) fits on stays = inr (subst (λ (x : AgentRecord H P). Stays start p x) (sym is) stays)
+  stays-between modern path p before start a last u t (x ∷ xs) led (mid, v, run, number, given, step) fits on stays =
+      elim (stays-between modern path p before start a mid u v xs led run (λ y has. fits y (inr has)) on stays) [
         | inl ended ↦ inl (inr ended)
         | inr k ↦
             (let sound = sound-at (xs ++ before) mid v (run-on mac answers first a mid s u v before xs led run) in
             elim (pairs-stay mac answers mid last v t x.call x.entry k.pair sound given step k.there) [
               | inl l ↦ inr (stays-on mac answers start mid last p k l)
-              | inr ends ↦ inl (inl (fits x (inl refl), (k.pair, k.there, (ap (λ (w : Path). w.source) (k.path ∙ on), ap (λ (w : Path). w.destination) (k.path ∙ on)), ends)))
+              | inr ends ↦ inl (inl (let ended : Ends answers mid x.call x.entry path = (k.pair, k.there, (ap (λ (w : Path). w.source) (k.path ∙ on), ap (λ (w : Path). w.destination) (k.path ∙ on)), ends) in
+                  (ended-fits answers modern mid x.call x.entry path (fits x (inl refl)) ended, ended)))
             ])
       ]
 
   -- ---- a segment whose newer part has no `handle_timeout` call
 
-  join-urgent : (n : ℕ) (path : Path) (before : List (Logged P)) (start last : AgentRecord H P) (u t : Stream) (xs older : List (Logged P)) (run : RunsOn mac answers before start u (xs ++ older) last t)
-      → ((x : Logged P) → Has xs x → is_in_round x.call ≡ true)
+  join-urgent : (modern : Bool) (n : ℕ) (path : Path) (before : List (Logged P)) (start last : AgentRecord H P) (u t : Stream) (xs older : List (Logged P)) (run : RunsOn mac answers before start u (xs ++ older) last t)
+      → ((x : Logged P) → Has xs x → is_in_round modern x.call ≡ true)
       → PutUrgentFirstIn mac answers n path before start u older (split-run mac answers before start last u t xs older run).0 (split-run mac answers before start last u t xs older run).1
       (split-run mac answers before start last u t xs older run).2
       → PutUrgentFirstIn mac answers n path before start u (xs ++ older) last t run
-  join-urgent n path before start last u t [] older run fits puts = puts
-  join-urgent n path before start last u t (x ∷ xs) older (m, v, run, number, given, step) fits puts = (
-    (λ now called. no-timeout x.call now (fits x (inl refl)) called),
-    join-urgent n path before start m u v xs older run (λ y has. fits y (inr has)) puts,
+  join-urgent modern n path before start last u t [] older run fits puts = puts
+  join-urgent modern n path before start last u t (x ∷ xs) older (m, v, run, number, given, step) fits puts = (
+    (λ now called. no-timeout modern x.call now (fits x (inl refl)) called),
+    join-urgent modern n path before start m u v xs older run (λ y has. fits y (inr has)) puts,
   )
 
   -- ---- rounds
@@ -126,18 +128,19 @@ module _ {H P : Type 0} (mac : H → List ℕ → List ℕ → List ℕ) (answer
     abbrev Urgent : (rounds : List (LoggedRound P)) (last : AgentRecord H P) (t : Stream) → RunsOn mac answers before start u (entries_of rounds) last t → Type 0
     Urgent rounds last t run = PutUrgentFirstIn mac answers p.number path before start u (entries_of rounds) last t run × Stays start p last
 
-    are-of-rounds : (rounds : List (LoggedRound P)) → ((r : LoggedRound P) → Has rounds r → IsPassing by r) → (x : Logged P) → Has (entries_of rounds) x → IsOfRounds x.call
+    are-of-rounds : (rounds : List (LoggedRound P)) → ((r : LoggedRound P) → Has rounds r → IsPassing (is_modern start.timing) by r) → (x : Logged P) → Has (entries_of rounds) x → IsOfRounds (is_modern start.timing) x.call
     are-of-rounds [] are x has = absurd has
     are-of-rounds (r ∷ older) are x has = among (λ later. are-of-rounds older (λ y k. are y (inr k)) x later) r.following has (are r (inl refl)).between where
-      among : (Has (entries_of older) x → IsOfRounds x.call) → (xs : List (Logged P)) → Has (xs ++ r.timeout ∷ entries_of older) x → ((y : Logged P) → Has xs y → is_in_round y.call ≡ true) → IsOfRounds x.call
+      among : (Has (entries_of older) x → IsOfRounds (is_modern start.timing) x.call) → (xs : List (Logged P)) → Has (xs ++ r.timeout ∷ entries_of older) x → ((y : Logged P) → Has xs y → is_in_round (is_modern start.timing) y.call ≡ true)
+          → IsOfRounds (is_modern start.timing) x.call
       among in_older [] (inl e) fits = inr (r.now, ap (λ (y : Logged P). y.call) (sym e) ∙ (are r (inl refl)).comes)
       among in_older [] (inr later) fits = in_older later
-      among in_older (y ∷ xs) (inl e) fits = inl (subst (λ (z : Logged P). is_in_round z.call ≡ true) e (fits y (inl refl)))
+      among in_older (y ∷ xs) (inl e) fits = inl (subst (λ (z : Logged P). is_in_round (is_modern start.timing) z.call ≡ true) e (fits y (inl refl)))
       among in_older (y ∷ xs) (inr later) fits = among in_older xs later (λ z k. fits z (inr k))
 
     -- the pair is urgent at the next `handle_timeout` call
     urgent-at : (r : LoggedRound P) (older : List (LoggedRound P)) (old : AgentRecord H P) (z : Stream) (run : RunsOn mac answers before start u (entries_of older) old z)
-        → ((x : LoggedRound P) → Has older x → IsPassing by x) → selects r.timeout.entry ≡ false → is_modern old.timing ≡ is_modern start.timing → Stays start p old
+        → ((x : LoggedRound P) → Has older x → IsPassing (is_modern start.timing) by x) → selects r.timeout.entry ≡ false → is_modern old.timing ≡ is_modern start.timing → Stays start p old
         → PutsUrgentFirst p.number old r.timeout.entry ⊎ IsAnsweredIn (entries_of older) path
     urgent-at r older old z run are quiet rules stays = by-validity (is_valid stays.pair) refl where
       sound : IsSound old
@@ -156,12 +159,12 @@ module _ {H P : Type 0} (mac : H → List ℕ → List ℕ → List ℕ) (answer
       by-validity : (b : Bool) → is_valid stays.pair ≡ b → PutsUrgentFirst p.number old r.timeout.entry ⊎ IsAnsweredIn (entries_of older) path
       by-validity false off = inl (urgent off)
       by-validity true on =
-          elim ((valid-back path before start old u z (entries_of older) led run (are-of-rounds older are) w.line.checking.full).1 (stays.pair, stays.there, on, stays.path)) [
+          elim ((valid-back (is_modern start.timing) path before start old u z (entries_of older) led run (are-of-rounds older are) w.line.checking.full).1 (stays.pair, stays.there, on, stays.path)) [
             | inl at_start ↦ absurd (let none : ⊥ = search (served.invalid at_start) in none)
             | inr answered ↦ inr answered
           ]
 
-    served-urgent : (rounds : List (LoggedRound P)) (last : AgentRecord H P) (t : Stream) → (rounds ≡ [] ⊎ began_at rounds ≡ Some w.at) → ((r : LoggedRound P) → Has rounds r → IsPassing by r)
+    served-urgent : (rounds : List (LoggedRound P)) (last : AgentRecord H P) (t : Stream) → (rounds ≡ [] ⊎ began_at rounds ≡ Some w.at) → ((r : LoggedRound P) → Has rounds r → IsPassing (is_modern start.timing) by r)
         → ((r : LoggedRound P) → Has rounds r → keeps r.now ≡ true) → ((r : LoggedRound P) → Has rounds r → selects r.timeout.entry ≡ false) → (run : RunsOn mac answers before start u (entries_of rounds) last t)
         → ReachedIn rounds ⊎ (IsEndedIn mac answers before start u (entries_of rounds) last t run path ⊎ Urgent rounds last t run)
     served-urgent [] last t began are lasting quiet run = inr (inr (tt, subst (λ (a : AgentRecord H P). Stays start p a) (sym run.0) (stays-here mac answers start p w.line.there)))
@@ -170,7 +173,7 @@ module _ {H P : Type 0} (mac : H → List ℕ → List ℕ → List ℕ) (answer
         on-halves (here-began began) h.0 h.1 h.2.0 h.2.1 h.2.2 h.2.3 h.2.4 h.2.5 h.3
         (served-urgent older h.2.0 h.2.1 (older-began older (here-began began)) (λ x has. are x (inr has)) (λ x has. lasting x (inr has)) (λ x has. quiet x (inr has)) h.2.2)
         (λ ended. split-ended mac answers path before start last u t r.following (r.timeout ∷ entries_of older) run ended)
-        (λ puts. join-urgent p.number path before start last u t r.following (r.timeout ∷ entries_of older) run (are r (inl refl)).between puts) where
+        (λ puts. join-urgent (is_modern start.timing) p.number path before start last u t r.following (r.timeout ∷ entries_of older) run (are r (inl refl)).between puts) where
           here-began : (r ∷ older ≡ [] ⊎ began_at (r ∷ older) ≡ Some w.at) → began_at (r ∷ older) ≡ Some w.at
           here-began (inl empty) = absurd (cc)
           here-began (inr is) = is
@@ -216,7 +219,7 @@ module _ {H P : Type 0} (mac : H → List ℕ → List ℕ → List ℕ) (answer
                     elim (pairs-stay mac answers old mid z v (HandleTimeout r.now) r.timeout.entry stays.pair sound tt called stays.there) [
                       | inr (was_done, none, gone) ↦ (let no : false ≡ true = ap not (sym gone) ∙ subst (λ (x : PairRecord). not (is_expired r.now old x || gives_way r.now old x) ≡ true) one
                           (lasts-young r.now old at_call.pair at_call.checking.full (at_call.lasts r.now (lasting r (inl refl))) at_call.young) in absurd (cc))
-                      | inl here ↦ elim (stays-between path p ((r.timeout ∷ entries_of older) ++ before) start mid last v t r.following
+                      | inl here ↦ elim (stays-between (is_modern start.timing) path p ((r.timeout ∷ entries_of older) ++ before) start mid last v t r.following
                           (run-on mac answers first start mid s u v before (r.timeout ∷ entries_of older) led (old, z, run_older, number, given, step)) back (are r (inl refl)).between refl
                           (stays-on mac answers start old mid p stays here)) [
                             | inl ended ↦ inr (inl (ends (inl ended)))

@@ -1,6 +1,6 @@
 -- A controlling agent without a valid pair, and one of its pairs on which a request was served: in rounds of an execution its path is reached as
 -- in those of a log. What mutants/specifications changes is read by tactics.
-use Rattle.std.proofs.Common.{◌≡◌, ℕ, suc, ◌+◌, ◌*◌, ◌<◌, ◌≤◌, true, false, not, List, [], ◌∷◌, ◌++◌, length, nat_lt, Option, Some, None, is_some, inl, inr, ◌⊎◌, refl, ap, sym, ◌∙◌, subst, arith, append_assoc}
+use Rattle.std.proofs.Common.{◌≡◌, ℕ, suc, ◌+◌, ◌*◌, ◌<◌, ◌≤◌, Bool, true, false, not, List, [], ◌∷◌, ◌++◌, length, nat_lt, Option, Some, None, is_some, inl, inr, ◌⊎◌, refl, ap, sym, ◌∙◌, subst, arith, append_assoc}
 use Rattle.std.specs.Option.{option_or}
 use Rattle.std.proofs.lemmas.Bool.Decides.{nat_tests}
 use Rattle.rand_core.specs.Stream.{Stream}
@@ -19,35 +19,35 @@ use Rattle.is_rules.specs.Sending.{path_of}
 use Rattle.is_rules.specs.Sound.{IsSound}
 use Rattle.is_rules.specs.Steps.{Call, Entry, HandleTimeout, Step}
 use Rattle.is_rules.specs.Timeouts.{timeout_begun}
-use Rattle.is_theorems.specs.AskedCourses.{Ends, EndsAlong, IsAnsweredAlong}
-use Rattle.is_theorems.specs.Courses.{AcceptsSuccess, CourseRound}
-use Rattle.is_theorems.specs.Exchange.{Course}
+use Rattle.is_theorems.specs.AskedExecutions.{Ends, EndsAlong, IsAnsweredAlong}
+use Rattle.is_theorems.specs.Executions.{AcceptsSuccess, ExecutionRound}
+use Rattle.is_theorems.specs.Exchange.{Execution}
 use Rattle.is_theorems.specs.FirstTimeouts.{AreInRound, EndsAmong, IsOpenRound, IsReached}
 use Rattle.is_theorems.specs.Logs.{Logged}
 use Rattle.is_theorems.specs.Reached.{IsEndedIn, IsInLine, IsLasting, is_in_round, selects}
-use Rattle.is_theorems.specs.ReachedCourses.{ChecksAmong, IsAnsweredAmong, PassRounds}
+use Rattle.is_theorems.specs.ReachedExecutions.{ChecksAmong, IsAnsweredAmong, PassRounds}
 use Rattle.is_theorems.specs.Rounds.{LoggedRound, RunsOn, entries_of}
 use Rattle.is_theorems.specs.Runs.{IsFresh}
-use Rattle.is_theorems.specs.ServedSoon.{CoursesReachServed, IsOvertakenAmong, IsServed, ServedAreCheckedSoon, ServedCoursesReach, SufficesForServed}
+use Rattle.is_theorems.specs.ServedSoon.{ExecutionsReachServed, IsOvertakenAmong, IsServed, ServedAreCheckedSoon, ServedExecutionsReach, SufficesForServed}
 use Rattle.is_theorems.specs.Staying.{MayEnd, Stays}
 use Rattle.is_theorems.specs.UrgentFirst.{IsOvertaken, IsOvertakenIn}
 use Rattle.is_theorems.proofs.CallEffects.FailedCallsAndNewAgents.{fresh_sound}
 use Rattle.is_theorems.proofs.CallEffects.PathAndTradeEffects.{path_theorem}
 use Rattle.is_theorems.proofs.DuePairs.AfterNominationAndRemoval.{Base, answered-if, answered_at, base_of as agent_base, lasts-young}
 use Rattle.is_theorems.proofs.DuePairs.FirstDuePair.{Follows, due-at, timeout-follows}
-use Rattle.is_theorems.proofs.DuePairs.NoNominationDue.{Quiet, due-none, quiet-call, quiet-timeout}
+use Rattle.is_theorems.proofs.DuePairs.NoNominationDue.{Quiet, as-is, due-none, modern-execution, modern-stays, modern-stays-timeout, quiet-call, quiet-timeout}
 use Rattle.is_theorems.proofs.DuePairs.PollingCycles.{maintains_pairs-from}
 use Rattle.is_theorems.proofs.EarlierChecks.BetweenTimeouts.{Ground}
 use Rattle.is_theorems.proofs.ExecutionLogs.LogSegments.{no-case, passed as passed-at}
 use Rattle.is_theorems.proofs.ExecutionLogs.PerAgentExecutions.{as_many, begun, entry_of, leads_on, part_of, pushed, recomputed, round_of, rounds_of}
-use Rattle.is_theorems.proofs.PathSelection.NominatedByPeerPerAgent.{course_on}
+use Rattle.is_theorems.proofs.PathSelection.NominatedByPeerPerAgent.{execution_on}
 use Rattle.is_theorems.proofs.PollingRounds.AddedCandidatesPerAgent.{any, are_at, are_passing, reached-back}
 use Rattle.is_theorems.proofs.PollingRounds.FirstRound.{Waits, between-keeps, lt-from, timeout-on, waits-on}
 use Rattle.is_theorems.proofs.PollingRounds.InTurnAlong.{Lined, lined-unanswered}
 use Rattle.is_theorems.proofs.RuleEffects.SelectedPaths.{one_pair}
 use Rattle.is_rules.proofs.PairLists.RisingNumbers.{rising-each}
 use Rattle.is_theorems.proofs.StoredPairs.PairsThatStay.{pairs-stay, stays-on}
-use Rattle.is_theorems.proofs.StoredPairs.TransactionsOverPackets.{sound-course}
+use Rattle.is_theorems.proofs.StoredPairs.TransactionsOverPackets.{sound-execution}
 
 lt-is : (n m : ℕ) → n < m → nat_lt n m ≡ true
 lt-is n m h = grind (arith, nat_tests, h)
@@ -134,16 +134,16 @@ module _ {H P : Type 0} (mac : H → List ℕ → List ℕ → List ℕ) (answer
     weaker One Two before start last s t part into h = (h.0, h.1, λ k o. into k (h.2 k o))
 
     -- packets, polls and other calls between two `handle_timeout` calls
-    holds_course : (xs : List (Call P × Entry)) (before : List (Logged P)) (old new : AgentRecord H P) → AreInRound xs → (course : Course mac answers xs old new)
-        → (EndsAlong mac answers xs old new course path → Gone) → Holds IsNone before old (part_of before xs) new
-    holds_course [] before old new fits is ends t = (t, ((is, refl), (λ none. absurd none), λ k o. o))
-    holds_course (x ∷ rest) before old new fits (mid, s, t, based, step, more) ends u =
-        let k = holds_course rest (entry_of before x.0 x.1 ∷ before) mid new (λ y has. fits y (inr has)) more (λ e. ends (inr e)) u in
+    holds_execution : (modern : Bool) (xs : List (Call P × Entry)) (before : List (Logged P)) (old new : AgentRecord H P) → AreInRound modern xs → (execution : Execution mac answers xs old new)
+        → (EndsAlong mac answers xs old new execution path → Gone) → Holds IsNone before old (part_of before xs) new
+    holds_execution modern [] before old new fits is ends t = (t, ((is, refl), (λ none. absurd none), λ k o. o))
+    holds_execution modern (x ∷ rest) before old new fits (mid, s, t, based, step, more) ends u =
+        let k = holds_execution modern rest (entry_of before x.0 x.1 ∷ before) mid new (λ y has. fits y (inr has)) more (λ e. ends (inr e)) u in
         let a = recomputed mac answers x.0 x.1 old mid s t k.0 step in
         let here : Held IsNone before old a.0 (entry_of before x.0 x.1 ∷ []) mid k.0 = (
           (old, a.0, (refl, refl), refl, based, a.1),
           (λ e. elim e [ inl is ↦ ends (inl is.1) | inr none ↦ absurd none ]),
-          λ c o. elim o [ inl is ↦ is | inr (now, j, is, called, overtaken, o) ↦ no-case (sym (ap (λ z. is_in_round z) called) ∙ fits x (inl refl)) ],
+          λ c o. elim o [ inl is ↦ is | inr (now, j, is, called, overtaken, o) ↦ no-case (sym (ap (λ z. is_in_round modern z) called) ∙ fits x (inl refl)) ],
         ) in (
           a.0,
           weaker _ IsNone before old new a.0 u (part_of (entry_of before x.0 x.1 ∷ before) rest ++ entry_of before x.0 x.1 ∷ [])
@@ -152,21 +152,21 @@ module _ {H P : Type 0} (mac : H → List ℕ → List ℕ → List ℕ) (answer
         )
 
     -- the `handle_timeout` call of a round overtakes the pair, or it does not
-    abbrev InCall : CourseRound P → AgentRecord H P → ℕ → Type 0
+    abbrev InCall : ExecutionRound P → AgentRecord H P → ℕ → Type 0
     InCall r old i = (i ≡ 0) ⊎ ((j : ℕ) × (i ≡ suc j) × IsOvertaken n r.now old r.timeout.emitted × (j ≡ 0))
 
-    holds_rounds : (Acc : ℕ → Type 0) (rounds : List (CourseRound P)) (before : List (Logged P)) (older : List (LoggedRound P)) (start old new : AgentRecord H P)
-        → Holds Acc before start (entries_of older) old → (chain : PassRounds mac answers rounds old new) → ((x : CourseRound P) → Has rounds x → AreInRound x.following)
+    holds_rounds : (modern : Bool) (Acc : ℕ → Type 0) (rounds : List (ExecutionRound P)) (before : List (Logged P)) (older : List (LoggedRound P)) (start old new : AgentRecord H P)
+        → Holds Acc before start (entries_of older) old → (chain : PassRounds mac answers rounds old new) → ((x : ExecutionRound P) → Has rounds x → AreInRound modern x.following)
         → (EndsAmong mac answers rounds old new chain path → Gone)
         → Holds (Both Acc (λ j. IsOvertakenAmong mac answers n j rounds old new chain)) before start (entries_of (rounds_of before older rounds)) new
-    holds_rounds Acc [] before older start old new held is fits ends t =
+    holds_rounds modern Acc [] before older start old new held is fits ends t =
         let h = held t in (
           h.0,
           subst (λ (a : AgentRecord H P). Held (Both Acc IsNone) before start h.0 (entries_of older) a t) (sym is)
               (h.1.0, h.1.1, λ k o. (k, 0, with-none k, h.1.2 k o, refl)),
         )
-    holds_rounds Acc (r ∷ later) before older start old new held (mid, next, s, t, step, course, more) fits ends u =
-        let k = holds_rounds (Both Acc (InCall r old)) later before (round_of (entries_of older ++ before) r ∷ older) start next new one more (λ x has. fits x (inr has)) (λ e. ends (inr e)) u in
+    holds_rounds modern Acc (r ∷ later) before older start old new held (mid, next, s, t, step, execution, more) fits ends u =
+        let k = holds_rounds modern (Both Acc (InCall r old)) later before (round_of (entries_of older ++ before) r ∷ older) start next new one more (λ x has. fits x (inr has)) (λ e. ends (inr e)) u in
         (k.0, weaker _ _ before start new k.0 u (entries_of (rounds_of before (round_of (entries_of older ++ before) r ∷ older) later)) (λ c o. in-all c o) k.1) where
           timeout : Logged P
           timeout = entry_of (entries_of older ++ before) (HandleTimeout r.now) r.timeout
@@ -176,7 +176,7 @@ module _ {H P : Type 0} (mac : H → List ℕ → List ℕ → List ℕ) (answer
 
           one : Holds (Both Acc (InCall r old)) before start (entries_of (round_of (entries_of older ++ before) r ∷ older)) next
           one v =
-              let k = holds_course r.following (timeout ∷ (entries_of older ++ before)) mid next (fits r (inl refl)) course (λ e. ends (inl (search e))) v in
+              let k = holds_execution modern r.following (timeout ∷ (entries_of older ++ before)) mid next (fits r (inl refl)) execution (λ e. ends (inl (search e))) v in
               let a = recomputed mac answers (HandleTimeout r.now) r.timeout old mid s t k.0 step in
               let h = held a.0 in
               let called : Held (Both Acc (InCall r old)) before start h.0 (timeout ∷ entries_of older) mid k.0 = (
@@ -205,13 +205,13 @@ module _ {H P : Type 0} (mac : H → List ℕ → List ℕ → List ℕ) (answer
                 in-call c i j all none both = subst (λ d. Both Acc (InCall r old) d) (sym (only c i j all none)) both
 
           in-all : (c : ℕ) → Both (Both Acc (InCall r old)) (λ j. IsOvertakenAmong mac answers n j later next new more) c
-              → Both Acc (λ j. IsOvertakenAmong mac answers n j (r ∷ later) old new (mid, next, s, t, step, course, more)) c
+              → Both Acc (λ j. IsOvertakenAmong mac answers n j (r ∷ later) old new (mid, next, s, t, step, execution, more)) c
           in-all c (i, j, all, (a, b, both, acc, inl none), among) = (a, j, none-then c a b j i all both none, acc, inl among)
           in-all c (i, j, all, (a, b, both, acc, inr (d, some, overtaken, none)), among) = (a, suc j, one-then c a b d j i all both some none, acc, inr (j, omega arith, search overtaken, among))
 
   -- no `handle_timeout` call of the rounds selects a path
-  are_silent : (before : List (Logged P)) (older : List (LoggedRound P)) (rounds : List (CourseRound P)) → ((r : LoggedRound P) → Has older r → selects r.timeout.entry ≡ false)
-      → ((r : CourseRound P) → Has rounds r → selects r.timeout ≡ false) → (r : LoggedRound P) → Has (rounds_of before older rounds) r → selects r.timeout.entry ≡ false
+  are_silent : (before : List (Logged P)) (older : List (LoggedRound P)) (rounds : List (ExecutionRound P)) → ((r : LoggedRound P) → Has older r → selects r.timeout.entry ≡ false)
+      → ((r : ExecutionRound P) → Has rounds r → selects r.timeout ≡ false) → (r : LoggedRound P) → Has (rounds_of before older rounds) r → selects r.timeout.entry ≡ false
   are_silent before older [] were are r has = were r has
   are_silent before older (x ∷ later) were are r has =
       are_silent before (round_of (entries_of older ++ before) x ∷ older) later
@@ -221,18 +221,18 @@ module _ {H P : Type 0} (mac : H → List ℕ → List ℕ → List ℕ) (answer
       ])
       (λ y there. are y (inr there)) r has
 
-  served-courses : ServedAreCheckedSoon {H = H} {P = P} mac answers
-      → (first start last : AgentRecord H P) (xs : List (Call P × Entry)) (r : CourseRound P) (rounds : List (CourseRound P)) (p : PairRecord) (by m : ℕ)
-      → IsFresh first → Course mac answers xs first start → IsInLine r.now by start p → IsServed start p → (chain : PassRounds mac answers (r ∷ rounds) start last)
-      → ((x : CourseRound P) → Has (r ∷ rounds) x → IsOpenRound by x) → ((x : CourseRound P) → Has (r ∷ rounds) x → IsLasting x.now start p)
-      → ((x : CourseRound P) → Has (r ∷ rounds) x → selects x.timeout ≡ false) → 2 * m ≤ length (r ∷ rounds)
+  served-executions : ServedAreCheckedSoon {H = H} {P = P} mac answers
+      → (first start last : AgentRecord H P) (xs : List (Call P × Entry)) (r : ExecutionRound P) (rounds : List (ExecutionRound P)) (p : PairRecord) (by m : ℕ)
+      → IsFresh first → Execution mac answers xs first start → IsInLine r.now by start p → IsServed start p → (chain : PassRounds mac answers (r ∷ rounds) start last)
+      → ((x : ExecutionRound P) → Has (r ∷ rounds) x → IsOpenRound (is_modern start.timing) by x) → ((x : ExecutionRound P) → Has (r ∷ rounds) x → IsLasting x.now start p)
+      → ((x : ExecutionRound P) → Has (r ∷ rounds) x → selects x.timeout ≡ false) → 2 * m ≤ length (r ∷ rounds)
       → ChecksAmong (r ∷ rounds) (path_of start p)
       ⊎ (IsAnsweredAmong (r ∷ rounds) (path_of start p)
       ⊎ (EndsAmong mac answers (r ∷ rounds) start last chain (path_of start p) ⊎ IsOvertakenAmong mac answers p.number m (r ∷ rounds) start last chain))
-  served-courses checked first start last xs r rounds p by m fresh course line served chain are lasting silent enough =
-      let held = holds_rounds p.number path Gone IsNone (r ∷ rounds) before [] start start last (λ t. (t, ((refl, refl), (λ none. absurd none), λ k o. o))) chain
+  served-executions checked first start last xs r rounds p by m fresh execution line served chain are lasting silent enough =
+      let held = holds_rounds p.number path Gone (is_modern start.timing) IsNone (r ∷ rounds) before [] start start last (λ t. (t, ((refl, refl), (λ none. absurd none), λ k o. o))) chain
       (λ x has. (let round = are x has in λ y there. (let in_round = round.between in in_round y there))) (λ e. e) (any mac answers) in
-      let led = leads_on mac answers first xs [] first start (λ t. (t, (refl, refl))) course held.0 in
+      let led = leads_on mac answers first xs [] first start (λ t. (t, (refl, refl))) execution held.0 in
       let many = as_many before [] (r ∷ rounds) in
       elim (checked first led.0 (entries_of all ++ before) fresh before start last all p by m
       (record { rest = []; split = refl; at = held.0; led = led.1; following = any mac answers; run = held.1.0 })
@@ -241,7 +241,7 @@ module _ {H P : Type 0} (mac : H → List ℕ → List ℕ → List ℕ) (answer
           at = r.now;
           began = begun before (round_of ([] ++ before) r) [] rounds;
           line = line;
-          passing = are_passing by before [] (r ∷ rounds) (λ x none. absurd none) are;
+          passing = are_passing (is_modern start.timing) by before [] (r ∷ rounds) (λ x none. absurd none) are;
           lasting = are_at (λ k. IsLasting k start p) before [] (r ∷ rounds) (λ x none. absurd none) lasting;
         };
         served = served;
@@ -275,9 +275,9 @@ module _ {H P : Type 0} (mac : H → List ℕ → List ℕ → List ℕ) (answer
         on (inr (inl answered)) = inr (inl answered)
         on (inr (inr gone)) = inr (inr (inl gone))
 
-  pub served-courses-reach : ServedAreCheckedSoon {H = H} {P = P} mac answers → ServedCoursesReach {H = H} {P = P} mac answers
-  served-courses-reach checked first start last xs r later p by m fresh course line served run opens lasting quiet enough =
-      elim (served-courses checked first start last xs r later p by m fresh course line served run (λ x has. opens x has) (λ x has. lasting x has) (λ x has. quiet x has) enough) [
+  pub served-executions-reach : ServedAreCheckedSoon {H = H} {P = P} mac answers → ServedExecutionsReach {H = H} {P = P} mac answers
+  served-executions-reach checked first start last xs r later p by m fresh execution line served run opens lasting quiet enough =
+      elim (served-executions checked first start last xs r later p by m fresh execution line served run (λ x has. opens x has) (λ x has. lasting x has) (λ x has. quiet x has) enough) [
         | inl checks ↦ inl (inl checks)
         | inr (inl answered) ↦ inl (inr (inl answered))
         | inr (inr (inl ends)) ↦ inl (inr (inr ends))
@@ -286,8 +286,8 @@ module _ {H P : Type 0} (mac : H → List ℕ → List ℕ → List ℕ) (answer
 
   -- ---- no pair is valid, so no `handle_timeout` call selects a path
 
-  abbrev Accepted : List (CourseRound P) → Type 0
-  Accepted rounds = (x : CourseRound P) × Has rounds x × ((y : Call P × Entry) × Has x.following y × AcceptsSuccess y.0 y.1)
+  abbrev Accepted : List (ExecutionRound P) → Type 0
+  Accepted rounds = (x : ExecutionRound P) × Has rounds x × ((y : Call P × Entry) × Has x.following y × AcceptsSuccess y.0 y.1)
 
   selects-none : (now : ℕ) (e : Entry) (old new : AgentRecord H P) (s t : Stream) → IsSound old → Quiet old → Step mac answers old s (HandleTimeout now) e new t → selects e ≡ false
   selects-none now e old new s t sound q step =
@@ -297,29 +297,30 @@ module _ {H P : Type 0} (mac : H → List ℕ → List ℕ → List ℕ) (answer
         | inr a ↦ a.5
       ])
 
-  quiet-calls : (xs : List (Call P × Entry)) (old new : AgentRecord H P) → AreInRound xs → IsSound old → Course mac answers xs old new → Quiet old
+  quiet-calls : (modern : Bool) (xs : List (Call P × Entry)) (old new : AgentRecord H P) → is_modern old.timing ≡ modern → AreInRound modern xs → IsSound old → Execution mac answers xs old new → Quiet old
       → ((y : Call P × Entry) × Has xs y × AcceptsSuccess y.0 y.1) ⊎ Quiet new
-  quiet-calls [] old new fits sound is q = inr (subst (λ (a : AgentRecord H P). Quiet a) (sym is) q)
-  quiet-calls (x ∷ rest) old new fits sound (mid, s, t, given, step, more) q =
-      elim (quiet-call mac answers x.0 x.1 old mid s t (fits x (inl refl)) sound given q step) [
+  quiet-calls modern [] old new rules fits sound is q = inr (subst (λ (a : AgentRecord H P). Quiet a) (sym is) q)
+  quiet-calls modern (x ∷ rest) old new rules fits sound (mid, s, t, given, step, more) q =
+      elim (quiet-call mac answers x.0 x.1 old mid s t (as-is modern (is_modern old.timing) x.0 rules (fits x (inl refl))) sound given q step) [
         | inl success ↦ inl (x, inl refl, success)
-        | inr still ↦ elim (quiet-calls rest mid new (λ y has. fits y (inr has)) (path_theorem mac answers old mid s t x.0 x.1 sound given step).1 more still) [
+        | inr still ↦ elim (quiet-calls modern rest mid new (modern-stays mac answers modern x.0 x.1 old mid s t (fits x (inl refl)) step ∙ rules) (λ y has. fits y (inr has)) (path_theorem mac answers old mid s t x.0 x.1 sound given step).1 more still) [
           | inl (y, has, success) ↦ inl (y, inr has, success)
           | inr after ↦ inr after
         ]
       ]
 
-  silent-rounds : (rounds : List (CourseRound P)) (old new : AgentRecord H P) → IsSound old → Quiet old → ((x : CourseRound P) → Has rounds x → AreInRound x.following) → PassRounds mac answers rounds old new
-      → Accepted rounds ⊎ ((x : CourseRound P) → Has rounds x → selects x.timeout ≡ false)
-  silent-rounds [] old new sound q fits run = inr (λ x has. absurd has)
-  silent-rounds (r ∷ later) old new sound q fits (mid, next, s, t, step, course, more) =
+  silent-rounds : (modern : Bool) (rounds : List (ExecutionRound P)) (old new : AgentRecord H P) → is_modern old.timing ≡ modern → IsSound old → Quiet old → ((x : ExecutionRound P) → Has rounds x → AreInRound modern x.following) → PassRounds mac answers rounds old new
+      → Accepted rounds ⊎ ((x : ExecutionRound P) → Has rounds x → selects x.timeout ≡ false)
+  silent-rounds modern [] old new rules sound q fits run = inr (λ x has. absurd has)
+  silent-rounds modern (r ∷ later) old new rules sound q fits (mid, next, s, t, step, execution, more) =
       let sound_mid : IsSound mid = (path_theorem mac answers old mid s t (HandleTimeout r.now) r.timeout sound tt step).1 in
-      elim (quiet-calls r.following mid next (fits r (inl refl)) sound_mid course (quiet-timeout mac answers r.now r.timeout old mid s t sound q step)) [
+      let rules_mid : is_modern mid.timing ≡ modern = modern-stays-timeout mac answers r.now r.timeout old mid s t step ∙ rules in
+      elim (quiet-calls modern r.following mid next rules_mid (fits r (inl refl)) sound_mid execution (quiet-timeout mac answers r.now r.timeout old mid s t sound q step)) [
         | inl accepts ↦ inl (r, inl refl, accepts)
-        | inr still ↦ elim (silent-rounds later next new (sound-course mac answers r.following mid next sound_mid course) still (λ x has. fits x (inr has)) more) [
+        | inr still ↦ elim (silent-rounds modern later next new (modern-execution mac answers modern r.following mid next (fits r (inl refl)) execution ∙ rules_mid) (sound-execution mac answers r.following mid next sound_mid execution) still (λ x has. fits x (inr has)) more) [
           | inl (x, has, accepts) ↦ inl (x, inr has, accepts)
           | inr silent ↦ inr (λ x has. elim has [
-            | inl is ↦ ap (λ (z : CourseRound P). selects z.timeout) (sym is) ∙ selects-none r.now r.timeout old mid s t sound q step
+            | inl is ↦ ap (λ (z : ExecutionRound P). selects z.timeout) (sym is) ∙ selects-none r.now r.timeout old mid s t sound q step
             | inr there ↦ silent x there
           ])
         ]
@@ -335,17 +336,17 @@ module _ {H P : Type 0} (mac : H → List ℕ → List ℕ → List ℕ) (answer
       quiet : Quiet a
       rules : is_modern a.timing ≡ is_modern start.timing
 
-    kept-on : by ≤ at → (xs : List (Call P × Entry)) (old new : AgentRecord H P) → AreInRound xs → IsSound old → (course : Course mac answers xs old new) → Kept old
-        → ((y : Call P × Entry) × Has xs y × AcceptsSuccess y.0 y.1) ⊎ (EndsAlong mac answers xs old new course (path_of start p) ⊎ Kept new)
+    kept-on : by ≤ at → (xs : List (Call P × Entry)) (old new : AgentRecord H P) → AreInRound (is_modern start.timing) xs → IsSound old → (execution : Execution mac answers xs old new) → Kept old
+        → ((y : Call P × Entry) × Has xs y × AcceptsSuccess y.0 y.1) ⊎ (EndsAlong mac answers xs old new execution (path_of start p) ⊎ Kept new)
     kept-on from [] old new fits sound is k = inr (inr (subst (λ (a : AgentRecord H P). Kept a) (sym is) k))
     kept-on from (x ∷ rest) old new fits sound (mid, s, t, given, step, more) k =
         let sound_mid : IsSound mid = (path_theorem mac answers old mid s t x.0 x.1 sound given step).1 in
         let w = k.waits in
         let ends-here : MayEnd answers old x.0 x.1 w.pair → Ends answers old x.0 x.1 (path_of start p) =
         λ ends. (w.pair, w.there, (ap (λ (y : Path). y.source) w.on, ap (λ (y : Path). y.destination) w.on), ends) in
-        elim (quiet-call mac answers x.0 x.1 old mid s t (fits x (inl refl)) sound given k.quiet step) [
+        elim (quiet-call mac answers x.0 x.1 old mid s t (as-is (is_modern start.timing) (is_modern old.timing) x.0 k.rules (fits x (inl refl))) sound given k.quiet step) [
           | inl success ↦ inl (x, inl refl, success)
-          | inr still ↦ elim (between-keeps mac answers by p.number (path_of start p) (answered_at start p) at x.0 x.1 old mid s t w.checking.peer w.last w.pair sound w.there w.number w.on (fits x (inl refl)) step) [
+          | inr still ↦ elim (between-keeps mac answers by p.number (path_of start p) (answered_at start p) at x.0 x.1 old mid s t w.checking.peer w.last w.pair sound w.there w.number w.on (is_modern start.timing) (fits x (inl refl)) step) [
             | inl (when, via, m, brings, success, back) ↦ inl (x, inl refl, (when, via, m, brings, success))
             | inr (inl ends) ↦ inr (inl (inl (ends-here ends)))
             | inr (inr keeps) ↦ elim (pairs-stay mac answers old mid s t x.0 x.1 w.pair sound given step w.there) [
@@ -368,8 +369,8 @@ module _ {H P : Type 0} (mac : H → List ℕ → List ℕ → List ℕ) (answer
 
   -- ---- the rounds
 
-  pub courses-reach-served : ServedAreCheckedSoon {H = H} {P = P} mac answers → CoursesReachServed {H = H} {P = P} mac answers
-  courses-reach-served checked first start last xs r later p by fresh course role waits unanswered from done between run passing enough =
+  pub executions-reach-served : ServedAreCheckedSoon {H = H} {P = P} mac answers → ExecutionsReachServed {H = H} {P = P} mac answers
+  executions-reach-served checked first start last xs r later p by fresh execution role waits unanswered from done between run passing enough =
       elim (timeout-on mac answers by p.number path (answered_at start p) r.now (omega (arith, from)) r.timeout start run.0 run.2 run.3 p done run.4 sound_start sound_mid line (λ m is. is) refl refl) [
         | inl (id, out) ↦ inr (inl (r, id, inl refl, out))
         | inr (other, w) ↦ elim (kept-on start p by r.now (omega (arith, from)) r.following run.0 run.1 (λ x has. between x has) sound_mid run.5
@@ -386,17 +387,17 @@ module _ {H P : Type 0} (mac : H → List ℕ → List ℕ → List ℕ) (answer
         controls = cc
 
         sound_start : IsSound start
-        sound_start = sound-course mac answers xs first start (subst (λ (a : AgentRecord H P). IsSound a) (sym fresh.2) (fresh_sound H P first.provider fresh.0 fresh.1)) course
+        sound_start = sound-execution mac answers xs first start (subst (λ (a : AgentRecord H P). IsSound a) (sym fresh.2) (fresh_sound H P first.provider fresh.0 fresh.1)) execution
 
         sound_mid : IsSound run.0
         sound_mid = (path_theorem mac answers start run.0 run.2 run.3 (HandleTimeout r.now) r.timeout sound_start tt run.4).1
 
         sound_next : IsSound run.1
-        sound_next = sound-course mac answers r.following run.0 run.1 sound_mid run.5
+        sound_next = sound-execution mac answers r.following run.0 run.1 sound_mid run.5
 
-        to-next : Course mac answers ((xs ++ (HandleTimeout r.now, r.timeout) ∷ []) ++ r.following) first run.1
-        to-next = course_on mac answers (xs ++ (HandleTimeout r.now, r.timeout) ∷ []) r.following first run.0 run.1
-            (course_on mac answers xs ((HandleTimeout r.now, r.timeout) ∷ []) first start run.0 course (run.0, run.2, run.3, tt, run.4, refl)) run.5
+        to-next : Execution mac answers ((xs ++ (HandleTimeout r.now, r.timeout) ∷ []) ++ r.following) first run.1
+        to-next = execution_on mac answers (xs ++ (HandleTimeout r.now, r.timeout) ∷ []) r.following first run.0 run.1
+            (execution_on mac answers xs ((HandleTimeout r.now, r.timeout) ∷ []) first start run.0 execution (run.0, run.2, run.3, tt, run.4, refl)) run.5
 
         line : Lined r.now by start p
         line = lined-unanswered r.now by start p waits unanswered
@@ -418,16 +419,16 @@ module _ {H P : Type 0} (mac : H → List ℕ → List ℕ → List ℕ) (answer
               let no : false ≡ true = ap not (sym gone) ∙ lasts-young r.now start p line.checking.full (answered-if start p r.now sound_start line.there (search line.lasting)) young in absurd (cc))
         ]
 
-        from-second : (rounds : List (CourseRound P)) → Kept start p by r.now run.1 → (more : PassRounds mac answers rounds run.1 last) → ((x : CourseRound P) → Has rounds x → IsOpenRound by x)
+        from-second : (rounds : List (ExecutionRound P)) → Kept start p by r.now run.1 → (more : PassRounds mac answers rounds run.1 last) → ((x : ExecutionRound P) → Has rounds x → IsOpenRound (is_modern start.timing) by x)
             → SufficesForServed mac answers start p rounds run.1 last more
             → Accepted (r ∷ rounds) ⊎ IsReached mac answers (r ∷ rounds) start last (run.0, run.1, run.2, run.3, run.4, run.5, more) path
         from-second [] k more opens s = absurd (let few = s.few in let o : IsOvertakenAmong mac answers p.number s.m [] run.1 last more = none s.m (let enough = s.enough in omega (arith, enough)) in search (few, o)) where
           none : (m : ℕ) → 2 * m ≤ 0 → m ≡ 0
           none m few = omega (arith, few)
         from-second (second ∷ rounds) k more opens s =
-            elim (silent-rounds (second ∷ rounds) run.1 last sound_next k.quiet (λ x has. (let round = opens x has in λ y there. (let in_round = round.between in in_round y there))) more) [
+            elim (silent-rounds (is_modern start.timing) (second ∷ rounds) run.1 last k.rules sound_next k.quiet (λ x has. (let round = opens x has in λ y there. (let in_round = round.between in in_round y there))) more) [
               | inl (x, has, accepts) ↦ inl (x, inr has, accepts)
-              | inr silent ↦ by-path (served-courses checked first run.1 last ((xs ++ (HandleTimeout r.now, r.timeout) ∷ []) ++ r.following) second rounds v.pair by s.m fresh to-next
+              | inr silent ↦ by-path (served-executions checked first run.1 last ((xs ++ (HandleTimeout r.now, r.timeout) ∷ []) ++ r.following) second rounds v.pair by s.m fresh to-next
                   (record {
                     checking = v.checking;
                     queue = v.queue;
@@ -437,7 +438,7 @@ module _ {H P : Type 0} (mac : H → List ℕ → List ℕ → List ℕ) (answer
                     young = lt-from (unanswered_count v.pair.checks) run.1.timing.max_retransmits v.young;
                     lasting = λ valid. never valid;
                   })
-                  (record { modern = search (rule); requested = search (requested); invalid = λ valid. none valid }) more (λ x has. opens x has) (λ x has valid. never valid) (λ x has. silent x has) (let enough = s.enough in omega (arith, enough)))
+                  (record { modern = search (rule); requested = search (requested); invalid = λ valid. none valid }) more (λ x has. subst (λ b. IsOpenRound b by x) (sym k.rules) (opens x has)) (λ x has valid. never valid) (λ x has. silent x has) (let enough = s.enough in omega (arith, enough)))
             ] where
               v : Waits by p.number path (answered_at start p) r.now run.1
               v = k.waits

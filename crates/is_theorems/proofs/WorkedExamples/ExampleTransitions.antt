@@ -27,7 +27,7 @@ use Rattle.is_rules.specs.Emitted.{nothing_emitted, issued_only, selected_only, 
 use Rattle.is_rules.specs.Agent.{AgentRecord, default_timing, fresh}
 use Rattle.is_rules.specs.States.{evaluated}
 use Rattle.is_rules.specs.Serving.{Serves}
-use Rattle.is_rules.specs.Answers.{TakesSuccess, success_counted, mapped_added}
+use Rattle.is_rules.specs.Answers.{HandlesSuccess, success_counted, mapped_added}
 use Rattle.is_rules.specs.Accepting.{HandlesPacket, IsAcceptedOn}
 use Rattle.is_rules.specs.Checking.{all_asked}
 use Rattle.is_rules.specs.Timeouts.{at_timeout, timeout_begun, TimesOut}
@@ -148,7 +148,7 @@ module _ {H P : Type 0} (mac : H → List ℕ → List ℕ → List ℕ) (answer
   answer integrity = record (binding_reply zero_id address_1) { integrity = Some integrity }
 
   takes : (integrity : Integrity) (mid : AgentRecord H P) → mid ≡ evaluated (milliseconds 50) (selected_paths valid_pair recorded)
-      → TakesSuccess (milliseconds 50) checked_agent (reversed path_12) (answer integrity) (selected_only (Some path_12)) mid
+      → HandlesSuccess (milliseconds 50) checked_agent (reversed path_12) (answer integrity) (selected_only (Some path_12)) mid
   unfolding checked_agent sent_check checked_pair valid_pair recorded
   takes integrity mid is = (
     recorded,
@@ -235,7 +235,7 @@ module _ {H P : Type 0} (mac : H → List ℕ → List ℕ → List ℕ) (answer
           (
             record (fresh provider creds_1 1) { controlling = true },
             s,
-            (fresh provider creds_1 1, s, (refl, refl), refl, tt, (Ok _, refl, (refl, refl), refl)),
+            (fresh provider creds_1 1, s, (refl, refl), refl, tt, (refl, refl, refl)),
             refl,
             tt,
             (Ok _, refl, (refl, refl), refl),

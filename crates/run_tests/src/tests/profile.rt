@@ -157,20 +157,25 @@ static SCRIPTS: [(&str, &str); 8] = [
         A poll ok\n\
         A event state Disconnected\n",
     ),
-    // A lite agent that keeps its role is not made controlling.
+    // A lite agent that keeps its role is not made controlling: it responds to a controlling agent with success, and not with a 487.
     (
-        r#"{"call":"agent","ufrag":"AAAA","pass":"PPPP","tie":1,"polls":false}
+        r#"{"call":"agent","ufrag":"p9KA","pass":"xJcE9AQAR7kczUDVOXRUCl","tie":1,"polls":false}
 {"call":"profile","name":"modern","polls":false}
 {"call":"lite","flag":true,"polls":false}
 {"call":"controlling","flag":true,"polls":false}
-{"call":"profile","name":"original","polls":false}
-{"call":"controlling","flag":true,"polls":false}"#,
+{"call":"host","addr":"10.0.0.1:1000","proto":"udp","polls":false}
+{"call":"remote","ufrag":"SQAt","pass":"x","polls":false}
+{"call":"packet","now":0,"proto":"udp","from":"10.0.0.2:2000","to":"10.0.0.1:1000","hex":"000100502112a4426a756331357578556e6747630006000970394b413a53514174000000c05700040001000a802a00086eeec6e97d18395c00250000002400046e7f1eff000800145d0425a0207ab1e054102299aaf9839ca076c6d580280004360e219f","polls":false}
+{"call":"poll","what":"transmit"}"#,
         "A agent ok\n\
         A profile ok\n\
         A lite ok\n\
-        A controlling refused LiteStaysControlled\n\
-        A profile ok\n\
-        A controlling ok\n",
+        A controlling ok\n\
+        A host added\n\
+        A remote ok\n\
+        A packet true\n\
+        A poll ok\n\
+        A send 0 udp 10.0.0.1:1000 10.0.0.2:2000 0101002c2112a4426a756331357578556e67476300200008000126c22b12a440000800144465f0405413b525dd2d5730e3e8c803daecef75802800044a6e4696\n",
     ),
     // A time follows a call that serves an early request.
     (

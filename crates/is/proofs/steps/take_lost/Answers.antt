@@ -1,10 +1,8 @@
-use Rattle.std.proofs.Common.{refl, ap, ◌∙◌}
-use Rattle.is_agent.specs.View.{record_of, emitted_of}
-use Rattle.is_rules.specs.Steps.{Answer, Entry}
+use Rattle.std.proofs.Common.{refl}
+use Rattle.is_agent.specs.View.{emitted_of}
 use Rattle.is.proofs.steps.take_lost.Goals as goal
 
 pub returns-clause-did : goal.returns-clause-did
 returns-clause-did g c = λ s.
-    let emitted = emitted_of c.invalidate_candidate.new.self in
-    let entry : Answer → Entry = λ answer. record { answer = answer; emitted = emitted } in
-    (c.invalidate_candidate.result, emitted, c.telling.ensures.emitted ∙ ap entry c.flag_or_rejected-answer.ensures, c.invalidate_candidate.ensures, refl)
+    let found = c.invalidate_candidate-found in
+    (found.result, emitted_of found.new.self, c.telling.ensures.emitted, found.ensures, refl)

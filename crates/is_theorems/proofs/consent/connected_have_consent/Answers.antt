@@ -1,4 +1,4 @@
-use Rattle.is_theorems.proofs.ConnectedConsent.ConnectedCourses.{connected-have-consent}
+use Rattle.is_theorems.proofs.ConnectedConsent.ConnectedExecutions.{connected-have-consent}
 use Rattle.is_theorems.proofs.consent.connected_have_consent.Goals as goal
 
 pub returns : goal.returns

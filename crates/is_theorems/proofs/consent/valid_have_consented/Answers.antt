@@ -1,4 +1,4 @@
-use Rattle.is_theorems.proofs.ConnectedConsent.AnsweredCourses.{valid-have-consented}
+use Rattle.is_theorems.proofs.ConnectedConsent.AnsweredExecutions.{valid-have-consented}
 use Rattle.is_theorems.proofs.consent.valid_have_consented.Goals as goal
 
 pub returns : goal.returns

@@ -2,4 +2,4 @@ use Rattle.is_theorems.proofs.PunctualTimeouts.SelectedInTimeInLogs.{selected-in
 use Rattle.is_theorems.proofs.timing.selected_in_time.Goals as goal
 
 pub returns : goal.returns
-returns g c = selected-in-time _ _ c.courses_select_in_time.ensures
+returns g c = selected-in-time _ _ c.executions_select_in_time.ensures

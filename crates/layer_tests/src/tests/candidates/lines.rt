@@ -59,8 +59,7 @@ fn an_active_tcp_line_of_chrome_reads(rt: HostRuntime) -> Result<(), Fail> {
     let line =
         "candidate:1052353102 1 tcp 1518280447 2001:db8::7a 9 typ host tcptype active generation 0 network-id 3";
     let host = Candidate::from_sdp_string(rt.alloc(), line)?;
-    assert!(rt; is_active_at(&host, "[2001:db8::7a]:9"));
-    assert!(rt; host.prio() == 1518280447);
+    assert!(rt; is_active_at(&host, "[2001:db8::7a]:9") && host.prio() == 1518280447);
     Ok(())
 }
 
@@ -69,9 +68,11 @@ fn a_relayed_ipv6_line_reads_with_its_related_address(rt: HostRuntime) -> Result
     let line =
         "candidate:3 1 udp 16777215 2001:db8::1 50000 typ relay raddr 2001:db8:0:1:2:3:4:5 rport 61000";
     let relayed = Candidate::from_sdp_string(rt.alloc(), line)?;
-    assert!(rt; relayed.kind() == CandidateKind::Relayed);
-    assert!(rt; Some(relayed.local()) == address("[::]:0"));
-    assert!(rt; has_line(rt.alloc(), &relayed, line));
+    assert!(rt;
+        relayed.kind() == CandidateKind::Relayed
+            && Some(relayed.local()) == address("[::]:0")
+            && has_line(rt.alloc(), &relayed, line)
+    );
     Ok(())
 }
 
@@ -129,8 +130,10 @@ fn lines_of_any_number_of_keys_read_to_their_last_word(rt: HostRuntime) -> Resul
     let text = "candidate:1 1 udp 1 10.0.0.1 1 typ host ufrag z";
     let mut line = String::from_str(rt.alloc(), "candidate:1 1 udp 1 10.0.0.1 1 typ host")?;
     for _ in 0..40 {
-        assert!(rt; takes_ufrag(rt.alloc(), line.as_str(), text));
-        assert!(rt; needs_ufrag_value(rt.alloc(), line.as_str()));
+        assert!(rt;
+            takes_ufrag(rt.alloc(), line.as_str(), text)
+                && needs_ufrag_value(rt.alloc(), line.as_str())
+        );
         line.push_str(" generation 0")?;
     }
     Ok(())

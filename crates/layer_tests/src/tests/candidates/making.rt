@@ -25,9 +25,9 @@ fn a_host_has_the_recommended_priority(rt: HostRuntime) -> Result<(), Fail> {
     let addr: SocketAddr = "1.2.3.4:9876".parse()?;
     let host = Candidate::host(rt.alloc(), addr, Protocol::Udp)?;
     // 126 * 2^24 + 65534 * 2^8 + 255, and 110 in place of 126 (RFC 8445, section 5.1.2.2)
-    assert!(rt; host.prio() == 2130706175);
-    assert!(rt; check_priority(&host) == 1862270719);
-    assert!(rt; base(&host) == addr);
+    assert!(rt;
+        host.prio() == 2130706175 && check_priority(&host) == 1862270719 && base(&host) == addr
+    );
     Ok(())
 }
 
@@ -52,9 +52,11 @@ fn a_peer_reflexive_candidate_keeps_the_priority_of_the_request(
     rt: HostRuntime,
 ) -> Result<(), Fail> {
     let found = remote_peer_reflexive(rt.alloc())?;
-    assert!(rt; found.prio() == 1853824767);
-    assert!(rt; found.kind() == CandidateKind::PeerReflexive);
-    assert!(rt; is_temporary(&found));
+    assert!(rt;
+        found.prio() == 1853824767
+            && found.kind() == CandidateKind::PeerReflexive
+            && is_temporary(&found)
+    );
     Ok(())
 }
 
@@ -69,8 +71,7 @@ fn renames_copy(alloc: Global, found: &Candidate, ufrag: &str) -> bool {
 #[test]
 fn a_copy_has_its_own_ufrag(rt: HostRuntime) -> Result<(), Fail> {
     let found = remote_peer_reflexive(rt.alloc())?;
-    assert!(rt; renames_copy(rt.alloc(), &found, "SQAt"));
-    assert!(rt; found.ufrag() == Some("p9KA"));
+    assert!(rt; renames_copy(rt.alloc(), &found, "SQAt") && found.ufrag() == Some("p9KA"));
     Ok(())
 }
 
@@ -110,8 +111,7 @@ fn the_builder_makes_a_passive_host(rt: HostRuntime) -> Result<(), Fail> {
         .tcptype(TcpType::Passive)
         .build(rt.alloc())?;
     // 90 * 2^24 + 65534 * 2^8 + 255
-    assert!(rt; host.prio() == 1526726399);
-    assert!(rt; host.tcptype() == Some(TcpType::Passive));
+    assert!(rt; host.prio() == 1526726399 && host.tcptype() == Some(TcpType::Passive));
     Ok(())
 }
 

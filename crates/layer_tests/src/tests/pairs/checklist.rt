@@ -172,8 +172,7 @@ fn an_id_of_two_pairs_names_both(rt: HostRuntime) {
     let mut paths = Paths::new(rt.alloc(), 9);
     assert!(rt; paths.adds_all(rt.alloc(), &[50, 60]));
     let id = paths.check(0, 0, 1);
-    assert!(rt; paths.check(1, 50, 1) == id);
-    assert!(rt; paths.keeps(id, 0) && paths.keeps(id, 1));
+    assert!(rt; paths.check(1, 50, 1) == id && paths.keeps(id, 0) && paths.keeps(id, 1));
     paths.remove(0);
     assert!(rt; paths.awaiting(id) == Some(1));
     paths.remove(1);
@@ -187,8 +186,7 @@ fn an_id_that_was_cut_is_found_no_more(rt: HostRuntime) {
     let first = paths.check(0, 0, 1);
     assert!(rt; paths.awaiting(first) == Some(0));
     let second = paths.check(0, 250, 2);
-    assert!(rt; paths.awaiting(first).is_none());
-    assert!(rt; paths.awaiting(second) == Some(0));
+    assert!(rt; paths.awaiting(first).is_none() && paths.awaiting(second) == Some(0));
 }
 
 /// Whether one of the pairs 1 and 2 is the greatest, and without it the other one.
@@ -209,12 +207,13 @@ fn are_greatest(paths: &mut Paths) -> bool {
 #[test]
 fn the_order_follows_the_priorities(rt: HostRuntime) {
     let mut paths = Paths::new(rt.alloc(), 9);
-    assert!(rt; paths.adds_all(rt.alloc(), &[50, 70, 70, 60]));
-    assert!(rt; paths.least() == Some(0));
-    assert!(rt; are_greatest(&mut paths));
+    assert!(rt;
+        paths.adds_all(rt.alloc(), &[50, 70, 70, 60])
+            && paths.least() == Some(0)
+            && are_greatest(&mut paths)
+    );
     paths.list.set_priorities(&ByNumber);
-    assert!(rt; paths.greatest() == Some(3));
-    assert!(rt; paths.least() == Some(0));
+    assert!(rt; paths.greatest() == Some(3) && paths.least() == Some(0));
     paths.list.evict(1);
     assert!(rt; paths.least() == Some(3));
 }
@@ -230,11 +229,14 @@ fn the_end_of_consent_is_an_earliest_time(rt: HostRuntime) {
         strict: true,
     };
     let first = paths.check(0, 0, 1);
-    assert!(rt; paths.takes(first, 50));
-    assert!(rt; paths.checks(1, 0, 2));
-    assert!(rt; paths.next_call(50) == at(100));
-    assert!(rt; paths.checks(1, 100, 3) && paths.checks(1, 200, 4));
-    assert!(rt; paths.next_call(200) == at(230));
+    assert!(rt;
+        paths.takes(first, 50)
+            && paths.checks(1, 0, 2)
+            && paths.next_call(50) == at(100)
+            && paths.checks(1, 100, 3)
+            && paths.checks(1, 200, 4)
+            && paths.next_call(200) == at(230)
+    );
     paths.timing.profile = Profile::Original;
     assert!(rt; paths.next_call(200) == at(250));
 }
@@ -244,14 +246,13 @@ fn the_end_of_consent_is_an_earliest_time(rt: HostRuntime) {
 fn a_failed_allocation_leaves_the_pairs(rt: HostRuntime) {
     let mut paths = Paths::new(rt.alloc(), 9);
     if !paths.adds(rt.alloc(), 50) {
-        assert!(rt; paths.list.is_empty());
-        assert!(rt; paths.greatest().is_none());
-        assert!(rt; paths.adds(rt.alloc(), 50));
+        assert!(rt;
+            paths.list.is_empty() && paths.greatest().is_none() && paths.adds(rt.alloc(), 50)
+        );
     }
     for seed in 0..6 {
         assert!(rt; paths.checks(0, 50, seed) || paths.checks(0, 50, seed));
     }
     let id = TransId::new(&mut Pcg32::seed_from_u64(3));
-    assert!(rt; paths.keeps(Some(id), 0));
-    assert!(rt; paths.greatest() == Some(0));
+    assert!(rt; paths.keeps(Some(id), 0) && paths.greatest() == Some(0));
 }

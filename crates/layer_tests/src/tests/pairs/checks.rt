@@ -16,26 +16,30 @@ fn took(millis: u64) -> Option<Duration> {
 #[test]
 fn round_trips_are_those_of_the_answers(rt: HostRuntime) {
     let mut path = Path::new(rt.alloc());
-    assert!(rt; path.pair.last_successful_rtt().is_none());
-    assert!(rt; path.is_answered(0, 50));
-    assert!(rt; path.pair.last_successful_rtt() == took(50));
-    assert!(rt; path.checks(at(100)));
-    assert!(rt; path.pair.last_successful_rtt() == took(50));
-    assert!(rt; path.is_answered(200, 220));
-    assert!(rt; path.pair.last_successful_rtt() == took(20));
-    assert!(rt; path.pair.responses_received() == 2);
-    assert!(rt; path.pair.total_round_trip_time() == Duration::from_millis(70));
+    assert!(rt;
+        path.pair.last_successful_rtt().is_none()
+            && path.is_answered(0, 50)
+            && path.pair.last_successful_rtt() == took(50)
+            && path.checks(at(100))
+            && path.pair.last_successful_rtt() == took(50)
+            && path.is_answered(200, 220)
+            && path.pair.last_successful_rtt() == took(20)
+            && path.pair.responses_received() == 2
+            && path.pair.total_round_trip_time() == Duration::from_millis(70)
+    );
 }
 
 #[test]
 fn a_repeated_answer_counts_again(rt: HostRuntime) {
     let mut path = Path::new(rt.alloc());
     let id = path.check(at(0));
-    assert!(rt; path.takes(at(50), id));
-    assert!(rt; path.takes(at(80), id));
-    assert!(rt; path.pair.last_successful_rtt() == took(80));
-    assert!(rt; path.pair.responses_received() == 2);
-    assert!(rt; path.pair.total_round_trip_time() == Duration::from_millis(130));
+    assert!(rt;
+        path.takes(at(50), id)
+            && path.takes(at(80), id)
+            && path.pair.last_successful_rtt() == took(80)
+            && path.pair.responses_received() == 2
+            && path.pair.total_round_trip_time() == Duration::from_millis(130)
+    );
 }
 
 /// Whether the check was sent, and is pending.
@@ -58,8 +62,7 @@ fn a_check_beyond_the_limit_is_forgotten(rt: HostRuntime) {
     let first = path.check(at(0));
     assert!(rt; is_kept(&path, first));
     let second = path.check(at(250));
-    assert!(rt; !is_kept(&path, first));
-    assert!(rt; role_of(&path, second) == Some(true));
+    assert!(rt; !is_kept(&path, first) && role_of(&path, second) == Some(true));
 }
 
 /// A path whose nominating check has no response yet.
@@ -88,10 +91,12 @@ fn a_nomination_passes_to_the_pair_that_replaces(rt: HostRuntime) -> Result<(), 
     let Some(mut new) = replacing(rt.alloc()) else {
         return Err(Fail::from("the pair was not nominated"));
     };
-    assert!(rt; new.pair.state() == CheckState::Succeeded);
-    assert!(rt; new.pair.is_nominated());
-    assert!(rt; new.pair.remote_binding_request_time() == Some(at(60)));
-    assert!(rt; new.pair.last_successful_rtt().is_none());
+    assert!(rt;
+        new.pair.state() == CheckState::Succeeded
+            && new.pair.is_nominated()
+            && new.pair.remote_binding_request_time() == Some(at(60))
+            && new.pair.last_successful_rtt().is_none()
+    );
     // due before all others; there is no time 60 s earlier, since that is before the beginning
     assert!(rt; new.due(at(100)) == at(100));
     Ok(())

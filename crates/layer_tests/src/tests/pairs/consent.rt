@@ -45,8 +45,7 @@ fn ends_at(path: &Path, end: u64) -> bool {
 fn a_response_keeps_a_pair_for_the_timeout(rt: HostRuntime) {
     for strict in [false, true] {
         let mut path = path_with(rt.alloc(), strict);
-        assert!(rt; path.is_answered(0, 50));
-        assert!(rt; ends_at(&path, CONSENT));
+        assert!(rt; path.is_answered(0, 50) && ends_at(&path, CONSENT));
     }
 }
 
@@ -55,9 +54,7 @@ fn a_response_keeps_a_pair_for_the_timeout(rt: HostRuntime) {
 fn a_later_response_to_the_same_check_renews_nothing(rt: HostRuntime) {
     let mut path = path_with(rt.alloc(), true);
     let id = path.check(at(0));
-    assert!(rt; path.takes(at(50), id));
-    assert!(rt; path.takes(at(20_000), id));
-    assert!(rt; ends_at(&path, CONSENT));
+    assert!(rt; path.takes(at(50), id) && path.takes(at(20_000), id) && ends_at(&path, CONSENT));
 }
 
 /// The response to an earlier check arrives after that to a later one.
@@ -65,9 +62,11 @@ fn a_later_response_to_the_same_check_renews_nothing(rt: HostRuntime) {
 fn of_two_responses_that_of_the_later_check_counts(rt: HostRuntime) {
     let mut path = path_with(rt.alloc(), true);
     let first = path.check(at(0));
-    assert!(rt; path.is_answered(1000, 1050));
-    assert!(rt; path.takes(at(1100), first));
-    assert!(rt; ends_at(&path, 1000 + CONSENT));
+    assert!(rt;
+        path.is_answered(1000, 1050)
+            && path.takes(at(1100), first)
+            && ends_at(&path, 1000 + CONSENT)
+    );
 }
 
 #[test]
@@ -86,16 +85,13 @@ fn the_checks_of_the_peer_keep_a_pair_unless_consent_is_strict(rt: HostRuntime) 
 #[test]
 fn without_a_response_consent_does_not_end(rt: HostRuntime) {
     let mut path = path_with(rt.alloc(), true);
-    assert!(rt; path.checks(at(0)));
-    assert!(rt; stays(&path, at(CONSENT)));
-    assert!(rt; stays(&path, Instant(u64::MAX)));
+    assert!(rt; path.checks(at(0)) && stays(&path, at(CONSENT)) && stays(&path, Instant(u64::MAX)));
 }
 
 #[test]
 fn by_the_original_consent_does_not_end(rt: HostRuntime) {
     let mut path = Path::new(rt.alloc());
-    assert!(rt; path.is_answered(0, 50));
-    assert!(rt; stays(&path, at(10 * CONSENT)));
+    assert!(rt; path.is_answered(0, 50) && stays(&path, at(10 * CONSENT)));
 }
 
 #[test]
@@ -104,8 +100,7 @@ fn a_pair_that_replaces_another_has_the_later_consent(rt: HostRuntime) {
     assert!(rt; old.is_answered(2000, 2050));
     let mut new = path_with(rt.alloc(), true);
     take_over(&mut new.pair, &old.pair, false);
-    assert!(rt; ends_at(&new, 2000 + CONSENT));
-    assert!(rt; new.is_answered(3000, 3050));
+    assert!(rt; ends_at(&new, 2000 + CONSENT) && new.is_answered(3000, 3050));
     take_over(&mut new.pair, &old.pair, false);
     assert!(rt; ends_at(&new, 3000 + CONSENT));
 }

@@ -46,8 +46,7 @@ fn a_silent_path_is_removed_after_the_timeout(rt: HostRuntime) -> Result<(), Fai
         return Err(Fail::from("a response was not taken"));
     };
     let end = now + Duration::from_millis(21500);
-    assert!(rt; due_after_silence(&mut path, now) == Some(end));
-    assert!(rt; ends_at(&path, end));
+    assert!(rt; due_after_silence(&mut path, now) == Some(end) && ends_at(&path, end));
     path.pair.increase_remote_binding_requests(end);
     assert!(rt; ends_at(&path, end + Duration::from_millis(15000)));
     Ok(())
@@ -56,9 +55,7 @@ fn a_silent_path_is_removed_after_the_timeout(rt: HostRuntime) -> Result<(), Fai
 #[test]
 fn one_retransmit_is_waited_for_once(rt: HostRuntime) {
     let mut path = Path::impatient(rt.alloc());
-    assert!(rt; path.checks(at(0)));
-    assert!(rt; path.is_possible(at(249)));
-    assert!(rt; !path.is_possible(at(250)));
+    assert!(rt; path.checks(at(0)) && path.is_possible(at(249)) && !path.is_possible(at(250)));
 }
 
 /// A path that was nominated after its due time was queried, at 70 s.
@@ -77,9 +74,9 @@ fn a_due_time_stays_once_it_was_queried(rt: HostRuntime) -> Result<(), Fail> {
     let Some(mut path) = queried(rt.alloc()) else {
         return Err(Fail::from("the path is due at another time"));
     };
-    assert!(rt; path.due(at(80000)) == at(70000));
-    assert!(rt; path.is_copied());
-    assert!(rt; path.due(at(80000)) == at(70000));
+    assert!(rt;
+        path.due(at(80000)) == at(70000) && path.is_copied() && path.due(at(80000)) == at(70000)
+    );
     Ok(())
 }
 
@@ -89,9 +86,11 @@ fn a_due_time_is_computed_again_if_it_is_reset(rt: HostRuntime) -> Result<(), Fa
         return Err(Fail::from("the path is due at another time"));
     };
     reset_next_binding_attempt(&mut path.pair);
-    assert!(rt; path.due(at(80000)) == at(20000));
-    assert!(rt; path.checks(at(80000)));
-    assert!(rt; path.due(at(80000)) == at(80250));
+    assert!(rt;
+        path.due(at(80000)) == at(20000)
+            && path.checks(at(80000))
+            && path.due(at(80000)) == at(80250)
+    );
     Ok(())
 }
 
@@ -100,10 +99,12 @@ fn the_end_of_time_is_not_passed(rt: HostRuntime) {
     let mut path = Path::new(rt.alloc());
     let end = Instant(u64::MAX);
     let id = path.check(end);
-    assert!(rt; path.due(end) == end);
-    assert!(rt; path.takes(end, id));
-    assert!(rt; path.pair.total_round_trip_time() == Duration(0));
-    assert!(rt; path.is_possible(end));
+    assert!(rt;
+        path.due(end) == end
+            && path.takes(end, id)
+            && path.pair.total_round_trip_time() == Duration(0)
+            && path.is_possible(end)
+    );
 }
 
 #[test]
@@ -114,8 +115,10 @@ fn an_ice_lite_pair_lives_on_the_checks_of_the_peer(rt: HostRuntime) {
     let end = heard + timing.lite_timeout();
     assert!(rt; pair.is_ice_lite_alive(heard, &timing));
     pair.increase_remote_binding_requests(heard);
-    assert!(rt; pair.is_ice_lite_alive(Instant(end.0.saturating_sub(1)), &timing));
-    assert!(rt; !pair.is_ice_lite_alive(end, &timing));
+    assert!(rt;
+        pair.is_ice_lite_alive(Instant(end.0.saturating_sub(1)), &timing)
+            && !pair.is_ice_lite_alive(end, &timing)
+    );
 }
 
 /// A timing with another timeout of ICE-lite in milliseconds.
@@ -131,10 +134,12 @@ fn an_ice_lite_pair_lives_as_long_as_is_set(rt: HostRuntime) {
     let mut pair = host_pair(rt.alloc(), 1);
     assert!(rt; pair.is_ice_lite_alive(at(60000), &lite_timing(0)));
     pair.increase_remote_binding_requests(at(60000));
-    assert!(rt; pair.is_ice_lite_alive(at(89999), &lite_timing(30000)));
-    assert!(rt; !pair.is_ice_lite_alive(at(90000), &lite_timing(30000)));
-    assert!(rt; !pair.is_ice_lite_alive(at(61000), &lite_timing(1000)));
-    assert!(rt; !pair.is_ice_lite_alive(at(60000), &lite_timing(0)));
+    assert!(rt;
+        pair.is_ice_lite_alive(at(89999), &lite_timing(30000))
+            && !pair.is_ice_lite_alive(at(90000), &lite_timing(30000))
+            && !pair.is_ice_lite_alive(at(61000), &lite_timing(1000))
+            && !pair.is_ice_lite_alive(at(60000), &lite_timing(0))
+    );
 }
 
 /// The timeout of ICE-lite is not that of a full agent.
@@ -144,6 +149,5 @@ fn a_full_pair_lives_15_seconds_on_a_check_of_the_peer(rt: HostRuntime) {
     path.timing.lite_timeout = Duration::from_millis(30000);
     assert!(rt; path.checks(at(0)));
     path.pair.increase_remote_binding_requests(at(0));
-    assert!(rt; path.is_possible(at(14999)));
-    assert!(rt; !path.is_possible(at(15000)));
+    assert!(rt; path.is_possible(at(14999)) && !path.is_possible(at(15000)));
 }

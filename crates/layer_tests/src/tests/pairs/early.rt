@@ -100,8 +100,7 @@ static FIRST: [u64; 12] = [
 #[test]
 fn checks_without_a_response_are_repeated_early(rt: HostRuntime) {
     let mut path = early_path(rt.alloc());
-    assert!(rt; path.due(at(0)) == at(0));
-    assert!(rt; are_due(&mut path, at(0), &FIRST));
+    assert!(rt; path.due(at(0)) == at(0) && are_due(&mut path, at(0), &FIRST));
 }
 
 /// Just before its end the second early retransmission still follows, after 100 ms. Then the RTO counts: 500 ms after the second check.
@@ -109,37 +108,42 @@ fn checks_without_a_response_are_repeated_early(rt: HostRuntime) {
 fn after_some_time_the_rto_counts(rt: HostRuntime) {
     for (sent, due) in [(EARLY - 1, EARLY + 99), (EARLY, EARLY + 500)] {
         let mut path = early_path(rt.alloc());
-        assert!(rt; path.checks(at(0)));
-        assert!(rt; next_after(&mut path, at(sent)) == Some(at(due)));
+        assert!(rt; path.checks(at(0)) && next_after(&mut path, at(sent)) == Some(at(due)));
     }
 }
 
 #[test]
 fn after_a_response_the_delays_are_the_usual_ones(rt: HostRuntime) {
     let mut path = early_path(rt.alloc());
-    assert!(rt; path.checks(at(0)));
-    assert!(rt; path.is_answered(100, 150));
-    assert!(rt; path.due(at(150)) == at(600));
-    assert!(rt; next_after(&mut path, at(600)) == Some(at(1600)));
-    assert!(rt; next_after(&mut path, at(1600)) == Some(at(3600)));
+    assert!(rt;
+        path.checks(at(0))
+            && path.is_answered(100, 150)
+            && path.due(at(150)) == at(600)
+            && next_after(&mut path, at(600)) == Some(at(1600))
+            && next_after(&mut path, at(1600)) == Some(at(3600))
+    );
 }
 
 #[test]
 fn a_response_to_the_first_check_ends_early_retransmissions(rt: HostRuntime) {
     let mut path = early_path(rt.alloc());
-    assert!(rt; path.is_answered(0, 50));
-    assert!(rt; path.due(at(50)) == at(250));
-    assert!(rt; next_after(&mut path, at(250)) == Some(at(750)));
+    assert!(rt;
+        path.is_answered(0, 50)
+            && path.due(at(50)) == at(250)
+            && next_after(&mut path, at(250)) == Some(at(750))
+    );
 }
 
 /// Nine checks were sent before. The delay after nine pending transactions is 3 s.
 #[test]
 fn a_response_to_a_later_check_ends_them_too(rt: HostRuntime) {
     let mut path = early_path(rt.alloc());
-    assert!(rt; check_until(&mut path, at(2500)) == Some((9, at(2500))));
-    assert!(rt; path.is_answered(2500, 2550));
-    assert!(rt; path.due(at(2550)) == at(5500));
-    assert!(rt; next_after(&mut path, at(5500)) == Some(at(8500)));
+    assert!(rt;
+        check_until(&mut path, at(2500)) == Some((9, at(2500)))
+            && path.is_answered(2500, 2550)
+            && path.due(at(2550)) == at(5500)
+            && next_after(&mut path, at(5500)) == Some(at(8500))
+    );
 }
 
 // ---- nominations
@@ -152,10 +156,12 @@ static NOMINATING: [u64; 10] = [
 #[test]
 fn a_check_that_nominates_is_repeated_early(rt: HostRuntime) {
     let mut path = early_path(rt.alloc());
-    assert!(rt; path.is_answered(0, 50));
-    assert!(rt; path.is_nominated_now(false));
-    assert!(rt; path.due(at(70000)) == at(10000));
-    assert!(rt; are_due(&mut path, at(70000), &NOMINATING));
+    assert!(rt;
+        path.is_answered(0, 50)
+            && path.is_nominated_now(false)
+            && path.due(at(70000)) == at(10000)
+            && are_due(&mut path, at(70000), &NOMINATING)
+    );
 }
 
 /// The next check is due by the number of pending transactions, here two. The one after it is sent once the response is late: 50 ms after
@@ -163,11 +169,13 @@ fn a_check_that_nominates_is_repeated_early(rt: HostRuntime) {
 #[test]
 fn the_response_to_a_nomination_ends_early_retransmissions(rt: HostRuntime) {
     let mut path = early_path(rt.alloc());
-    assert!(rt; path.is_answered(0, 50));
-    assert!(rt; path.is_nominated_now(false));
-    assert!(rt; path.is_answered(1000, 1050));
-    assert!(rt; path.due(at(1050)) == at(1500));
-    assert!(rt; next_after(&mut path, at(1500)) == Some(at(1600)));
+    assert!(rt;
+        path.is_answered(0, 50)
+            && path.is_nominated_now(false)
+            && path.is_answered(1000, 1050)
+            && path.due(at(1050)) == at(1500)
+            && next_after(&mut path, at(1500)) == Some(at(1600))
+    );
 }
 
 /// The nominating checks are sent each 100 ms from 1 s on, the ninth at 1.8 s, and then each half second. So the first one that is stored is
@@ -175,9 +183,11 @@ fn the_response_to_a_nomination_ends_early_retransmissions(rt: HostRuntime) {
 #[test]
 fn checks_end_no_nominated_pair(rt: HostRuntime) {
     let mut path = early_path(rt.alloc());
-    assert!(rt; path.is_answered(0, 50));
-    assert!(rt; path.is_nominated_now(false));
-    assert!(rt; check_until_removed(&mut path, at(1000)) == None);
+    assert!(rt;
+        path.is_answered(0, 50)
+            && path.is_nominated_now(false)
+            && check_until_removed(&mut path, at(1000)) == None
+    );
 }
 
 // ---- when a pair without a response ends
@@ -187,8 +197,7 @@ fn checks_end_no_nominated_pair(rt: HostRuntime) {
 fn a_pair_without_a_response_is_kept_for_a_whole_series(rt: HostRuntime) {
     for count in [9, 10, 13, 30] {
         let mut path = early_path(rt.alloc());
-        assert!(rt; checks_often(&mut path, count, 0));
-        assert!(rt; ends_at(&path, SERIES));
+        assert!(rt; checks_often(&mut path, count, 0) && ends_at(&path, SERIES));
     }
 }
 
@@ -196,27 +205,30 @@ fn a_pair_without_a_response_is_kept_for_a_whole_series(rt: HostRuntime) {
 #[test]
 fn the_series_begins_at_the_first_check(rt: HostRuntime) {
     let mut path = early_path(rt.alloc());
-    assert!(rt; path.checks(at(0)));
-    assert!(rt; checks_often(&mut path, 9, 10_000));
-    assert!(rt; ends_at(&path, SERIES));
-    assert!(rt; path.is_copied());
-    assert!(rt; ends_at(&path, SERIES));
+    assert!(rt;
+        path.checks(at(0))
+            && checks_often(&mut path, 9, 10_000)
+            && ends_at(&path, SERIES)
+            && path.is_copied()
+            && ends_at(&path, SERIES)
+    );
 }
 
 /// The response to the last check may still come for 3 s.
 #[test]
 fn the_last_response_is_waited_for(rt: HostRuntime) {
     let mut path = early_path(rt.alloc());
-    assert!(rt; path.checks(at(0)));
-    assert!(rt; checks_often(&mut path, 9, SERIES - 1));
-    assert!(rt; ends_at(&path, SERIES + 2999));
+    assert!(rt;
+        path.checks(at(0))
+            && checks_often(&mut path, 9, SERIES - 1)
+            && ends_at(&path, SERIES + 2999)
+    );
 }
 
 #[test]
 fn eight_checks_end_no_pair(rt: HostRuntime) {
     let mut path = early_path(rt.alloc());
-    assert!(rt; checks_often(&mut path, 8, 0));
-    assert!(rt; path.is_possible(at(1_000_000)));
+    assert!(rt; checks_often(&mut path, 8, 0) && path.is_possible(at(1_000_000)));
 }
 
 /// The tenth check is sent at 2.5 s, and six more every 3 s until 20.5 s, the last one before the series is over. It is waited for by the
@@ -234,10 +246,12 @@ fn a_pair_that_is_still_heard_is_repeated_early_again(rt: HostRuntime) {
     let mut path = early_path(rt.alloc());
     assert!(rt; check_until(&mut path, at(SERIES)) == Some((16, at(23_500))));
     path.pair.increase_remote_binding_requests(at(21_000));
-    assert!(rt; path.is_possible(at(23_500)));
-    assert!(rt; due_after(&mut path, at(23_500), 8) == Some(at(26_300)));
-    assert!(rt; due_after(&mut path, at(26_300), 4) == Some(at(38_300)));
-    assert!(rt; ends_at(&path, 38_300));
+    assert!(rt;
+        path.is_possible(at(23_500))
+            && due_after(&mut path, at(23_500), 8) == Some(at(26_300))
+            && due_after(&mut path, at(26_300), 4) == Some(at(38_300))
+            && ends_at(&path, 38_300)
+    );
 }
 
 /// With one check a whole series takes 250 ms. The first three are sent at 0, 100 and 200 ms; the next one is due at 400 ms, and by then the
@@ -264,9 +278,11 @@ fn a_pair_that_replaces_another_begins_again(rt: HostRuntime) {
     assert!(rt; checks_often(&mut old, 9, 0));
     let mut new = early_path(rt.alloc());
     take_over(&mut new.pair, &old.pair, false);
-    assert!(rt; next_after(&mut new, at(20_000)) == Some(at(20_100)));
-    assert!(rt; checks_often(&mut new, 8, 20_100));
-    assert!(rt; ends_at(&new, 20_000 + SERIES));
+    assert!(rt;
+        next_after(&mut new, at(20_000)) == Some(at(20_100))
+            && checks_often(&mut new, 8, 20_100)
+            && ends_at(&new, 20_000 + SERIES)
+    );
 }
 
 // ---- when others end
@@ -279,10 +295,12 @@ fn after_a_response_a_whole_series_passes(rt: HostRuntime) {
         (20_000, 20_050, 20_100, 20_100 + SERIES),
     ] {
         let mut path = early_path(rt.alloc());
-        assert!(rt; path.checks(at(0)));
-        assert!(rt; path.is_answered(sent, received));
-        assert!(rt; checks_often(&mut path, 9, later));
-        assert!(rt; ends_at(&path, end));
+        assert!(rt;
+            path.checks(at(0))
+                && path.is_answered(sent, received)
+                && checks_often(&mut path, 9, later)
+                && ends_at(&path, end)
+        );
     }
 }
 
@@ -292,9 +310,11 @@ fn by_the_original_a_pair_has_nine_checks(rt: HostRuntime) {
     for (profile, end) in [(Profile::Original, 3000), (Profile::Modern, SERIES)] {
         let mut path = Path::new(rt.alloc());
         path.timing.profile = profile;
-        assert!(rt; checks_often(&mut path, 8, 0));
-        assert!(rt; path.is_possible(at(1_000_000)));
-        assert!(rt; path.checks(at(0)));
-        assert!(rt; ends_at(&path, end));
+        assert!(rt;
+            checks_often(&mut path, 8, 0)
+                && path.is_possible(at(1_000_000))
+                && path.checks(at(0))
+                && ends_at(&path, end)
+        );
     }
 }

@@ -12,8 +12,10 @@ use std::test::Fail;
 fn priorities_are_those_of_the_formula(rt: HostRuntime) {
     assert!(rt; CandidatePair::calculate_prio(true, 1, 2) == 4294967301);
     let greatest = 18446744073709551615;
-    assert!(rt; CandidatePair::calculate_prio(true, 4294967294, 4294967295) == greatest);
-    assert!(rt; CandidatePair::calculate_prio(false, 4294967295, 4294967294) == greatest);
+    assert!(rt;
+        CandidatePair::calculate_prio(true, 4294967294, 4294967295) == greatest
+            && CandidatePair::calculate_prio(false, 4294967295, 4294967294) == greatest
+    );
 }
 
 #[test]
@@ -21,9 +23,11 @@ fn the_greater_priority_comes_first(rt: HostRuntime) {
     let great = pair_at(rt.alloc(), 1, 1, 9);
     let small = pair_at(rt.alloc(), 0, 0, 8);
     let other = pair_at(rt.alloc(), 0, 1, 8);
-    assert!(rt; great.cmp(&small) == Ordering::Less);
-    assert!(rt; small.cmp(&other) == Ordering::Less);
-    assert!(rt; small == host_pair(rt.alloc(), 8));
+    assert!(rt;
+        great.cmp(&small) == Ordering::Less
+            && small.cmp(&other) == Ordering::Less
+            && small == host_pair(rt.alloc(), 8)
+    );
 }
 
 #[test]
@@ -33,8 +37,7 @@ fn a_pair_is_what_it_was_made_of(rt: HostRuntime) {
     let made = (pair.local_idx(), pair.remote_idx(), pair.prio());
     assert!(rt; made == (3, 4, 5));
     pair.set_prio(6);
-    assert!(rt; pair.prio() == 6);
-    assert!(rt; pair.state() == CheckState::Waiting);
+    assert!(rt; pair.prio() == 6 && pair.state() == CheckState::Waiting);
     pair.record_remote_binding_request_success();
     assert!(rt; pair.state() == CheckState::Succeeded);
 }
@@ -48,7 +51,9 @@ fn a_pair_names_its_candidates(rt: HostRuntime) -> Result<(), Fail> {
     let near = host(rt.alloc(), "10.0.0.1:1000")?;
     let hosts = [near, host(rt.alloc(), "10.0.0.2:2000")?];
     let path = pair_at(rt.alloc(), 0, 1, 5);
-    assert!(rt; path.local_candidate(&hosts).addr() == hosts[0].addr());
-    assert!(rt; path.remote_candidate(&hosts).addr() == hosts[1].addr());
+    assert!(rt;
+        path.local_candidate(&hosts).addr() == hosts[0].addr()
+            && path.remote_candidate(&hosts).addr() == hosts[1].addr()
+    );
     Ok(())
 }

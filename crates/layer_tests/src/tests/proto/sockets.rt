@@ -39,8 +39,10 @@ static NOT_IPV4: [&str; 12] = [
 
 #[test]
 fn ipv4_is_read(rt: HostRuntime) {
-    assert!(rt; SocketText::from_text("192.0.2.1:80") == v4(192, 0, 2, 1, 80));
-    assert!(rt; SocketText::from_text("255.255.255.255:0") == v4(255, 255, 255, 255, 0));
+    assert!(rt;
+        SocketText::from_text("192.0.2.1:80") == v4(192, 0, 2, 1, 80)
+            && SocketText::from_text("255.255.255.255:0") == v4(255, 255, 255, 255, 0)
+    );
     for text in &NOT_IPV4 {
         assert!(rt; SocketText::from_text(text).is_none(), "{text}");
     }
@@ -56,8 +58,10 @@ static NO_PORTS: [&str; 5] = [
 
 #[test]
 fn ports_are_read(rt: HostRuntime) {
-    assert!(rt; SocketText::from_text("192.0.2.1:0000080") == v4(192, 0, 2, 1, 80));
-    assert!(rt; SocketText::from_text("192.0.2.1:65535") == v4(192, 0, 2, 1, 65535));
+    assert!(rt;
+        SocketText::from_text("192.0.2.1:0000080") == v4(192, 0, 2, 1, 80)
+            && SocketText::from_text("192.0.2.1:65535") == v4(192, 0, 2, 1, 65535)
+    );
     for text in &NO_PORTS {
         assert!(rt; SocketText::from_text(text).is_none(), "{text}");
     }

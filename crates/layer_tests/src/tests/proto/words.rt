@@ -106,10 +106,12 @@ fn no_tcp_roles(rt: HostRuntime) {
 #[test]
 fn texts(rt: HostRuntime) -> Result<(), Fail> {
     let text = Text::from_str(rt.alloc(), "r\u{e9}sum\u{e9}")?;
-    assert!(rt; text.as_str() == "r\u{e9}sum\u{e9}");
-    assert!(rt; text == text.clone()?);
-    assert!(rt; text != Text::from_str(rt.alloc(), "resume")?);
-    assert!(rt; is_text(text.to_string(rt.alloc()), "r\u{e9}sum\u{e9}"));
+    assert!(rt;
+        text.as_str() == "r\u{e9}sum\u{e9}"
+            && text == text.clone()?
+            && text != Text::from_str(rt.alloc(), "resume")?
+            && is_text(text.to_string(rt.alloc()), "r\u{e9}sum\u{e9}")
+    );
     let string = text.into_string();
     assert!(rt; Text::new(string).as_str() == "r\u{e9}sum\u{e9}");
     Ok(())

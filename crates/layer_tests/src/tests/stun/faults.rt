@@ -43,12 +43,14 @@ fn fault_with(typ: [u8; 2], attributes: &[u8]) -> Option<ParseFault>
 
 #[test]
 fn headers(rt: HostRuntime) {
-    assert!(rt; fault_of(&[]) == Some(ParseFault::TooShort));
-    assert!(rt; fault_of(&[1, 0x11, 0]) == Some(ParseFault::TooShort));
-    assert!(rt; fault_of(&[1, 0x11, 0, 1]) == Some(ParseFault::LengthUneven));
-    assert!(rt; fault_of(&[1, 0x11, 0, 0]) == Some(ParseFault::LengthMismatch));
-    assert!(rt; fault_of(&[0; 20]) == Some(ParseFault::Magic));
-    assert!(rt; fault_with(FAILURE, &[]).is_none());
+    assert!(rt;
+        fault_of(&[]) == Some(ParseFault::TooShort)
+            && fault_of(&[1, 0x11, 0]) == Some(ParseFault::TooShort)
+            && fault_of(&[1, 0x11, 0, 1]) == Some(ParseFault::LengthUneven)
+            && fault_of(&[1, 0x11, 0, 0]) == Some(ParseFault::LengthMismatch)
+            && fault_of(&[0; 20]) == Some(ParseFault::Magic)
+            && fault_with(FAILURE, &[]).is_none()
+    );
 }
 /// Attributes whose length is wrong.
 static LENGTHS: [([u8; 4], ParseFault); 12] = [
@@ -110,10 +112,12 @@ fn addresses(rt: HostRuntime) {
 
 #[test]
 fn demands(rt: HostRuntime) {
-    assert!(rt; fault_with(SUCCESS, &[]) == Some(ParseFault::NoIntegrityReply));
-    assert!(rt; fault_with(SUCCESS, &INTEGRITY) == Some(ParseFault::NoMappedAddress));
-    assert!(rt; fault_with(REQUEST, &[]) == Some(ParseFault::NoIntegrityRequest));
-    assert!(rt; fault_with(REQUEST, &INTEGRITY) == Some(ParseFault::NoUsername));
+    assert!(rt;
+        fault_with(SUCCESS, &[]) == Some(ParseFault::NoIntegrityReply)
+            && fault_with(SUCCESS, &INTEGRITY) == Some(ParseFault::NoMappedAddress)
+            && fault_with(REQUEST, &[]) == Some(ParseFault::NoIntegrityRequest)
+            && fault_with(REQUEST, &INTEGRITY) == Some(ParseFault::NoUsername)
+    );
     let mut request = [0; 32];
     request[..8].copy_from_slice(&[0x00, 0x06, 0, 2, b':', b'a', 0, 0]);
     request[8..].copy_from_slice(&INTEGRITY);

@@ -109,17 +109,21 @@ static BROWSER_CHECK: Check = Check {
 #[test]
 fn reads_the_request_of_a_browser(rt: HostRuntime) -> Result<(), Fail> {
     let request = StunMessage::parse(&BROWSER_REQUEST)?;
-    assert!(rt; is_binding(&request, Class::Request, TransId(*b"juc15uxUngGc")));
-    assert!(rt; is_check(&request, &BROWSER_CHECK));
-    assert!(rt; request.split_username() == Some(("p9KA", "SQAt")));
+    assert!(rt;
+        is_binding(&request, Class::Request, TransId(*b"juc15uxUngGc"))
+            && is_check(&request, &BROWSER_CHECK)
+            && request.split_username() == Some(("p9KA", "SQAt"))
+    );
     Ok(())
 }
 
 #[test]
 fn verifies_the_request_of_a_browser(rt: HostRuntime) -> Result<(), Fail> {
     let request = StunMessage::parse(&BROWSER_REQUEST)?;
-    assert!(rt; request.verify(BROWSER_PASSWORD, &DefaultSha1HmacProvider));
-    assert!(rt; !request.verify(b"xJcE9AQAR7kczUDVOXRUCL", &DefaultSha1HmacProvider));
+    assert!(rt;
+        request.verify(BROWSER_PASSWORD, &DefaultSha1HmacProvider)
+            && !request.verify(b"xJcE9AQAR7kczUDVOXRUCL", &DefaultSha1HmacProvider)
+    );
     Ok(())
 }
 
@@ -136,8 +140,10 @@ static BROWSER_NOMINATES: Check = Check {
 #[test]
 fn reads_the_nomination_of_a_browser(rt: HostRuntime) -> Result<(), Fail> {
     let request = StunMessage::parse(&BROWSER_NOMINATION)?;
-    assert!(rt; is_check(&request, &BROWSER_NOMINATES));
-    assert!(rt; request.split_username() == Some(("pRdju0uwy9CxN4AE", "f5ab")));
+    assert!(rt;
+        is_check(&request, &BROWSER_NOMINATES)
+            && request.split_username() == Some(("pRdju0uwy9CxN4AE", "f5ab"))
+    );
     Ok(())
 }
 
@@ -147,8 +153,7 @@ fn a_number_of_another_length_is_skipped(rt: HostRuntime) -> Result<(), Fail> {
     let mut shorter = BROWSER_NOMINATION;
     shorter[71] = 3;
     let request = StunMessage::parse(&shorter)?;
-    assert!(rt; request.nomination().is_none());
-    assert!(rt; request.prio() == Some(0x6e001eff));
+    assert!(rt; request.nomination().is_none() && request.prio() == Some(0x6e001eff));
     Ok(())
 }
 
@@ -165,10 +170,12 @@ static RFC_CHECK: Check = Check {
 #[test]
 fn reads_the_sample_request(rt: HostRuntime) -> Result<(), Fail> {
     let request = StunMessage::parse(&RFC_REQUEST)?;
-    assert!(rt; is_binding(&request, Class::Request, TransId(RFC_ID)));
-    assert!(rt; is_check(&request, &RFC_CHECK));
-    assert!(rt; request.software().is_none());
-    assert!(rt; request.verify(RFC_PASSWORD, &DefaultSha1HmacProvider));
+    assert!(rt;
+        is_binding(&request, Class::Request, TransId(RFC_ID))
+            && is_check(&request, &RFC_CHECK)
+            && request.software().is_none()
+            && request.verify(RFC_PASSWORD, &DefaultSha1HmacProvider)
+    );
     Ok(())
 }
 

@@ -36,8 +36,10 @@ fn an_unknown_method_is_not_written(rt: HostRuntime) -> Result<(), Fail> {
     let read = StunMessage::parse(&UNNAMED)?;
     assert!(rt; read.method() == Method::Unknown);
     let mut buf = [7; 64];
-    assert!(rt; rejection_of(read, &mut buf) == Some(StunError::UnknownMethod));
-    assert!(rt; buf.as_slice() == [7; 64].as_slice());
+    assert!(rt;
+        rejection_of(read, &mut buf) == Some(StunError::UnknownMethod)
+            && buf.as_slice() == [7; 64].as_slice()
+    );
     Ok(())
 }
 
@@ -64,14 +66,11 @@ fn a_value_that_is_too_long_is_reported_next(rt: HostRuntime) {
         fails(
             full.error_code(700, text).build(ID),
             StunError::ValueTooLong
-        )
-    );
-    assert!(rt; fails(full.realm(text).build(ID), StunError::ValueTooLong));
-    assert!(rt;
-        fails(
-            failure.error_code(700, text).build(ID),
-            StunError::ValueTooLong
-        )
+        ) && fails(full.realm(text).build(ID), StunError::ValueTooLong)
+            && fails(
+                failure.error_code(700, text).build(ID),
+                StunError::ValueTooLong
+            )
     );
 }
 
@@ -79,13 +78,13 @@ fn a_value_that_is_too_long_is_reported_next(rt: HostRuntime) {
 fn an_error_code_is_reported_before_lengths_of_messages(rt: HostRuntime) {
     let failure = Builder::new().binding().failure();
     let full = failure.data(&[0; 65535]);
-    assert!(rt; fails(full.error_code(700, "").build(ID), StunError::BadErrorCode));
     assert!(rt;
-        fails(
-            failure.error_code(700, "").build(ID),
-            StunError::BadErrorCode
-        )
+        fails(full.error_code(700, "").build(ID), StunError::BadErrorCode)
+            && fails(
+                failure.error_code(700, "").build(ID),
+                StunError::BadErrorCode
+            )
+            && fails(full.build(ID), StunError::MessageTooLong)
+            && fails(failure.build(ID), StunError::BufferTooShort)
     );
-    assert!(rt; fails(full.build(ID), StunError::MessageTooLong));
-    assert!(rt; fails(failure.build(ID), StunError::BufferTooShort));
 }

@@ -27,10 +27,12 @@ fn an_rto_of_250_ms_doubles_up_to_three_seconds(rt: HostRuntime) {
     for (count, delay) in &DELAYS {
         assert!(rt; timing.stun_resend_delay(*count) == millis(*delay));
     }
-    assert!(rt; timing.stun_last_resend_delay() == millis(3000));
-    assert!(rt; timing.timeout() == millis(21500));
-    assert!(rt; timing.max_retransmits() == 9);
-    assert!(rt; timing.max_rto() == millis(3000));
+    assert!(rt;
+        timing.stun_last_resend_delay() == millis(3000)
+            && timing.timeout() == millis(21500)
+            && timing.max_retransmits() == 9
+            && timing.max_rto() == millis(3000)
+    );
 }
 
 /// The functions return at once; a sum with one term for each retransmission would not finish.
@@ -40,9 +42,11 @@ fn the_greatest_retransmit_limit_is_answered_at_once(rt: HostRuntime) {
         max_retransmits: usize::MAX,
         ..given()
     };
-    assert!(rt; timing.stun_resend_delay(100) == millis(3000));
-    assert!(rt; timing.stun_resend_delay(usize::MAX) == millis(3000));
-    assert!(rt; timing.timeout() == Duration(u64::MAX));
+    assert!(rt;
+        timing.stun_resend_delay(100) == millis(3000)
+            && timing.stun_resend_delay(usize::MAX) == millis(3000)
+            && timing.timeout() == Duration(u64::MAX)
+    );
 }
 
 #[test]
@@ -61,8 +65,9 @@ fn only_whole_milliseconds_count(rt: HostRuntime) {
         max_rto: Duration(999_999_999),
         ..given()
     };
-    assert!(rt; timing.stun_resend_delay(1) == millis(250));
-    assert!(rt; timing.stun_resend_delay(3) == millis(999));
+    assert!(rt;
+        timing.stun_resend_delay(1) == millis(250) && timing.stun_resend_delay(3) == millis(999)
+    );
 }
 
 #[test]
@@ -71,8 +76,7 @@ fn one_retransmit_is_removed_after_its_delay(rt: HostRuntime) {
         max_retransmits: 1,
         ..given()
     };
-    assert!(rt; timing.stun_resend_delay(9) == millis(500));
-    assert!(rt; timing.timeout() == millis(250));
+    assert!(rt; timing.stun_resend_delay(9) == millis(500) && timing.timeout() == millis(250));
 }
 
 // ---- the profile `Modern`
@@ -100,8 +104,7 @@ fn after_two_early_retransmissions_the_delays_double_up_to_a_cap(rt: HostRuntime
 #[test]
 fn by_default_the_profile_is_the_originals(rt: HostRuntime) {
     let timing = StunTiming::default();
-    assert!(rt; !timing.is_modern());
-    assert!(rt; timing.consent().is_none());
+    assert!(rt; !timing.is_modern() && timing.consent().is_none());
 }
 
 /// Consent lasts for the longest RTO, 3 s, and a whole series of checks, 21.5 s.

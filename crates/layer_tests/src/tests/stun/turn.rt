@@ -74,23 +74,28 @@ fn rows_are_written_and_signed_with_a_long_term_key(rt: HostRuntime) -> Result<(
     let short = write_draft(&draft, key, &mut buf[..123], &DefaultSha1HmacProvider);
     assert!(rt; short == Err(StunError::BufferTooShort));
     let len = write_draft(&draft, key, &mut buf, &DefaultSha1HmacProvider)?;
-    assert!(rt; len == 124);
-    assert!(rt; buf[4..116] == LONG_TERM[4..]);
+    assert!(rt; len == 124 && buf[4..116] == LONG_TERM[4..]);
     let message = StunMessage::parse_any(&buf)?;
-    assert!(rt; message.verify(&LONG_TERM_KEY, &DefaultSha1HmacProvider));
-    assert!(rt; message.realm() == Some("example.org"));
+    assert!(rt;
+        message.verify(&LONG_TERM_KEY, &DefaultSha1HmacProvider)
+            && message.realm() == Some("example.org")
+    );
     Ok(())
 }
 
 #[test]
 fn values_that_messages_skip_are_found(rt: HostRuntime) {
-    assert!(rt; value_of(&SAMPLE, 0x8022) == Some(b"STUN test client".as_slice()));
-    assert!(rt; value_of(&SAMPLE, 0x0024) == Some([0x6e, 0x00, 0x01, 0xff].as_slice()));
-    assert!(rt; value_of(&SAMPLE, 0x0022).is_none());
+    assert!(rt;
+        value_of(&SAMPLE, 0x8022) == Some(b"STUN test client".as_slice())
+            && value_of(&SAMPLE, 0x0024) == Some([0x6e, 0x00, 0x01, 0xff].as_slice())
+            && value_of(&SAMPLE, 0x0022).is_none()
+    );
     // MESSAGE-INTEGRITY itself, and FINGERPRINT after it, are not found.
-    assert!(rt; value_of(&LONG_TERM, 0x0014) == Some(b"example.org".as_slice()));
-    assert!(rt; value_of(&LONG_TERM, 0x0008).is_none());
-    assert!(rt; value_of(&SAMPLE[..19], 0x8022).is_none());
+    assert!(rt;
+        value_of(&LONG_TERM, 0x0014) == Some(b"example.org".as_slice())
+            && value_of(&LONG_TERM, 0x0008).is_none()
+            && value_of(&SAMPLE[..19], 0x8022).is_none()
+    );
 }
 
 #[test]
@@ -100,10 +105,12 @@ fn an_allocate_request_has_a_transport_and_a_family(rt: HostRuntime) -> Result<(
         family: Some(AddressFamily::Ipv6),
     };
     let mut buf = [0; 44];
-    assert!(rt; len_with(&requested, &mut buf) == Some(44));
-    assert!(rt; buf.starts_with(&ALLOCATE));
-    assert!(rt; Requested::of(&buf) == requested);
-    assert!(rt; StunMessage::parse_any(&buf)?.is_allocate_request());
+    assert!(rt;
+        len_with(&requested, &mut buf) == Some(44)
+            && buf.starts_with(&ALLOCATE)
+            && Requested::of(&buf) == requested
+            && StunMessage::parse_any(&buf)?.is_allocate_request()
+    );
     Ok(())
 }
 
@@ -147,9 +154,11 @@ fn is_channel_data(bytes: &[u8], number: u16, data: &[u8]) -> bool {
 
 #[test]
 fn channel_data_is_read(rt: HostRuntime) {
-    assert!(rt; is_channel_data(&CHANNEL_DATA, 0x4001, &[7, 8, 9]));
-    assert!(rt; is_channel_data(&[0x4f, 0xff, 0, 0], 0x4fff, &[]));
-    assert!(rt; channel_header(0x4001, 3) == [0x40, 0x01, 0x00, 0x03]);
+    assert!(rt;
+        is_channel_data(&CHANNEL_DATA, 0x4001, &[7, 8, 9])
+            && is_channel_data(&[0x4f, 0xff, 0, 0], 0x4fff, &[])
+            && channel_header(0x4001, 3) == [0x40, 0x01, 0x00, 0x03]
+    );
     for bytes in &NO_CHANNEL_DATA {
         assert!(rt; read_channel_data(bytes).is_none());
     }

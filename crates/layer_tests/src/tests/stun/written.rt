@@ -38,17 +38,17 @@ fn is_verified(read: &StunMessage<'_>) -> bool {
 fn a_reply_to_ipv4(rt: HostRuntime) {
     let reply = StunMessage::binding_reply(ID, ipv4());
     let mut buf = [7; 65];
-    assert!(rt; signed_len(reply, &mut buf) == Some(64));
-    assert!(rt; &buf[..8] == [0x01, 0x01, 0x00, 0x2c, 0x21, 0x12, 0xa4, 0x42].as_slice());
     assert!(rt;
-        &buf[20..36]
-            == [
-                0x00, 0x20, 0x00, 0x08, 0x00, 0x01, 0xa1, 0x47, 0xe1, 0x12, 0xa6, 0x43, 0x00, 0x08,
-                0x00, 0x14
-            ]
-            .as_slice()
+        signed_len(reply, &mut buf) == Some(64)
+            && &buf[..8] == [0x01, 0x01, 0x00, 0x2c, 0x21, 0x12, 0xa4, 0x42].as_slice()
+            && &buf[20..36]
+                == [
+                    0x00, 0x20, 0x00, 0x08, 0x00, 0x01, 0xa1, 0x47, 0xe1, 0x12, 0xa6, 0x43, 0x00,
+                    0x08, 0x00, 0x14
+                ]
+                .as_slice()
+            && buf[64] == 7
     );
-    assert!(rt; buf[64] == 7);
 }
 
 #[test]
@@ -58,8 +58,7 @@ fn a_reply_to_ipv4_is_verified(rt: HostRuntime) -> Result<(), Fail> {
     let mut buf = [0; 64];
     assert!(rt; signed_len(reply, &mut buf) == Some(64));
     let read = StunMessage::parse(&buf)?;
-    assert!(rt; read.mapped_address() == Some(ipv4()));
-    assert!(rt; is_verified(&read));
+    assert!(rt; read.mapped_address() == Some(ipv4()) && is_verified(&read));
     Ok(())
 }
 
@@ -67,8 +66,10 @@ fn a_reply_to_ipv4_is_verified(rt: HostRuntime) -> Result<(), Fail> {
 fn a_reply_to_ipv6(rt: HostRuntime) -> Result<(), Fail> {
     let mut buf = [0; 76];
     let reply = StunMessage::binding_reply(ID, ipv6());
-    assert!(rt; signed_len(reply, &mut buf) == Some(76));
-    assert!(rt; StunMessage::parse(&buf)?.mapped_address() == Some(ipv6()));
+    assert!(rt;
+        signed_len(reply, &mut buf) == Some(76)
+            && StunMessage::parse(&buf)?.mapped_address() == Some(ipv6())
+    );
     Ok(())
 }
 
@@ -78,8 +79,9 @@ fn a_role_conflict(rt: HostRuntime) -> Result<(), Fail> {
     let conflict = StunMessage::binding_role_conflict_reply(ID);
     assert!(rt; signed_len(conflict, &mut buf) == Some(76));
     let read = StunMessage::parse(&buf)?;
-    assert!(rt; read.is_failed_binding_response());
-    assert!(rt; read.error_code() == Some((487, "Role Conflict")));
+    assert!(rt;
+        read.is_failed_binding_response() && read.error_code() == Some((487, "Role Conflict"))
+    );
     Ok(())
 }
 
@@ -96,8 +98,7 @@ fn checks(rt: HostRuntime) -> Result<(), Fail> {
     let mut buf = [0; 128];
     let len = signed_len(check, &mut buf).ok_or("refused")?;
     let read = StunMessage::parse(buf.get(..len).ok_or("short")?)?;
-    assert!(rt; is_the_check(&read));
-    assert!(rt; is_verified(&read));
+    assert!(rt; is_the_check(&read) && is_verified(&read));
     Ok(())
 }
 
@@ -121,8 +122,8 @@ fn a_short_buffer_is_left(rt: HostRuntime) {
     assert!(rt;
         reply.to_bytes(Some(PASSWORD), &mut buf, &DefaultSha1HmacProvider)
             == Err(StunError::BufferTooShort)
+            && buf.as_slice() == [7; 63].as_slice()
     );
-    assert!(rt; buf.as_slice() == [7; 63].as_slice());
 }
 
 /// Whether writing the message fails with this error.
@@ -141,30 +142,20 @@ fn errors_leave_the_buffer(rt: HostRuntime) {
             failure.error_code(700, "").build(ID),
             &mut buf,
             StunError::BadErrorCode
-        )
-    );
-    assert!(rt;
-        fails(
+        ) && fails(
             failure.error_code(300, text).build(ID),
             &mut buf,
             StunError::ValueTooLong
-        )
-    );
-    assert!(rt;
-        fails(
+        ) && fails(
             failure.realm(text).build(ID),
             &mut buf,
             StunError::ValueTooLong
-        )
-    );
-    assert!(rt;
-        fails(
+        ) && fails(
             failure.data(&[0; 65535]).build(ID),
             &mut buf,
             StunError::MessageTooLong
-        )
+        ) && buf.as_slice() == [7; 63].as_slice()
     );
-    assert!(rt; buf.as_slice() == [7; 63].as_slice());
 }
 
 #[test]
@@ -175,8 +166,10 @@ fn a_failure_without_attributes(rt: HostRuntime) -> Result<(), Fail> {
     assert!(rt; StunMessage::parse(&bytes)?.is_failed_binding_response());
     let failure = Builder::new().binding().failure().build(ID);
     let mut buf = [0; 64];
-    assert!(rt; failure.to_bytes(Some(PASSWORD), &mut buf, &DefaultSha1HmacProvider) == Ok(52));
-    assert!(rt; &buf[20..22] == [0x00, 0x08].as_slice());
+    assert!(rt;
+        failure.to_bytes(Some(PASSWORD), &mut buf, &DefaultSha1HmacProvider) == Ok(52)
+            && &buf[20..22] == [0x00, 0x08].as_slice()
+    );
     Ok(())
 }
 
@@ -188,9 +181,11 @@ fn an_indication_with_data(rt: HostRuntime) {
         .data(&[0xde, 0xad, 0xbe])
         .build(ID);
     let mut buf = [7; 36];
-    assert!(rt; indication.to_bytes(None, &mut buf, &DefaultSha1HmacProvider) == Ok(36));
-    assert!(rt; &buf[..4] == [0x00, 0x16, 0x00, 0x10].as_slice());
-    assert!(rt; &buf[20..28] == [0x00, 0x13, 0x00, 0x03, 0xde, 0xad, 0xbe, 0x00].as_slice());
+    assert!(rt;
+        indication.to_bytes(None, &mut buf, &DefaultSha1HmacProvider) == Ok(36)
+            && &buf[..4] == [0x00, 0x16, 0x00, 0x10].as_slice()
+            && &buf[20..28] == [0x00, 0x13, 0x00, 0x03, 0xde, 0xad, 0xbe, 0x00].as_slice()
+    );
 }
 
 #[test]
@@ -202,9 +197,11 @@ fn software_before_network_cost(rt: HostRuntime) {
         .software("rice")
         .build(ID);
     let mut buf = [7; 44];
-    assert!(rt; message.to_bytes(None, &mut buf, &DefaultSha1HmacProvider) == Ok(44));
-    assert!(rt; &buf[20..24] == [0x00, 0x22, 0x00, 0x04].as_slice());
-    assert!(rt; &buf[28..36] == [0xc0, 0x57, 0x00, 0x04, 0x00, 0x01, 0x00, 0x0a].as_slice());
+    assert!(rt;
+        message.to_bytes(None, &mut buf, &DefaultSha1HmacProvider) == Ok(44)
+            && &buf[20..24] == [0x00, 0x22, 0x00, 0x04].as_slice()
+            && &buf[28..36] == [0xc0, 0x57, 0x00, 0x04, 0x00, 0x01, 0x00, 0x0a].as_slice()
+    );
 }
 
 fn every_attribute() -> StunMessage<'static> {
@@ -264,11 +261,14 @@ fn every_attribute_comes_back(rt: HostRuntime) -> Result<(), Fail> {
     let mut buf = [0; 400];
     let len = signed_len(every_attribute(), &mut buf).ok_or("refused")?;
     let read = StunMessage::parse(buf.get(..len).ok_or("short")?)?;
-    assert!(rt; read.is_channel_bind_request() && read.trans_id() == ID);
-    assert!(rt; has_its_texts(&read));
-    assert!(rt; has_its_numbers(&read));
-    assert!(rt; has_its_addresses(&read));
-    assert!(rt; is_verified(&read));
+    assert!(rt;
+        read.is_channel_bind_request()
+            && read.trans_id() == ID
+            && has_its_texts(&read)
+            && has_its_numbers(&read)
+            && has_its_addresses(&read)
+            && is_verified(&read)
+    );
     Ok(())
 }
 
@@ -319,21 +319,19 @@ fn turn_requests(rt: HostRuntime) {
             .request()
             .build(ID)
             .is_allocate_request()
-    );
-    assert!(rt;
-        Builder::new()
-            .refresh()
-            .request()
-            .build(ID)
-            .is_refresh_request()
+            && Builder::new()
+                .refresh()
+                .request()
+                .build(ID)
+                .is_refresh_request()
     );
     let permission = Builder::new().create_permission().request().build(ID);
-    assert!(rt; permission.is_create_permission_request());
     assert!(rt;
-        Builder::new()
-            .send()
-            .indication()
-            .build(ID)
-            .is_send_indication()
+        permission.is_create_permission_request()
+            && Builder::new()
+                .send()
+                .indication()
+                .build(ID)
+                .is_send_indication()
     );
 }

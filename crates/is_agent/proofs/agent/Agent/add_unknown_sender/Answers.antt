@@ -1,7 +1,9 @@
-use Rattle.std.proofs.Common.{arith, refl, slice_set}
+use Rattle.std.proofs.Common.{◌+◌, ◌≤◌, arith, refl, slice_set}
 use Rattle.is_pair.specs.Checklists.{multiset_of}
 use Rattle.is_rules.proofs.PairLists.PairsInLists.{longer}
 use Rattle.is_agent.proofs.AgentParts.PairsInLists.{as-long, one-longer}
+use Rattle.is_agent.specs.Live.{live_count}
+use Rattle.is_agent.proofs.AgentParts.LiveCandidates.{live-appended, live-set}
 use Rattle.is_agent.proofs.agent.Agent.add_unknown_sender.Goals as goal
 
 pub invariant_of-self-clause-placed : goal.invariant_of-self-clause-placed
@@ -22,3 +24,14 @@ invariant_of-self-in-Vacant-Some-clause-numbered g c = rw (c.forget_removed.ensu
 
 pub find_or_add_pair-requires-in-Vacant-Some-clause-pairs : goal.find_or_add_pair-requires-in-Vacant-Some-clause-pairs
 find_or_add_pair-requires-in-Vacant-Some-clause-pairs g c = c.forget_removed.ensures.room 1 c.requires.room.1
+
+pub invariant_of-self-clause-room_suffices : goal.invariant_of-self-clause-room_suffices
+invariant_of-self-clause-room_suffices g c =
+    let self = c.args.self.now in
+    let more : live_count c.push_reserved.new.self.items ≤ live_count self.remote.items + 1 = rw (c.push_reserved.ensures.items) (live-appended self.remote.items c.in-Unknown-Some.sender) in
+    omega (arith, more, c.requires.room.3)
+
+pub invariant_of-self-in-Vacant-Some-clause-room_suffices : goal.invariant_of-self-in-Vacant-Some-clause-room_suffices
+invariant_of-self-in-Vacant-Some-clause-room_suffices g c =
+    let self = c.args.self.now in let r = c.in-Vacant-Some.r in let sender = c.in-Vacant-Some.sender in
+    omega (arith, live-set self.remote.items r sender, c.requires.room.3)

@@ -1,6 +1,8 @@
 use Rattle.is_pair.specs.Checklists.{multiset_of}
 use Rattle.is_rules.proofs.PairLists.PairsInLists.{longer, placed-without}
-use Rattle.std.proofs.Common.{arith}
+use Rattle.std.proofs.Common.{◌+◌, ◌≤◌, arith}
+use Rattle.is_agent.specs.Live.{live_count}
+use Rattle.is_agent.proofs.AgentParts.LiveCandidates.{live-discarded, live-lost}
 use Rattle.is_agent.proofs.agent.Agent.discard_local.Goals as goal
 
 pub invariant_of-self-clause-placed : goal.invariant_of-self-clause-placed
@@ -12,3 +14,21 @@ invariant_of-self-clause-placed g c =
 
 pub invariant_of-self-clause-none_too_high : goal.invariant_of-self-clause-none_too_high
 invariant_of-self-clause-none_too_high g c = c.discard_at.ensures.low c.args.self.now.none_too_high
+
+pub invariant_of-self-clause-room_suffices : goal.invariant_of-self-clause-room_suffices
+invariant_of-self-clause-room_suffices g c =
+    let self = c.args.self.now in
+    let less : live_count c.discard_at.new.candidates.items ≤ live_count self.local.items = rw (c.discard_at.ensures.items) (live-discarded self.local.items c.args.place c.requires) in
+    omega (arith, less, self.room_suffices)
+
+pub returns-clause-candidate : goal.returns-clause-candidate
+returns-clause-candidate g c = λ room.
+    let self = c.args.self.now in
+    let less : live_count c.discard_at.new.candidates.items ≤ live_count self.local.items = rw (c.discard_at.ensures.items) (live-discarded self.local.items c.args.place c.requires) in
+    omega (arith, less, room)
+
+pub returns-clause-room : goal.returns-clause-room
+returns-clause-room g c = λ live.
+    let self = c.args.self.now in
+    let less : live_count c.discard_at.new.candidates.items + 1 ≤ live_count self.local.items = rw (c.discard_at.ensures.items) (live-lost self.local.items c.args.place c.requires live) in
+    omega (arith, less, self.room_suffices)

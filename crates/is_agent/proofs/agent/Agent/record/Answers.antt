@@ -1,7 +1,9 @@
 use Rattle.is_pair.specs.Checklists.{multiset_of}
 use Rattle.is_rules.proofs.PairLists.PairsInLists.{longer}
 use Rattle.is_agent.proofs.AgentParts.PairsInLists.{joined-longer, placed-answered}
-use Rattle.std.proofs.Common.{◌≤◌, length, arith}
+use Rattle.std.proofs.Common.{◌+◌, ◌≤◌, length, arith}
+use Rattle.is_agent.specs.Live.{live_count}
+use Rattle.is_agent.proofs.AgentParts.LiveCandidates.{live-joined}
 use Rattle.is_agent.proofs.agent.Agent.record.Goals as goal
 
 pub invariant_of-self-clause-placed : goal.invariant_of-self-clause-placed
@@ -14,3 +16,9 @@ invariant_of-self-clause-placed g c =
 
 pub invariant_of-self-clause-none_too_high : goal.invariant_of-self-clause-none_too_high
 invariant_of-self-clause-none_too_high g c = c.join.ensures.all_low
+
+pub invariant_of-self-clause-room_suffices : goal.invariant_of-self-clause-room_suffices
+invariant_of-self-clause-room_suffices g c =
+    let self = c.args.self.now in
+    let more : live_count c.join.new.local.items ≤ live_count self.local.items + 1 = rw (c.join.ensures.items) (live-joined c.args.mapped self.local.items) in
+    omega (arith, more, c.requires.candidate)

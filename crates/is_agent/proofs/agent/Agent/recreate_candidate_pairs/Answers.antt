@@ -18,12 +18,17 @@ with-event r s state events same is emitted =
 
 pub emit_state-requires : goal.emit_state-requires
 emit_state-requires g c =
-    let room = c.clear_pairs.ensures.events 1 c.in_ok-take_recreation_room.ensures.room.1 in
+    let room = c.clear_pairs.ensures.events 1 c.in_ok-reserve_recreation_room.ensures.room.1 in
     record { room = omega (arith, room) }
+
+pub invariant_of-self-clause-room_kept : goal.invariant_of-self-clause-room_kept
+invariant_of-self-clause-room_kept g c =
+    let room = c.clear_pairs.ensures.events 1 c.in_ok-reserve_recreation_room.ensures.room.1 in
+    omega (arith, room, c.emit_state.ensures.len, c.emit_state.ensures.capacity)
 
 pub form-requires-clause-room : goal.form-requires-clause-room
 form-requires-clause-room g c =
-    let kept : HasRoom c.len.result c.clear_pairs.new.self.pairs = c.clear_pairs.ensures.room c.len.result c.in_ok-take_recreation_room.ensures.room.0 in
+    let kept : HasRoom c.len.result c.clear_pairs.new.self.pairs = c.clear_pairs.ensures.room c.len.result c.in_ok-reserve_recreation_room.ensures.room.0 in
     let many : c.len.result ≡ length c.deref.result.now = search rules in
     subst (λ n. HasRoom n c.clear_pairs.new.self.pairs) many kept
 
@@ -31,7 +36,7 @@ pub returns : goal.returns
 returns g c =
     let old = record_of c.args.self.now in
     let cleared = record_of c.clear_pairs.new.self in
-    let same : cleared ≡ unpaired old = c.clear_pairs.ensures.cleared ∙ ap unpaired c.in_ok-take_recreation_room.ensures.record in
+    let same : cleared ≡ unpaired old = c.clear_pairs.ensures.cleared ∙ ap unpaired c.in_ok-reserve_recreation_room.ensures.record in
     let begins = with-event cleared (unpaired old) c.emit_state.new.state c.emit_state.new.events.items same c.emit_state.ensures.state c.emit_state.ensures.events in
     let all : c.deref.result.now ≡ live_combinations old.local old.remote = search rules in
     let formed : FormsAll (emptied old) (live_combinations old.local old.remote) (record_of c.form.new.self) =

@@ -11,7 +11,7 @@ use Rattle.is_stun.specs.MessageView.{message_view}
 use Rattle.is_rules.specs.declared.emitted.Path.{Path}
 use Rattle.is_rules.specs.Accepting.{IsAcceptedAs, IsAwaited}
 use Rattle.is_rules.specs.Agent.{AgentRecord}
-use Rattle.is_rules.specs.Answers.{goes_back, keeps_check_on}
+use Rattle.is_rules.specs.Answers.{is_reverse, keeps_check_on}
 use Rattle.is_rules.specs.RequestView.{packet_path}
 use Rattle.is_rules.specs.Sending.{path_of}
 use Rattle.is_agent.specs.declared.rejecting.Rejection.{Rejection}
@@ -35,7 +35,7 @@ response-none : {H P : Type 0} (mac : H → List ℕ → List ℕ → List ℕ) 
     → IsResponseRejection mac a path m why → ((why ≡ None) ↔ IsAwaited mac (keeps_check_on a path m.id) a m)
 response-none mac a path m None is = (λ _. is, λ _. refl)
 response-none mac a path m (Some NoPendingCheck) is =
-    (λ (e : Some NoPendingCheck ≡ None). (cc), λ yes. let kept = any-left (keeps_check m.id) (λ p. goes_back path (path_of a p)) a.pairs yes.0 in (cc))
+    (λ (e : Some NoPendingCheck ≡ None). (cc), λ yes. let kept = any-left (keeps_check m.id) (λ p. is_reverse path (path_of a p)) a.pairs yes.0 in (cc))
 response-none mac a path m (Some OtherPath) is = (λ (e : Some OtherPath ≡ None). (cc), λ yes. let no = is.1 in let any = yes.0 in (cc))
 response-none mac a path m (Some OtherRemotePassword) is = (λ (e : Some OtherRemotePassword ≡ None). (cc), λ yes. absurd (is.1 yes.1))
 response-none mac a path m (Some OtherMethod) is = absurd is

@@ -16,4 +16,6 @@ invariant_of-self g c =
       remote_key_kept = self.remote_key_kept;
       numbered = below-grown self.next_number c.max-self.result (multiset_of self.pairs) more self.numbered;
       placed = self.placed;
+      room_kept = self.room_kept;
+      room_suffices = self.room_suffices;
     }

@@ -12,5 +12,5 @@ returns-in-Failure-clause-arrives g c =
     let m = message_view c.args.packet.now.message in
     let method : m.method ≡ Binding = search rules in
     let class : m.class ≡ Failure = sym c.class.ensures ∙ c.in-Failure.is in
-    failure-arrives g.H.Sha1HmacProvider.mac c.args.now.0 (record_of c.args.self.now) (record_of c.take_failure_packet.new.self) (packet_path c.args.packet.now) m c.take_failure_packet.result method class
-    (c.take_failure_packet.ensures.arrives c.args.now.0)
+    failure-arrives g.H.Sha1HmacProvider.mac c.args.now.0 (record_of c.args.self.now) (record_of c.handle_failure_packet.new.self) (packet_path c.args.packet.now) m c.handle_failure_packet.result method class
+    (c.handle_failure_packet.ensures.arrives c.args.now.0)

@@ -1,0 +1,11 @@
+use Rattle.std.proofs.Common.{◌≡◌, ◌≤◌, refl, arith}
+use Rattle.is_agent.specs.Live.{live_count}
+use Rattle.is_agent.proofs.AgentParts.LiveCandidates.{live-kept}
+use Rattle.is_agent.proofs.agent.Agent.begin.Goals as goal
+
+pub invariant_of-self-clause-room_suffices : goal.invariant_of-self-clause-room_suffices
+invariant_of-self-clause-room_suffices g c =
+    let self = c.args.self.now in
+    let less : live_count c.args.restart_parts.local.items ≤ live_count self.local.items = rw (c.requires.local) (live-kept c.args.keep c.args.creds.ufrag self.local.items) in
+    let none : live_count c.clear.new.self.items ≡ 0 = rw (c.clear.ensures.items) refl in
+    omega (arith, less, none, self.room_suffices)
