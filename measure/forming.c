@@ -8,18 +8,41 @@
  * pair, and so many local candidates are then added and invalidated one after another, and as many remote ones: prints the bytes of the
  * heap before, after the local ones and after all. */
 #define _GNU_SOURCE
-#include "costs.h"
+#include "is_ice.h"
 #include <inttypes.h>
+#include <malloc.h>
+#include <stdio.h>
+#include <stdlib.h>
 #include <string.h>
+#include <time.h>
 
 enum { PORT = 2000, LOCAL = 1, REMOTE = 2 };
 
 static is_ice_agent agent;
 static bool modern;
 
+static void fail(const char *what, int32_t code)
+{
+    fprintf(stderr, "forming: %s: %s\n", what, is_ice_code_text(code));
+    exit(1);
+}
+
+static void must(const char *what, int32_t code)
+{
+    if (code != IS_ICE_OK) fail(what, code);
+}
+
 static double ms(void)
 {
-    return cpu() / 1e3;
+    struct timespec t;
+    clock_gettime(CLOCK_PROCESS_CPUTIME_ID, &t);
+    return (double)t.tv_sec * 1e3 + (double)t.tv_nsec / 1e6;
+}
+
+static double heap_bytes(void)
+{
+    struct mallinfo2 info = mallinfo2();
+    return (double)(info.uordblks + info.hblkhd);
 }
 
 static double least(double a, double b)

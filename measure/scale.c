@@ -9,9 +9,13 @@
  * agent-second from then on, its packets in a second, and the bytes of the heap for an agent: as made, with the other's candidate,
  * connected, at the end. */
 #define _GNU_SOURCE
-#include "costs.h"
+#include "is_ice.h"
 #include <inttypes.h>
+#include <malloc.h>
+#include <stdio.h>
+#include <stdlib.h>
 #include <string.h>
+#include <time.h>
 
 #define MS UINT64_C(1000000)
 enum { PORT = 5000, CONNECT = 8000, LONGEST = 1500, CREDENTIALS = 32, CACHED = 262144 /* bytes that malloc counts, and keeps for later calls */ };
@@ -19,6 +23,30 @@ enum { PORT = 5000, CONNECT = 8000, LONGEST = 1500, CREDENTIALS = 32, CACHED = 2
 static is_ice_agent *agents;
 static size_t agent_count, hosts = 1;
 static uint64_t now = 60000 * MS, packets, selected;
+
+static void fail(const char *what, int32_t code)
+{
+    fprintf(stderr, "scale: %s: %s\n", what, is_ice_code_text(code));
+    exit(1);
+}
+
+static void must(const char *what, int32_t code)
+{
+    if (code != IS_ICE_OK) fail(what, code);
+}
+
+static double cpu(void)
+{
+    struct timespec t;
+    clock_gettime(CLOCK_PROCESS_CPUTIME_ID, &t);
+    return (double)t.tv_sec * 1e6 + (double)t.tv_nsec / 1e3;
+}
+
+static double heap_bytes(void)
+{
+    struct mallinfo2 info = mallinfo2();
+    return (double)(info.uordblks + info.hblkhd);
+}
 
 static uint64_t number(void)
 {

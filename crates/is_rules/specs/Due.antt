@@ -11,6 +11,7 @@ use Rattle.is_pair.specs.Checks.{Check}
 use Rattle.is_pair.specs.Due.{is_due}
 use Rattle.is_pair.specs.Pairs.{PairRecord, is_nominated, is_valid}
 use Rattle.is_stun.specs.declared.timing.StunTiming.{StunTiming}
+use Rattle.is_stun.specs.Timing.{is_modern}
 use Rattle.is_rules.specs.declared.checking.Draft.{Draft}
 use Rattle.is_rules.specs.declared.emitted.Path.{Path}
 use Rattle.is_rules.specs.Agent.{AgentRecord}
@@ -23,9 +24,9 @@ abbrev pub awaits_nomination : Bool → PairRecord → Bool
 awaits_nomination controlling p = controlling && is_valid p && not (is_nominated p)
 
 -- The pair is due at this time, or it is due once it is nominated at this time. A nominated pair is due at once, unless its due
--- time was fixed before.
+-- time was fixed before; with the profile `Modern` also then, if it is nominated as another path is left.
 abbrev pub falls_due : Bool → ℕ → StunTiming → PairRecord → Bool
-falls_due controlling now t p = is_due now t p || (not (is_some p.due) && awaits_nomination controlling p)
+falls_due controlling now t p = is_due now t p || ((is_modern t || not (is_some p.due)) && awaits_nomination controlling p)
 
 -- A check of the pair with this ID was sent in a role; `present` says whether that is the role `controlling`.
 abbrev pub IsSentUnder : PairRecord → List ℕ → Bool → Bool → Type 0

@@ -27,12 +27,13 @@ impl PairTest for FallsDue<'_> {
 
     fn passes(&self, pair: &CandidatePair) -> bool {
         due_time_of(pair, self.now, self.timing) <= self.now
-            || (!is_asked(pair) && awaits_nomination(pair, self.controlling))
+            || ((self.timing.is_modern() || !is_asked(pair))
+                && awaits_nomination(pair, self.controlling))
     }
 }
 
 /// The agent may nominate the pair itself.
-fn awaits_nomination(pair: &CandidatePair, controlling: bool) -> bool
+pub(crate) fn awaits_nomination(pair: &CandidatePair, controlling: bool) -> bool
     ensures { result ≡ awaits_nomination controlling pair.now }
 {
     controlling && pair.state() == CheckState::Succeeded && !pair.is_nominated()

@@ -26,10 +26,14 @@ const BEGINNING: Duration = Duration(500_000_000);
 /// and a path that is slow or dead is not filled (RFC 8489, section 6.2.1).
 const EARLY_TIME: Duration = Duration(2_500_000_000);
 
-/// The shortest delay after which a check of a nominated pair that is silent is repeated.
-const EARLY_INTERVAL: Duration = Duration(100_000_000);
+/// How long a nominated pair that is silent is checked quickly at least, from the time on at which the check after the last answered one was
+/// due at the latest: so long both agents may take to leave the path.
+const HUSHED_TIME: Duration = Duration(4_000_000_000);
 
-/// The same, once `max_retransmits` of its checks have no response.
+/// The shortest delay after which a check of it is repeated.
+const SHORT_INTERVAL: Duration = Duration(80_000_000);
+
+/// The same after that time.
 const HUSHED_INTERVAL: Duration = Duration(500_000_000);
 
 /// How much later than the one before a response may come, before the check is repeated: a longer jitter is rare, and costs only a
@@ -195,13 +199,27 @@ impl CandidatePair {
     }
 
     /// Returns the delay after which the response to the last check is late.
-    fn hushed_delay(&self, timing: &StunTiming) -> Duration
-        ensures { result.0 ≡ hushed_delay timing.now self.now }
+    fn hushed_delay(&self, now: Instant, timing: &StunTiming) -> Duration
+        ensures { result.0 ≡ hushed_delay now.0 timing.now self.now }
     {
         let round_trip = self.last_successful_rtt().unwrap_or(Duration(0));
-        hushed_interval(timing, attempts::unanswered(&self.binding_attempts)).max(
-            round_trip.saturating_add(LATENESS),
-        )
+        self.hushed_interval(now, timing)
+            .max(round_trip.saturating_add(LATENESS))
+    }
+
+    /// Returns how often a nominated pair is checked at most, by how many of its checks have no response, and how long ago its last answered
+    /// check was sent.
+    fn hushed_interval(&self, now: Instant, timing: &StunTiming) -> Duration
+        ensures { result.0 ≡ hushed_interval now.0 timing.now self.now }
+    {
+        let span = timing.max_rto().saturating_add(HUSHED_TIME);
+        if attempts::unanswered(&self.binding_attempts) < timing.max_retransmits()
+            || is_within(span, now, self.consented)
+        {
+            SHORT_INTERVAL
+        } else {
+            HUSHED_INTERVAL
+        }
     }
 
     /// Returns the delay after the last check: checks are repeated early, or after the RTO.
@@ -221,7 +239,7 @@ impl CandidatePair {
     {
         let delay = self.repeated_delay(now, timing);
         if self.is_hushed() {
-            self.hushed_delay(timing).min(delay)
+            self.hushed_delay(now, timing).min(delay)
         } else {
             delay
         }
@@ -286,17 +304,6 @@ fn long_before(now: Instant) -> Instant
     ensures { result.0 ≡ long_before now.0 }
 {
     now.checked_sub(HEAD_START).unwrap_or(now)
-}
-
-/// Returns how often a nominated pair is checked at most, by how many of its checks have no response.
-fn hushed_interval(timing: &StunTiming, count: usize) -> Duration
-    ensures { result.0 ≡ hushed_interval timing.now count }
-{
-    if count < timing.max_retransmits() {
-        EARLY_INTERVAL
-    } else {
-        HUSHED_INTERVAL
-    }
 }
 
 /// Returns the RTO after the last check.
@@ -372,6 +379,13 @@ pub fn trigger(pair: &mut CandidatePair, modern: bool, at: Instant)
     if modern && pair.is_triggered() {
         pair.move_up(at);
     }
+}
+
+/// The next check is due at this time, if its due time is fixed and later.
+pub fn move_up(pair: &mut CandidatePair, at: Instant)
+    ensures { pair.new ≡ moved_up at.0 pair.old }
+{
+    pair.move_up(at);
 }
 
 /// Whether the pair may be checked before pairs that are due earlier: a request arrived, and the pair is not valid yet, or it is

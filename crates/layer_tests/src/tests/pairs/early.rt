@@ -152,7 +152,8 @@ static NOMINATING: [u64; 10] = [
     70100, 70200, 70300, 70400, 70500, 70600, 70700, 70800, 71300, 71800,
 ];
 
-/// Each 100 ms, after which a response would be late by 50 ms, until nine of them have none: then each half second.
+/// Each 100 ms, after which a response would be late by 50 ms, until nine of them have none: then each half second, since more than 7 s have
+/// passed after the check with a response.
 #[test]
 fn a_check_that_nominates_is_repeated_early(rt: HostRuntime) {
     let mut path = early_path(rt.alloc());
@@ -165,7 +166,7 @@ fn a_check_that_nominates_is_repeated_early(rt: HostRuntime) {
 }
 
 /// The next check is due by the number of pending transactions, here two. The one after it is sent once the response is late: 50 ms after
-/// the last round trip, and at least 100 ms after the check.
+/// the last round trip, and at least 80 ms after the check.
 #[test]
 fn the_response_to_a_nomination_ends_early_retransmissions(rt: HostRuntime) {
     let mut path = early_path(rt.alloc());
@@ -178,8 +179,8 @@ fn the_response_to_a_nomination_ends_early_retransmissions(rt: HostRuntime) {
     );
 }
 
-/// The nominating checks are sent each 100 ms from 1 s on, the ninth at 1.8 s, and then each half second. So the first one that is stored is
-/// never a whole series old, and only consent ends the pair.
+/// The nominating checks are sent each 100 ms from 1 s until 7 s, and then each half second. So the first one that is stored is never a whole
+/// series old, and only consent ends the pair.
 #[test]
 fn checks_end_no_nominated_pair(rt: HostRuntime) {
     let mut path = early_path(rt.alloc());
