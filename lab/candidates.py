@@ -248,13 +248,29 @@ class Candidates:
         return is_able and silence is not None and other.outlives(silence)
 
     def gives_way(self, pair: Pair, now: int) -> bool:
-        """Whether with `Modern` the pair is the selected one, none of its last checks had a response, and another one may replace it."""
-        is_silent = pair.number == self.selected and self.is_eligible(pair) and not pair.may_repeat(self.timing)
+        """Whether with `Modern` the pair is the selected one, none of its last checks had a response for long, and another one may replace
+        it."""
+        is_silent = not pair.may_repeat(self.timing) and pair.is_silent_enough(now, self.timing)
+        is_silent = is_silent and pair.number == self.selected and self.is_eligible(pair)
         return is_silent and self.modern and not self.lite and any(self.may_replace(pair, p, now) for p in self.pairs)
 
+    def asked_along(self, now: int) -> list[Pair]:
+        """Returns the pairs of which one is asked along with the selected one, while that is silent: those that are due first."""
+        silent = next((p for p in self.pairs if p.number == self.selected), None) if self.state.is_connected() else None
+        if silent is None or silent.due_at(now, self.timing) > now:
+            return []
+        if any(p.is_urgent and p.due_at(now, self.timing) <= now for p in self.pairs):
+            return []
+        silence = silent.silence_until(now)
+        others = [p for p in self.pairs if p is not silent and p.is_valid and silence is not None and not p.outlives(silence)]
+        order = {p.number: (p.due_at(now, self.timing), -p.priority) for p in others}
+        return [p for p in others if order[p.number] == min(order.values())]
+
     def path_left(self, now: int) -> Self:
-        """Returns the agent without the selected pair, if that gives way."""
-        return self._without({p.number: Removal.CONSENT_LOST for p in self.pairs if self.gives_way(p, now)})
+        """Returns the agent without the selected pair, if that gives way. Then those that the agent may nominate are due next."""
+        new = self._without({p.number: Removal.CONSENT_LOST for p in self.pairs if self.gives_way(p, now)})
+        return self if len(new.pairs) == len(self.pairs) else replace(new, pairs=tuple(
+            p.moved_up(now + 1) if self.controlling and p.is_valid and not p.is_nominated else p for p in new.pairs))
 
     def without_expired(self, now: int) -> Self:
         """Returns the agent without the pairs that do not stay."""

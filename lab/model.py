@@ -222,6 +222,9 @@ class Agent(Candidates):
         """Returns the pairs of which one is checked: the selected one, if its nomination is to be sent, else those that come first."""
         if self.nominates_at_once:
             return [p for p in self.pairs if p.number == self.selected]
+        along = self.asked_along(now) if is_ahead else []
+        if along:
+            return along
         order = {p.number: self.place_in_order(p, now, is_ahead) for p in self.pairs if p.due_at(now, self.timing) <= now}
         return [p for p in self.pairs if order.get(p.number) == min(order.values())] if order else []
 

@@ -20,9 +20,17 @@ EARLY_CAP = 350 * MILLISECOND
 EARLY_TIME = 2500 * MILLISECOND
 BEGINNING = 500 * MILLISECOND
 
-# How much later than the one before a response may come, and how often a silent nominated pair is checked once none of its checks has one.
-LATENESS = 50 * MILLISECOND
+# How much later than the one before a response may come, how long a silent nominated pair is checked quickly, after the longest RTO since
+# its last answered check, how often at most, and how often after that.
+LATENESS = 30 * MILLISECOND
+HUSHED_TIME = 4500 * MILLISECOND
+SHORT_INTERVAL = 80 * MILLISECOND
 HUSHED_INTERVAL = 500 * MILLISECOND
+
+# How long a silent pair is kept at least, after the longest RTO since its last answered check, and how much longer if most checks were lost
+# before.
+LEAST_SILENCE = 1100 * MILLISECOND
+LOSSY_TIME = 2200 * MILLISECOND
 
 # How many checks of a silent pair follow the answered check of another one, at which the silent one is left.
 FOLLOWING = 4
@@ -203,16 +211,17 @@ class Pair:
         if not timing.modern:
             return self._usual_delay(now, timing)
         repeated = early_delay(self.silent_count) if self.is_repeated_early(now, timing) else self._usual_delay(now, timing)
-        return min(self._hushed_delay(timing), repeated) if self.is_hushed else repeated
+        return min(self._hushed_delay(now, timing), repeated) if self.is_hushed else repeated
 
     @property
     def is_hushed(self) -> bool:
         """Whether it is valid and nominated, and has checks without a response."""
         return self.is_valid and self.is_nominated and unanswered(self.checks) > 0
 
-    def _hushed_delay(self, timing: Timing) -> int:
+    def _hushed_delay(self, now: int, timing: Timing) -> int:
         trip = next((c.answered - c.sent for c in reversed(self.checks) if c.answered is not None), 0)
-        return max(EARLY_INTERVAL if self.may_repeat(timing) else HUSHED_INTERVAL, trip + LATENESS)
+        is_quick = self.may_repeat(timing) or (self.consented is not None and now < self.consented + timing.greatest + HUSHED_TIME)
+        return max(SHORT_INTERVAL if is_quick else HUSHED_INTERVAL, trip + LATENESS)
 
     def _usual_delay(self, now: int, timing: Timing) -> int:
         silent = unanswered(self.checks)
@@ -292,14 +301,29 @@ class Pair:
 
     # ---- its silence
 
+    def is_long_silent(self, now: int, timing: Timing) -> bool:
+        """Whether its last check that had a response was sent long ago (`is_long_silent`)."""
+        return self.consented is None or self.consented + timing.greatest + LEAST_SILENCE <= now
+
+    def is_silent_enough(self, now: int, timing: Timing) -> bool:
+        """Whether it was silent for long, for longer if fewer of its checks before the last ones had a response than had none
+        (`is_silent_enough`)."""
+        is_lossy = self.answers < self.sent - timing.retransmits - self.answers
+        return self.is_long_silent(now - LOSSY_TIME if is_lossy else now, timing)
+
     def silence(self) -> tuple[int, int] | None:
         """Returns the time from its first check without a response to the first of its last four (`silence_of`)."""
         silent = unanswered(self.checks)
         return (self.checks[-silent].sent, self.checks[-FOLLOWING:][0].sent) if silent else None
 
+    def silence_until(self, now: int) -> tuple[int, int] | None:
+        """Returns the time from the first of its last four checks that have no response until now (`silence_until`)."""
+        late = min(FOLLOWING, unanswered(self.checks))
+        return (self.checks[-late].sent, now) if late else None
+
     def outlives(self, silence: tuple[int, int]) -> bool:
-        """Whether a check of it that was sent in this time had a response."""
-        return any(c.answered is not None and silence[0] < c.sent < silence[1] for c in self.checks)
+        """Whether a check of it that was sent in this time had a response in it."""
+        return any(c.answered is not None and c.answered < silence[1] and silence[0] < c.sent < silence[1] for c in self.checks)
 
     # ---- what happens to it
 
@@ -334,7 +358,11 @@ class Pair:
 
     def triggered(self, at: int) -> Pair:
         """Returns it after the first request on it, unless it is valid: a due time that is fixed is at most `at`."""
-        return self if self.is_valid or self.requests > 0 or self.due is None else replace(self, due=min(at, self.due))
+        return self if self.is_valid or self.requests > 0 else self.moved_up(at)
+
+    def moved_up(self, at: int) -> Pair:
+        """Returns it with a due time of at most `at`, if one is fixed."""
+        return self if self.due is None else replace(self, due=min(at, self.due))
 
     def taking_over(self, other: Pair, lite: bool) -> Pair:
         """Returns it with what it copies from the pair that it replaces."""

@@ -1,4 +1,4 @@
-/* What the programs share that measure what calls cost: flood.c and mapped.c, which play a hostile peer, demux.c and stack.c. */
+/* What the programs share that measure what calls cost: hostile.c, flood.c and mapped.c, which play a hostile peer, and others. */
 #ifndef MEASURING_H
 #define MEASURING_H
 

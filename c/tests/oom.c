@@ -3,7 +3,7 @@
  * packets, events, statistics and removed pairs are the same as without a failure, and no memory leaks.
  *
  * Link with -Wl,--wrap=malloc,--wrap=realloc,--wrap=free. */
-#include "is_ice.h"
+#include "seen.h"
 #include <stdio.h>
 #include <stdlib.h>
 #include <string.h>
@@ -72,46 +72,14 @@ static void fail(int line, const char *what, long number)
     exit(1);
 }
 
-/* What a program sees of an agent, as a hash. It takes no part in the count of allocations. */
-static uint64_t seen_of(is_ice_agent *agent)
-{
-    const long left_before = left, asked_before = asked;
-    struct story seen = {.sum = 1};
-    is_ice_agent_status status;
-    is_ice_agent_stats stats;
-    is_ice_pair pair;
-    uint8_t text[256];
-    uint64_t silent = 0;
-    size_t count = 0, length;
-    int32_t (*const names[])(is_ice_agent *, uint8_t *, size_t, size_t *)
-        = {is_ice_local_ufrag, is_ice_local_pass, is_ice_remote_ufrag, is_ice_remote_pass};
-    int32_t (*const lines[])(is_ice_agent *, size_t, uint8_t *, size_t, size_t *) = {is_ice_local_candidate, is_ice_remote_candidate};
-    left = -1;
-    if (is_ice_status(agent, &status) == IS_ICE_OK && is_ice_stats(agent, &stats) == IS_ICE_OK) {
-        const uint64_t numbers[] = {(uint64_t)status.state, status.controlling, status.lite, status.mtu, status.mtu_warn, status.ice_timeout,
-                                    status.max_candidates, stats.bind_request_sent, stats.bind_success_recv, stats.bind_request_recv,
-                                    stats.discovered_recv_count, stats.nomination_send_count};
-        add(&seen, numbers, sizeof numbers);
-        for (size_t i = 0; i < 4; i++)
-            if (names[i](agent, text, sizeof text, &length) == IS_ICE_OK) add(&seen, text, length);
-        for (size_t side = 0; side < 2; side++)
-            for (size_t i = 0; lines[side](agent, i, text, sizeof text, &length) == IS_ICE_OK; i++) add(&seen, text, length);
-        if (is_ice_early_count(agent, &count) == IS_ICE_OK) add(&seen, &count, sizeof count);
-        if (is_ice_silent_since(agent, &silent) == IS_ICE_OK) add(&seen, &silent, sizeof silent);
-        for (size_t i = 0; is_ice_pair_at(agent, i, &pair) == IS_ICE_OK; i++) {
-            const uint64_t of_pair[] = {pair.local, pair.remote, pair.priority, pair.checks_sent, pair.requests_received, pair.responses,
-                                        pair.has_rtt ? pair.total_rtt : 0, pair.has_rtt ? pair.rtt : 0, pair.has_request ? pair.last_request : 0,
-                                        pair.has_due ? pair.due : 1, (uint64_t)pair.state, pair.nominated, pair.selected};
-            add(&seen, of_pair, sizeof of_pair);
-        }
-    }
-    left = left_before, asked = asked_before;
-    return seen.sum;
-}
-
+/* What a program sees of both agents. It takes no part in the count of allocations. */
 static uint64_t seen_by(struct story *s)
 {
-    return seen_of(&s->a) ^ seen_of(&s->b) << 1;
+    const long left_before = left, asked_before = asked;
+    left = -1;
+    const uint64_t sum = seen_of(&s->a) ^ seen_of(&s->b) << 1;
+    left = left_before, asked = asked_before;
+    return sum;
 }
 
 /* Repeats a call that ran out of memory, and expects this code. What is seen of the agents is then as before the call. */

@@ -26,7 +26,7 @@ static void part(struct story *s)
 {
     note(s, &s->a);
     note(s, &s->b);
-    s->sum ^= seen_of(&s->a) ^ seen_of(&s->b) << 1;
+    s->sum ^= seen_by(s);
     is_ice_agent_free(&s->a);
     is_ice_agent_free(&s->b);
 }
@@ -128,9 +128,9 @@ static void replace(struct story *s)
     CALL(s, IS_ICE_OK, is_ice_handle_packet(&s->b, UINT64_C(3001000000), IS_ICE_UDP, &host_a.address, &host_b.address, given.bytes, given.packet.length));
     take(s, &s->b, &given);
     CALL(s, IS_ICE_OK, is_ice_restart(&s->a, TEXT("DDDD"), TEXT("SSSS"), true));
-    const uint64_t before = seen_of(&s->a);
+    const uint64_t before = seen_by(s);
     CALL(s, IS_ICE_NOTHING, is_ice_handle_packet(&s->a, UINT64_C(3002000000), IS_ICE_UDP, &host_b.address, &host_a.address, given.bytes, given.packet.length));
-    if (seen_of(&s->a) != before) fail(__LINE__, "changed by a late response", 0);
+    if (seen_by(s) != before) fail(__LINE__, "changed by a late response", 0);
     CALL(s, IS_ICE_OK, is_ice_set_local_credentials(&s->a, TEXT("CCCC"), TEXT("RRRR")));
     s->listed += removed_pairs(&s->a) + removed_pairs(&s->b);
     part(s);

@@ -13,6 +13,10 @@ from lab.session import Session, Trace
 
 FAILS_S = 8
 NOTHING_FAILS = ("event=[]", "settle_s=60")
+# The settings of a new agent of the library with `Modern`; those of `path_dies` are the original's.
+MODERN = tuple(f"{side}.{what}" for side in "ab" for what in ("max_rto_ms=2900", "retransmits=11"))
+# The other path is the quicker one.
+QUICKER = ("link.home.delay_ms=60", "link.mobile.delay_ms=8")
 
 
 def play(seed: int, changes: tuple[str, ...], happens: Callable[[Session, float], None] | None = None) -> dict[str, list[float]]:
@@ -40,33 +44,56 @@ def outage(seconds: float) -> Callable[[Session, float], None]:
     return happens
 
 
-def sleep(session: Session, at: float) -> None:
-    """A's program does not run for 15 s. Packets arrive meanwhile. When it wakes up it makes the `handle_timeout` call that is due."""
-    endpoint: Any = session.endpoints["a"]
-    run: Callable[[int], None] = endpoint._timed_out
-    awake = True
+def sleep(side: str, seconds: float) -> Callable[[Session, float], None]:
+    """A side's program does not run for some time. Its timeouts and its packets wait; when it wakes up it handles the packets in their
+    order, and then makes the `handle_timeout` call that is due."""
+    def happens(session: Session, at: float) -> None:
+        endpoint: Any = session.endpoints[side]
+        timed_out, took = endpoint._timed_out, endpoint._take_datagram
+        waiting: list[tuple[Any, ...]] | None = None
 
-    def turn(is_awake: bool) -> None:
-        nonlocal awake
-        awake = is_awake
-        if is_awake:
-            endpoint._handle_timeout()
+        def received(*packet: Any) -> None:
+            if waiting is None:
+                took(*packet)
+            else:
+                waiting.append(packet)
 
-    endpoint._timed_out = lambda timeout: run(timeout) if awake else None
-    session.clock.at(BEGINNING + nanoseconds(at * 1000), turn, False)
-    session.clock.at(BEGINNING + nanoseconds((at + 15) * 1000), turn, True)
+        def turn(is_awake: bool) -> None:
+            nonlocal waiting
+            held, waiting = waiting, None if is_awake else []
+            if is_awake:
+                for packet in held or []:
+                    took(*packet)
+                endpoint._handle_timeout()
+
+        endpoint._timed_out = lambda timeout: timed_out(timeout) if waiting is None else None
+        endpoint._take_datagram = received
+        session.clock.at(BEGINNING + nanoseconds(at * 1000), turn, False)
+        session.clock.at(BEGINNING + nanoseconds((at + seconds) * 1000), turn, True)
+
+    return happens
 
 
 class Leaving(unittest.TestCase):
-    def test_a_path_that_dies_is_left_in_seconds(self) -> None:
+    def assert_left(self, changes: tuple[str, ...], do: str, most: float) -> None:
+        """The path of eth0 fails some time after 8 s, and both sides select the other one within this time, in seconds."""
         for seed in range(5):
-            for side, (after,) in play(seed, ()).items():
-                self.assertLess(after, 9, (seed, side))
+            at = Random(seed).uniform(0, 3)
+            event = f'event=[{{ at_s = {FAILS_S + at}, side = "a", do = "{do}", interface = "eth0" }}]'
+            for side, (after,) in play(seed, (event, *changes)).items():
+                self.assertLess(after - at, most, (seed, side))
+
+    def test_a_path_that_dies_is_left_in_4_s(self) -> None:
+        self.assert_left((), "silent", 4.5)
+        self.assert_left(MODERN, "silent", 4.3)
 
     def test_one_that_works_in_one_direction_too(self) -> None:
-        for seed in range(5):
-            for side, (after,) in play(seed, ('event=[{ at_s = 8, side = "a", do = "mute", interface = "eth0" }]',)).items():
-                self.assertLess(after, 9, (seed, side))
+        self.assert_left((), "mute", 5)
+        self.assert_left(MODERN, "mute", 5)
+
+    def test_under_loss_too(self) -> None:
+        """If most checks were lost before, the path is kept 2.2 s longer."""
+        self.assert_left((*MODERN, "link.home.loss=0.1", "link.mobile.loss=0.1"), "silent", 6.7)
 
     def test_with_the_original_it_is_kept(self) -> None:
         for side, (after,) in play(1, ('a.profile="original"', 'b.profile="original"')).items():
@@ -82,9 +109,15 @@ class Leaving(unittest.TestCase):
         for seed in range(5):
             self.assertEqual(play(seed, (*NOTHING_FAILS, "link.home.loss=0.1", "link.mobile.loss=0.1")), {"a": [], "b": []}, seed)
 
-    def test_nor_a_sleep_nor_a_late_caller(self) -> None:
+    def test_nor_a_sleep(self) -> None:
+        for side in "ab":
+            for seconds in (2, 15):
+                for changes in ((), QUICKER):
+                    with self.subTest(side=side, seconds=seconds, changes=changes):
+                        self.assertEqual(play(0, (*NOTHING_FAILS, *changes), sleep(side, seconds)), {"a": [], "b": []})
+
+    def test_nor_a_late_caller(self) -> None:
         for seed in range(3):
-            self.assertEqual(play(seed, NOTHING_FAILS, sleep), {"a": [], "b": []}, seed)
             self.assertEqual(play(seed, (*NOTHING_FAILS, "a.late_ms=1000", "b.late_ms=1000")), {"a": [], "b": []}, seed)
 
     def test_nor_do_round_trips_of_2_s(self) -> None:

@@ -193,13 +193,12 @@ class Early(unittest.TestCase):
         story.session()
 
     def test_a_nomination_without_response(self) -> None:
-        # A response would be late after 60 ms, but checks are at least 100 ms apart; after nine without a response half a second.
-        story, time = Story(settings=MODERN), 50
+        # A response would be late after 40 ms, but checks are at least 80 ms apart; 7.5 s after the check with a response half a second.
+        story = Story(settings=MODERN)
         story.exchange("a", 0)
-        for delay in (100,) * 8 + (500,):
+        for time, delay in (*((50 + 80 * n, 80) for n in range(12)), (7400, 80), (7500, 500)):
             story.passes("a", time, time + 50)
             self.assertEqual(story.agents["a"].pairs[0].due, at(time + delay))
-            time += delay
         story.session()
 
     def test_they_end_no_pair_sooner(self) -> None:

@@ -121,7 +121,7 @@ fn a_path_that_dies_gives_way_to_the_other_one() {
     world.connect();
     world.pass(Duration::from_secs(10));
     world.lost = Box::new(|source, _| source.is_ipv6());
-    world.pass(Duration::from_secs(60));
+    world.pass(ms(4_500));
     assert_eq!(world.sides[0].path(), Some((at(LEFT), at(RIGHT))));
     assert_eq!(world.sides[1].path(), Some((at(RIGHT), at(LEFT))));
     assert!(world.left().state().is_connected() && world.right().state().is_connected());

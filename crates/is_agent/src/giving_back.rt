@@ -1,36 +1,22 @@
 //! Memory that was needed once: the checklist keeps its capacity when pairs are removed. Before a `handle_timeout` call reserves capacity
-//! for a check, or if there is nothing to check, most of it is given back if it is not used, and so is that of a queue of packets that is
-//! empty. The queue of events keeps its own: room for the events of invalidated candidates is in it.
+//! for a check, or if there is nothing to check, most of it is given back if it is not used. The queues of packets and events keep theirs,
+//! which is small.
 
 ghost use Rattle.std.specs.Prelude.{◌≡◌};
 ghost use Rattle.is_agent.specs.View.{record_of};
 
 use crate::agent::Agent;
 use is_candidate::LocalPreference;
-use is_proto::{Sha1HmacProvider, Transmit};
-use std::collections::VecDeque;
-
-/// A queue with no more capacity is left as it is.
-const SMALL: usize = 4;
-
-/// Gives back the capacity of an empty queue.
-fn give_back_queue(packets: &mut VecDeque<Transmit>)
-    ensures { packets.new.items ≡ packets.old.items }
-{
-    if packets.capacity() > SMALL && packets.is_empty() {
-        packets.shrink_to_fit();
-    }
-}
+use is_proto::Sha1HmacProvider;
 
 impl<H: Sha1HmacProvider + Drop, P: LocalPreference> Agent<H, P> {
-    /// Gives back most of the capacity for pairs, if most of them are gone, and that for packets, if there are none. What was reserved may be
-    /// lost. It can't fail. It is a separate function, so that calls without a check do not pay for it.
+    /// Gives back most of the capacity for pairs, if most of them are gone. What was reserved may be lost. It can't fail. It is a separate
+    /// function, so that calls without a check do not pay for it.
     #[inline(never)]
     pub(crate) fn give_back(&mut self)
         ensures { record_of self.new ≡ record_of self.old }
     {
         self.pairs.give_back();
-        give_back_queue(&mut self.packets);
     }
 
     /// Does this if there is nothing to check.

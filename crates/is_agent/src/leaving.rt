@@ -1,6 +1,6 @@
 //! A selected path that falls silent is left for another one that works, with `Modern`; the rules: `is_rules::leaving`.
 
-ghost use Rattle.std.specs.Prelude.{◌≡◌, ℕ, List};
+ghost use Rattle.std.specs.Prelude.{◌≡◌, ℕ, List, is_some};
 ghost use Rattle.std.specs.List.{list_any};
 ghost use Rattle.std.specs.Option.{option_map_or};
 ghost use Rattle.is_agent.specs.View.{record_of, emitted_of};
@@ -14,7 +14,7 @@ use is_pair::checklist::{Expired, Removal};
 use is_pair::pair::{CandidatePair, Span};
 use is_pair::{is_wholly_silent, silence_of};
 use is_proto::{Instant, Sha1HmacProvider};
-use is_rules::leaving::MayReplace;
+use is_rules::leaving::{Hastens, MayReplace, is_silent_enough};
 use is_rules::nomination::{is_eligible, is_named_by, pair_selected};
 
 impl<H: Sha1HmacProvider + Drop, P: LocalPreference> Agent<H, P> {
@@ -44,6 +44,7 @@ impl<H: Sha1HmacProvider + Drop, P: LocalPreference> Agent<H, P> {
             || !is_named_by(self.selected_pair, pair)
             || !is_eligible(pair, self.controlling)
             || !is_wholly_silent(pair, &self.timing)
+            || !is_silent_enough(pair, &self.timing, now)
         {
             return false;
         }
@@ -55,8 +56,9 @@ impl<H: Sha1HmacProvider + Drop, P: LocalPreference> Agent<H, P> {
 
     /// The number of the selected pair, if it gives way.
     fn left_number(&self, now: Instant) -> Option<u64>
-        ensures { option_map_or (λ n. without (is_numbered n) (record_of self.now).pairs) result (record_of self.now).pairs
-            ≡ (path_left now.0 (record_of self.now)).pairs }
+        ensures without { option_map_or (λ n. without (is_numbered n) (record_of self.now).pairs) result (record_of self.now).pairs
+            ≡ without (gives_way now.0 (record_of self.now)) (record_of self.now).pairs }
+        ensures left { is_some result ≡ list_any (gives_way now.0 (record_of self.now)) (record_of self.now).pairs }
     {
         self.pairs.numbers_rise();
         let Some(pair) = pair_selected(self.selected_pair, &self.pairs) else {
@@ -68,15 +70,19 @@ impl<H: Sha1HmacProvider + Drop, P: LocalPreference> Agent<H, P> {
         Some(pair.id().0)
     }
 
-    /// Removes the selected pair, if it gives way.
+    /// Removes the selected pair, if it gives way. Then those that the agent may nominate are due next.
     pub(crate) fn leave_path(&mut self, now: Instant)
         ensures left { record_of self.new ≡ path_left now.0 (record_of self.old) }
         ensures emitted { emitted_of self.new ≡ emitted_of self.old }
         ensures events { UsesEvents 0 self.old self.new }
-        ensures checks { (t : ℕ) → HasCheckRoomAt t self.old → HasCheckRoomAt t self.new }
+        ensures checks { HasCheckRoomAt now.0 self.old → HasCheckRoomAt now.0 self.new }
     {
         if let Some(number) = self.left_number(now) {
             self.pairs.remove(number, Removal::ConsentLost);
+            self.pairs.change_all(&Hastens {
+                controlling: self.controlling,
+                now,
+            });
         }
     }
 }

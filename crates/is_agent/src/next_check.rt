@@ -4,15 +4,18 @@ ghost use Rattle.std.specs.Prelude.{◌≡◌, ℕ, ◌||◌, Option, Some, true
 ghost use Rattle.std.specs.Option.{option_copied};
 ghost use Rattle.is_pair.specs.Multiset.{has_number, pair_numbered, rises};
 ghost use Rattle.is_pair.specs.Pairs.{PairRecord};
-ghost use Rattle.is_rules.specs.Checking.{are_kinds_in_turn, has_first, precedence, is_ahead_turn, IsNextToCheck, next_kind_after};
+ghost use Rattle.is_rules.specs.Checking.{are_kinds_in_turn, has_first, precedence, is_ahead_turn, GoesAhead, IsNextToCheck, next_kind_after};
 ghost use Rattle.is_rules.specs.Kinds.{kind_of, IsNextAhead};
+ghost use Rattle.is_rules.specs.Leaving.{has_urgent, late_since, IsAskedAlong};
 ghost use Rattle.is_agent.specs.View.{record_of};
 
 use crate::agent::Agent;
 use is_candidate::LocalPreference;
-use is_pair::pair::CandidatePair;
+use is_pair::pair::{CandidatePair, Span};
+use is_pair::{due_time_of, silence_until};
 use is_proto::{Instant, Sha1HmacProvider};
 use is_rules::kinds::{Precedence, has_first_due, kind_of, next_ahead};
+use is_rules::leaving::{AskedAlong, asked_next};
 use is_rules::nomination::pair_selected;
 
 impl<H: Sha1HmacProvider + Drop, P: LocalPreference> Agent<H, P> {
@@ -77,6 +80,54 @@ impl<H: Sha1HmacProvider + Drop, P: LocalPreference> Agent<H, P> {
         )
     }
 
+    /// An urgent pair is due.
+    fn has_urgent(&self, now: Instant) -> bool
+        ensures { result ≡ has_urgent now.0 (record_of self.now) }
+    {
+        let urgent = Precedence {
+            selected: None,
+            urgent: true,
+        };
+        has_first_due(&self.pairs, urgent, now, &self.timing)
+    }
+
+    /// Since when the selected pair is silent, if the agent is connected, the pair is due once more, and no urgent one is.
+    fn late_since(&self, pair: &CandidatePair, now: Instant) -> Option<Span>
+        ensures { result ≡ late_since now.0 (record_of self.now) pair.now }
+    {
+        if self.state.is_connected()
+            && due_time_of(pair, now, &self.timing) <= now
+            && !self.has_urgent(now)
+        {
+            silence_until(pair, now)
+        } else {
+            None
+        }
+    }
+
+    /// The pair that is asked along with the selected one, which is silent.
+    fn asked_along(&self, now: Instant) -> Option<&CandidatePair>
+        ensures { IsAskedAlong now.0 (record_of self.now) (option_copied result) }
+    {
+        let pair = pair_selected(self.selected_pair, &self.pairs)?;
+        let silence = self.late_since(pair, now)?;
+        let along = AskedAlong {
+            number: pair.id().0,
+            silence,
+        };
+        asked_next(&self.pairs, &along, now, &self.timing)
+    }
+
+    /// The pair that goes ahead: the one that is asked along, if any.
+    fn ahead_or_along(&self, now: Instant) -> Option<&CandidatePair>
+        ensures { GoesAhead now.0 (record_of self.now) (option_copied result) }
+    {
+        match self.asked_along(now) {
+            Some(pair) => Some(pair),
+            None => self.next_ahead(now),
+        }
+    }
+
     /// The pair that is checked next: the one whose nomination is due, or else by whether the check goes ahead.
     fn next_to_check(&self, ahead: bool, now: Instant) -> Option<&CandidatePair>
         requires { ahead ≡ is_ahead_turn now.0 (record_of self.now) }
@@ -85,7 +136,7 @@ impl<H: Sha1HmacProvider + Drop, P: LocalPreference> Agent<H, P> {
         if self.nominates_at_once() {
             pair_selected(self.selected_pair, &self.pairs)
         } else if ahead {
-            self.next_ahead(now)
+            self.ahead_or_along(now)
         } else {
             self.pairs.next_due(now, &self.timing)
         }

@@ -13,25 +13,9 @@ use is_rules::event::IceAgentEvent;
 use std::alloc::AllocError;
 use std::collections::VecDeque;
 
-/// A queue of events with less capacity gets exactly what it needs: most agents have few candidates. A longer one grows as `reserve` lets
-/// it, so that it is not moved for each candidate.
-const SHORT_QUEUE: usize = 64;
-
-/// With fewer candidates a list is short, likewise.
-const SHORT_LIST: usize = 32;
-
-/// Reserves capacity for so many events more.
-fn reserve_places(events: &mut VecDeque<IceAgentEvent>, more: usize) -> Result<(), AllocError>
-    ensures items { events.new.items ≡ events.old.items }
-    ensures len { deque_len events.new ≡ deque_len events.old }
-    ensures capacity { deque_capacity events.old ≤ deque_capacity events.new }
-    ensures ok { OnOk result (deque_len events.new + more ≤ deque_capacity events.new) }
-{
-    if events.capacity() < SHORT_QUEUE {
-        return events.reserve_exact(more);
-    }
-    events.reserve(more)
-}
+/// A list with fewer candidates is short: it gets one place for each, since most agents have few. A longer one grows as `reserve` lets it, so
+/// that it is not moved for each candidate.
+const SHORT: usize = 32;
 
 /// Reserves capacity for one more candidate.
 pub(crate) fn reserve_candidate(list: &mut Vec<Candidate>) -> Result<(), AllocError>
@@ -40,7 +24,7 @@ pub(crate) fn reserve_candidate(list: &mut Vec<Candidate>) -> Result<(), AllocEr
     ensures ok { OnOk result (vec_len list.new < vec_capacity list.new) }
     ensures capacity { vec_capacity list.old ≤ vec_capacity list.new }
 {
-    if list.len() < SHORT_LIST {
+    if list.len() < SHORT {
         return list.reserve_exact(1);
     }
     list.reserve(1)
@@ -58,7 +42,7 @@ pub(crate) fn reserve_events(
     ensures ok { OnOk result (deque_len events.new + kept + more ≤ deque_capacity events.new) }
 {
     match kept.checked_add(more) {
-        Some(needed) => reserve_places(events, needed),
+        Some(needed) => events.reserve(needed),
         None => Err(AllocError),
     }
 }

@@ -1,4 +1,5 @@
 -- When pairs are due, and which pair is due first.
 pub mod FirstDuePair
+pub mod EarlyTime
 pub mod LaterAfterCheck
 pub mod CountOfDuePairs

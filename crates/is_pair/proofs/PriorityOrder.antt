@@ -2,6 +2,7 @@
 pub mod PairPriorities
 pub mod OrderedPairs
 pub mod GreatestPair
+pub mod VisitedGreatest
 pub mod LeastPair
 pub mod RecomputedPriorities
 pub mod RankedPairs

@@ -73,19 +73,29 @@ is_hushed p = is_valid p && is_nominated p && nat_lt 0 (unanswered_count p.check
 
 -- how much later than the one before a response may come
 abbrev pub LATENESS : ℕ
-LATENESS = 50 * MILLISECOND
+LATENESS = 30 * MILLISECOND
 
--- how often it is checked at most, once `max_retransmits` checks have no response
+-- how long it is checked quickly at least, from the time on at which the check after the last answered one was due at the latest
+abbrev pub HUSHED_TIME : ℕ
+HUSHED_TIME = 4500 * MILLISECOND
+
+-- how often at most
+abbrev pub SHORT_INTERVAL : ℕ
+SHORT_INTERVAL = 80 * MILLISECOND
+
+-- and after that
 abbrev pub HUSHED_INTERVAL : ℕ
 HUSHED_INTERVAL = 500 * MILLISECOND
 
--- and before
-abbrev pub hushed_interval : StunTiming → ℕ → ℕ
-hushed_interval t count = if nat_lt count t.max_retransmits then EARLY_INTERVAL else HUSHED_INTERVAL
+abbrev pub hushed_interval : ℕ → StunTiming → PairRecord → ℕ
+hushed_interval now t p =
+    if nat_lt (unanswered_count p.checks) t.max_retransmits || is_within (later t.max_rto.0 HUSHED_TIME) now p.consented
+    then SHORT_INTERVAL
+    else HUSHED_INTERVAL
 
 -- then the next check is sent once the response to the last one is late
-abbrev pub hushed_delay : StunTiming → PairRecord → ℕ
-hushed_delay t p = max (hushed_interval t (unanswered_count p.checks)) (later (unwrap_or (last_round_trip p.checks) 0) LATENESS)
+abbrev pub hushed_delay : ℕ → StunTiming → PairRecord → ℕ
+hushed_delay now t p = max (hushed_interval now t p) (later (unwrap_or (last_round_trip p.checks) 0) LATENESS)
 
 -- the delay after the last check: checks are repeated early, or after the RTO
 abbrev pub repeated_delay : ℕ → StunTiming → PairRecord → ℕ
@@ -93,7 +103,7 @@ repeated_delay now t p = if is_repeated_early now t p then early_delay (silent_c
 
 -- with the profile `Modern`
 abbrev pub modern_delay : ℕ → StunTiming → PairRecord → ℕ
-modern_delay now t p = if is_hushed p then min (hushed_delay t p) (repeated_delay now t p) else repeated_delay now t p
+modern_delay now t p = if is_hushed p then min (hushed_delay now t p) (repeated_delay now t p) else repeated_delay now t p
 
 -- the delay after the last check
 abbrev pub delay_of : ℕ → StunTiming → PairRecord → ℕ

@@ -9,3 +9,4 @@ pub mod EvictedTogether
 pub mod SlotsOfPairs
 pub mod DuePairsAfterNomination
 pub mod NextAhead
+pub mod NextAsked

@@ -1,5 +1,5 @@
 -- Which pair is checked next, and its check (RFC 8445, sections 6.1.4.2 and 7.2.4).
-use Rattle.std.specs.Prelude.{◌≡◌, ℕ, ◌+◌, ◌&&◌, ◌||◌, Bool, false, not, List, ◌∷◌, ◌++◌, map, Option, Some, None, MatchBool, ◌==◌, if◌then◌else◌}
+use Rattle.std.specs.Prelude.{◌≡◌, ℕ, ◌+◌, ◌&&◌, ◌||◌, Bool, false, not, List, ◌∷◌, ◌++◌, map, Option, Some, None, MatchBool, MatchOption, ◌==◌, if◌then◌else◌}
 use Rattle.std.specs.List.{list_any}
 use Rattle.std.specs.Option.{option_map_or}
 use Rattle.rand_core.specs.Stream.{Stream, fill_bytes}
@@ -22,6 +22,7 @@ use Rattle.is_pair.specs.Multiset.{change_pair}
 use Rattle.is_rules.specs.Agent.{AgentRecord}
 use Rattle.is_rules.specs.Connecting.{is_connected}
 use Rattle.is_rules.specs.Kinds.{is_first_due, kind_of, IsNextAhead}
+use Rattle.is_rules.specs.Leaving.{IsAskedAlong}
 use Rattle.is_rules.specs.Nominating.{nominates_at_once, nomination_of, pair_selected, stays_nominated}
 use Rattle.is_rules.specs.Sending.{with_packet, path_of}
 
@@ -62,12 +63,15 @@ module _ {H P : Type 0} where
   abbrev pub is_ahead_turn : ℕ → AgentRecord H P → Bool
   is_ahead_turn now a = is_modern a.timing && a.ahead_turn && (are_kinds_in_turn a || has_first now a)
 
+  -- The pair whose check goes ahead: the one that is asked along, if any.
+  abbrev pub GoesAhead : ℕ → AgentRecord H P → Option PairRecord → Type 0
+  GoesAhead now a next =
+      (along : Option PairRecord) × IsAskedAlong now a along
+      × MatchOption along (IsNextAhead a.local a.remote (precedence a) a.next_kind now a.timing a.pairs next) (λ p. next ≡ Some p)
+
   -- The pair that is checked next, if no nomination is due: the one that is due first, unless the check goes ahead.
   abbrev pub IsNextInTurn : ℕ → AgentRecord H P → Option PairRecord → Type 0
-  IsNextInTurn now a next =
-      MatchBool (is_ahead_turn now a)
-      (IsNextAhead a.local a.remote (precedence a) a.next_kind now a.timing a.pairs next)
-      (IsNextDue now a.timing a.pairs next)
+  IsNextInTurn now a next = MatchBool (is_ahead_turn now a) (GoesAhead now a next) (IsNextDue now a.timing a.pairs next)
 
   -- A selected path whose nomination is still to be sent is checked at once, before all others.
   abbrev pub IsNextToCheck : ℕ → AgentRecord H P → Option PairRecord → Type 0

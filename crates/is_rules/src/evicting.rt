@@ -124,6 +124,9 @@ fn evict_of_most(pairs: &mut Checklist, limit: usize, local: &[Candidate], remot
     }
     let kinds = KindTable::new(local);
     evict_many(pairs, limit, &kinds, remote);
+    if pairs.len() <= limit {
+        return;
+    }
     let mut counts = kind_counts(pairs, &kinds, remote);
     while pairs.len() > limit {
         if !evict_one(pairs, &mut counts, &kinds, remote) {

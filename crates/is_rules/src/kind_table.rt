@@ -67,6 +67,7 @@ impl<'a> KindTable<'a> {
     }
 
     /// The part of the candidate at this place.
+    #[inline(always)]
     fn side_at(&self, place: usize) -> u8
         requires { place < length self.now.local.now }
         ensures { result ≡ side_of self.now.local.now (candidate_at self.now.local.now place) }
@@ -81,6 +82,7 @@ impl<'a> KindTable<'a> {
     }
 
     /// The places of the pair are in the lists.
+    #[inline(always)]
     pub(crate) fn has(&self, remote: &[Candidate], pair: &CandidatePair) -> bool
         ensures { result ≡ is_placed self.now.local.now remote.now pair.now }
     {
@@ -88,6 +90,7 @@ impl<'a> KindTable<'a> {
     }
 
     /// The kind of a pair, a number from 0 to 15.
+    #[inline(always)]
     pub(crate) fn kind_of(&self, remote: &[Candidate], pair: &CandidatePair) -> u8
         requires placed { is_placed self.now.local.now remote.now pair.now ≡ true }
         ensures kind { result ≡ kind_of self.now.local.now remote.now pair.now }

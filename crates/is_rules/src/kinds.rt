@@ -29,6 +29,7 @@ use std::net::SocketAddr;
 
 /// The kind that a candidate counts as. A host candidate with a public address counts as server-reflexive: a STUN server would answer with
 /// this address, and the server-reflexive candidate would be redundant (RFC 8445, section 5.1.3).
+#[inline(always)]
 fn counted_kind(candidate: &Candidate) -> CandidateKind
     ensures { result ≡ counted_kind candidate.now }
 {
@@ -90,6 +91,7 @@ fn is_outer(local: &[Candidate], candidate: &Candidate) -> bool
 
 /// The place of the kind that a remote candidate counts as in a round. Peer-reflexive candidates come first, since the peer sent a packet from
 /// there. Host candidates come last, since they have the greatest priorities.
+#[inline(always)]
 fn kind_rank(kind: CandidateKind) -> u8
     ensures rank { result ≡ kind_rank kind }
     ensures within { result < 4 }
@@ -103,6 +105,7 @@ fn kind_rank(kind: CandidateKind) -> u8
 }
 
 /// IPv6 comes first (RFC 8421, section 4).
+#[inline(always)]
 fn version_rank(address: SocketAddr) -> u8
     ensures rank { result ≡ version_rank address }
     ensures within { result < 2 }
@@ -119,6 +122,7 @@ pub(crate) fn side_of(local: &[Candidate], ours: &Candidate) -> u8
 }
 
 /// The remote candidate's part of a kind: the kind that it counts as, and the IP version.
+#[inline(always)]
 pub(crate) fn remote_rank(theirs: &Candidate) -> u8
     ensures rank { result ≡ remote_rank theirs.now }
     ensures within { result < 8 }

@@ -1,10 +1,19 @@
-//! Leaving a selected path that falls silent, with the profile `Modern`: its pair gives way once another one, which may be selected, had a
-//! response meanwhile; the agent's part: `is_agent::leaving`.
+//! Leaving a selected path that falls silent, with the profile `Modern`: other valid pairs are asked along, and its pair gives way once one
+//! of them, which may be selected, had a response meanwhile; the agent's part: `is_agent::leaving`.
+
+ghost use Rattle.std.specs.Prelude.{◌≡◌, ◌∷◌, List};
+ghost use Rattle.std.specs.Option.{option_copied};
+ghost use Rattle.is_pair.specs.Checklists.{multiset_of};
+ghost use Rattle.is_pair.specs.Pairs.{PairRecord};
+ghost use Rattle.is_rules.specs.Leaving.{is_lossy, is_silent_enough, IsAskedNext};
 
 use crate::nomination::is_eligible;
-use is_pair::checklist::{Expired, PairTest};
-use is_pair::outlives;
-use is_pair::pair::{CandidatePair, Span};
+use crate::timeout::awaits_nomination;
+use is_pair::checklist::{Checklist, Expired, PairChange, PairTest, goes_before};
+use is_pair::pair::{CandidatePair, CheckState, Span};
+use is_pair::{is_long_silent, move_next, outlives};
+use is_proto::{Duration, Instant};
+use is_stun::stun::StunTiming;
 
 /// A test for the pairs that may replace a silent one: they may be selected, did not expire, and had a response meanwhile.
 #[derive(Clone, Copy)]
@@ -34,5 +43,109 @@ impl PairTest for MayReplace<'_> {
             && is_eligible(pair, self.controlling)
             && !self.expired.passes(pair)
             && outlives(pair, self.silence)
+    }
+}
+
+/// How much longer a pair is kept of which most checks were lost before: then the checks of another second are rarely lost, too.
+const LOSSY_TIME: Duration = Duration(2_200_000_000);
+
+/// Whether fewer of its checks before the last `max_retransmits` had a response than had none.
+fn is_lossy(pair: &CandidatePair, timing: &StunTiming) -> bool
+    ensures { result ≡ is_lossy timing.now pair.now }
+{
+    let answers = pair.responses_received();
+    let before = pair
+        .checks_sent()
+        .saturating_sub(timing.max_retransmits() as u64);
+    answers < before.saturating_sub(answers)
+}
+
+/// Whether the pair was silent for long, for longer if it is lossy.
+pub fn is_silent_enough(pair: &CandidatePair, timing: &StunTiming, now: Instant) -> bool
+    ensures { result ≡ is_silent_enough now.0 timing.now pair.now }
+{
+    let by = if is_lossy(pair, timing) {
+        Instant(now.0.saturating_sub(LOSSY_TIME.0))
+    } else {
+        now
+    };
+    is_long_silent(pair, timing, by)
+}
+
+/// A test for the pairs that are asked along while one is silent: they are valid, and had no response meanwhile.
+#[derive(Clone, Copy)]
+pub struct AskedAlong {
+    /// The number of the silent pair.
+    pub number: u64,
+    /// Since when the pair is silent.
+    pub silence: Span,
+}
+
+impl PairTest for AskedAlong {
+    ghost use Rattle.is_rules.specs.Leaving.{is_asked_along};
+
+    ghost passes = { λ t p. is_asked_along t.number t.silence p };
+
+    fn passes(&self, pair: &CandidatePair) -> bool {
+        pair.id().0 != self.number
+            && pair.state() == CheckState::Succeeded
+            && !outlives(pair, self.silence)
+    }
+}
+
+/// Returns the first so far, or one more pair if it is asked along and due before.
+fn earlier<'a>(
+    first: Option<&'a CandidatePair>,
+    pair: &'a CandidatePair,
+    along: &AskedAlong,
+    now: Instant,
+    timing: &StunTiming,
+) -> Option<&'a CandidatePair>
+    ensures { (done : List PairRecord) → IsAskedNext along.now.number along.now.silence now.0 timing.now done (option_copied first.entry)
+        → IsAskedNext along.now.number along.now.silence now.0 timing.now (pair.now ∷ done) (option_copied result) }
+{
+    if !along.passes(pair) {
+        return first;
+    }
+    match first {
+        Some(first) if goes_before(first, pair, now, timing) => Some(first),
+        _ => Some(pair),
+    }
+}
+
+/// Returns the pair that is asked along next: of those with no response meanwhile the one that is due first.
+pub fn asked_next<'a>(
+    pairs: &'a Checklist,
+    along: &AskedAlong,
+    now: Instant,
+    timing: &StunTiming,
+) -> Option<&'a CandidatePair>
+    ensures { IsAskedNext along.now.number along.now.silence now.0 timing.now (multiset_of pairs.now) (option_copied result) }
+{
+    let mut first = None;
+    for pair in pairs.as_slice() {
+        first = earlier(first, pair, along, now, timing);
+    }
+    first
+}
+
+/// Makes a pair due a nanosecond from now, if the agent may nominate it: next, after all pairs that are due now.
+#[derive(Clone, Copy)]
+pub struct Hastens {
+    /// The agent is controlling.
+    pub controlling: bool,
+    /// The time.
+    pub now: Instant,
+}
+
+impl PairChange for Hastens {
+    ghost use Rattle.is_rules.specs.Leaving.{hastened};
+
+    ghost makes = { λ t p. hastened t.controlling t.now.0 p };
+
+    fn change(&self, pair: &mut CandidatePair) {
+        if awaits_nomination(pair, self.controlling) {
+            move_next(pair, self.now);
+        }
     }
 }

@@ -24,7 +24,7 @@ use std::alloc::Global;
 use std::net::SocketAddr;
 
 /// With fewer combinations there are no slots.
-const FEW: usize = 32;
+const FEW: usize = 8;
 
 /// So many slots for each pair and combination: few paths share one.
 const SPARE: usize = 4;

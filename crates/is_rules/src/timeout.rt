@@ -32,7 +32,7 @@ impl PairTest for FallsDue<'_> {
 }
 
 /// The agent may nominate the pair itself.
-fn awaits_nomination(pair: &CandidatePair, controlling: bool) -> bool
+pub(crate) fn awaits_nomination(pair: &CandidatePair, controlling: bool) -> bool
     ensures { result ≡ awaits_nomination controlling pair.now }
 {
     controlling && pair.state() == CheckState::Succeeded && !pair.is_nominated()

@@ -3,5 +3,6 @@ pub mod ChecksOfOtherPairs
 pub mod ChangedPairs
 pub mod BetweenTimeouts
 pub mod AddedCandidates
+pub mod LeavingPaths
 pub mod OneCheckFewer
 pub mod FirstTimeout

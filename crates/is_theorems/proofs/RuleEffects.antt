@@ -5,6 +5,8 @@ pub mod SelectedPaths
 pub mod NominatedPairs
 pub mod ChangedPairs
 pub mod TriggeredPairs
+pub mod HastenedPairs
+pub mod UnhastenedPairs
 pub mod PathsThatAreLeft
 pub mod Reselection
 pub mod NotedErrors

@@ -38,8 +38,8 @@ const ELSEWHERE: At = At(3, 3000);
 
 // ---- when consent ends
 
-/// The second check, at 50 ms, is the last one with a response. The peer's requests still arrive. Nine checks follow, 100 ms after one
-/// another, and then more each half second.
+/// The second check, at 50 ms, is the last one with a response. The peer's requests still arrive. Nine checks follow, and more; the next one is
+/// due 80 ms after each.
 const CUT_MODERN: [Step; 29] = [
     Does(Check(0)),
     Takes(Answer(10, THERE)),
@@ -48,9 +48,9 @@ const CUT_MODERN: [Step; 29] = [
     Emits(Events("RcNCD")),
     Shows(NextAt(550)),
     Does(Check(550)),
-    Shows(NextAt(650)),
+    Shows(NextAt(630)),
     Does(Check(650)),
-    Shows(NextAt(750)),
+    Shows(NextAt(730)),
     Does(Check(750)),
     Does(Check(850)),
     Does(Check(950)),
@@ -58,7 +58,7 @@ const CUT_MODERN: [Step; 29] = [
     Does(Check(1150)),
     Does(Check(1250)),
     Does(Check(1350)),
-    Shows(NextAt(1850)),
+    Shows(NextAt(1430)),
     Does(Check(1850)),
     Write(Message::Request(false, false), "nearpass"),
     Takes(Served(2000, THERE)),
@@ -107,9 +107,10 @@ const ENDS: [Story; 10] = [
     Story(
         "a_strict_consent_ends_5_s_after_the_second_check",
         &[
-            Shows(NextAt(5050)),
-            Does(Timeout(5049)),
+            Shows(NextAt(4930)),
+            Does(Check(5049)),
             Holds(HasPair(PEER, true)),
+            Shows(NextAt(5099)),
             Does(Timeout(5050)),
             Emits(NoPacket),
             Holds(HasPair(PEER, false)),
@@ -129,11 +130,11 @@ const ENDS: [Story; 10] = [
     Story(
         "the_request_at_2_s_keeps_it_for_15_s",
         &[
-            Shows(NextAt(5350)),
+            Shows(NextAt(4930)),
             Does(Check(5350)),
-            Shows(NextAt(5850)),
+            Shows(NextAt(5430)),
             Does(Check(16_600)),
-            // 100 ms before the next check
+            // the quick checks are over; 100 ms before the next check
             Shows(NextAt(17000)),
             Does(Timeout(16900)),
             Emits(NoPacket),
@@ -198,15 +199,16 @@ const TWO: [Story; 1] = [Story(
         Takes(Answer(100_360, ELSEWHERE)),
         Shows(NextAt(100_550)),
         Does(CheckTo(100_550, THERE, true)),
-        Shows(NextAt(100_650)),
-        Does(CheckTo(100_650, THERE, true)),
-        Does(CheckTo(100_750, THERE, true)),
+        Shows(NextAt(100_630)),
+        Does(CheckTo(100_630, THERE, true)),
+        Does(CheckTo(100_710, ELSEWHERE, false)),
+        Takes(Answer(100_720, ELSEWHERE)),
+        Does(CheckTo(100_760, THERE, true)),
         Write(Message::Request(false, false), "nearpass"),
         Takes(Served(100_800, THERE)),
-        Does(CheckTo(100_850, THERE, true)),
-        Does(CheckTo(100_900, ELSEWHERE, false)),
-        Takes(Answer(100_910, ELSEWHERE)),
-        Does(CheckTo(100_950, THERE, true)),
+        Does(CheckTo(100_840, THERE, true)),
+        Does(CheckTo(100_920, THERE, true)),
+        Does(CheckTo(101_000, THERE, true)),
         Emits(Selected(None)),
         Shows(ValidPath(Some((At(1, 1000), THERE)))),
         Shows(NextAt(101_050)),
@@ -315,7 +317,7 @@ const SESSION: [Step; 43] = [
     Takes(Answer(6560, THERE)),
     Shows(NextAt(9550)),
     Does(Check(9550)),
-    Shows(NextAt(9650)),
+    Shows(NextAt(9630)),
     Does(Check(9650)),
     Does(Check(9750)),
     Does(Check(9850)),
@@ -324,9 +326,9 @@ const SESSION: [Step; 43] = [
     Does(Check(10_150)),
     Does(Check(10_250)),
     Does(Check(10_350)),
-    Shows(NextAt(10_850)),
+    Shows(NextAt(10_430)),
     Does(Check(10_850)),
-    Shows(NextAt(11_350)),
+    Shows(NextAt(10_930)),
     Does(Check(30_600)),
     Holds(HasPair(PEER, true)),
     Shows(Connected),

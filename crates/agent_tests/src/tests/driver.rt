@@ -144,6 +144,7 @@ impl Player {
             Setting::Pacing(ms) => agent.set_timing_advance(Duration::from_millis(ms)),
             Setting::OneCheck => agent.set_max_stun_retransmits(1),
             Setting::TwoChecks => agent.set_max_stun_retransmits(2),
+            Setting::ElevenChecks => agent.set_max_stun_retransmits(11),
             Setting::Renomination(renominates) => agent.set_renomination(renominates),
             Setting::Profile(profile) => agent.set_profile(profile),
             Setting::Consent(ms, strict) => agent.set_consent(ConsentSetting {

@@ -42,68 +42,93 @@ const BOTH: [Step; 12] = [
     Takes(Answer(100_360, ELSEWHERE)),
 ];
 
-/// The selected path dies. Its checks come each 100 ms, and one of the other path between them.
-const SILENT: [Step; 12] = [
+/// All paths are silent. The checks of the selected one come 80 ms after one another, and in between the other one is asked along.
+const SILENT: [Step; 20] = [
     Shows(NextAt(100_550)),
     Does(CheckTo(100_550, THERE, true)),
-    Shows(NextAt(100_650)),
-    Does(CheckTo(100_650, THERE, true)),
-    Does(CheckTo(100_750, THERE, true)),
-    Does(CheckTo(100_850, THERE, true)),
-    Does(CheckTo(100_900, ELSEWHERE, false)),
-    Does(CheckTo(100_950, THERE, true)),
-    Does(CheckTo(101_050, THERE, true)),
+    Shows(NextAt(100_630)),
+    Does(CheckTo(100_630, THERE, true)),
+    Does(CheckTo(100_710, ELSEWHERE, false)),
+    Does(CheckTo(100_760, THERE, true)),
+    Does(CheckTo(100_840, ELSEWHERE, false)),
+    Does(CheckTo(100_890, THERE, true)),
+    Does(CheckTo(100_970, ELSEWHERE, false)),
+    Does(CheckTo(101_020, THERE, true)),
+    Does(CheckTo(101_100, ELSEWHERE, false)),
     Does(CheckTo(101_150, THERE, true)),
-    Does(CheckTo(101_250, THERE, true)),
+    Does(CheckTo(101_230, ELSEWHERE, false)),
+    Does(CheckTo(101_280, THERE, true)),
+    Does(CheckTo(101_360, ELSEWHERE, false)),
+    Does(CheckTo(101_410, THERE, true)),
+    Does(CheckTo(101_490, ELSEWHERE, false)),
+    Does(CheckTo(101_540, THERE, true)),
+    Emits(Selected(None)),
+    Holds(HasPair(PEER, true)),
+];
+
+/// The selected path dies. The other one is asked along, and once more when its response is older than the last four checks.
+const DIES: [Step; 15] = [
+    Shows(NextAt(100_550)),
+    Does(CheckTo(100_550, THERE, true)),
+    Shows(NextAt(100_630)),
+    Does(CheckTo(100_630, THERE, true)),
+    Does(CheckTo(100_710, ELSEWHERE, false)),
+    Takes(Answer(100_720, ELSEWHERE)),
+    Does(CheckTo(100_760, THERE, true)),
+    Does(CheckTo(100_840, THERE, true)),
+    Does(CheckTo(100_920, THERE, true)),
+    Does(CheckTo(101_000, THERE, true)),
+    Does(CheckTo(101_080, THERE, true)),
+    Does(CheckTo(101_160, ELSEWHERE, false)),
+    Takes(Answer(101_170, ELSEWHERE)),
+    Does(CheckTo(101_210, THERE, true)),
     Emits(Selected(None)),
 ];
 
 const LEFT: [Story; 4] = [
     Story(
         "two_paths_work",
-        &[Begin(Unpaired), Set(Setting::Profile(Profile::Modern))],
-    ),
-    Story("one_is_selected", &BOTH),
-    Story(
-        "and_dies",
         &[
-            Shows(NextAt(100_550)),
-            Does(CheckTo(100_550, THERE, true)),
-            Shows(NextAt(100_650)),
-            Does(CheckTo(100_650, THERE, true)),
-            Does(CheckTo(100_750, THERE, true)),
-            Does(CheckTo(100_850, THERE, true)),
-            Does(CheckTo(100_900, ELSEWHERE, false)),
-            Takes(Answer(100_910, ELSEWHERE)),
-            Does(CheckTo(100_950, THERE, true)),
-            Does(CheckTo(101_050, THERE, true)),
-            Does(CheckTo(101_150, THERE, true)),
-            Does(CheckTo(101_250, THERE, true)),
-            Emits(Selected(None)),
+            Begin(Unpaired),
+            Set(Setting::Profile(Profile::Modern)),
+            Set(Setting::MaxRto(500)),
+            Set(Setting::ElevenChecks),
         ],
     ),
-    // the ninth check is the fourth after the one that had a response
+    Story("one_is_selected", &BOTH),
+    Story("and_dies", &DIES),
+    // once 1.1 s and the longest RTO have passed since the last check with a response, at 50 ms, the other path is selected; it is nominated
+    // in the next call, which is due at once
     Story(
-        "nine_checks_have_no_response",
+        "eleven_checks_have_no_response",
         &[
-            Does(CheckTo(101_350, THERE, true)),
+            Does(CheckTo(101_290, THERE, true)),
+            Does(CheckTo(101_370, THERE, true)),
+            Does(CheckTo(101_450, THERE, true)),
+            Does(CheckTo(101_530, THERE, true)),
+            Does(CheckTo(101_610, ELSEWHERE, false)),
+            Takes(Answer(101_620, ELSEWHERE)),
+            Emits(Selected(None)),
             Holds(HasPair(PEER, true)),
-            Shows(NextAt(101_850)),
-            Does(Timeout(101_850)),
+            Shows(NextAt(101_660)),
+            Does(Timeout(101_660)),
             Emits(NoPacket),
             Emits(Selected(Some(ELSEWHERE))),
             Holds(HasPair(PEER, false)),
+            Does(CheckTo(101_661, ELSEWHERE, true)),
             Shows(Connected),
-            Shows(NextAt(101_900)),
-            Does(CheckTo(101_900, ELSEWHERE, true)),
         ],
     ),
 ];
 
-const KEPT: [Story; 8] = [
+const KEPT: [Story; 12] = [
     Story(
         "two_paths_work_again",
-        &[Begin(Unpaired), Set(Setting::Profile(Profile::Modern))],
+        &[
+            Begin(Unpaired),
+            Set(Setting::Profile(Profile::Modern)),
+            Set(Setting::MaxRto(500)),
+        ],
     ),
     Story("one_is_selected_again", &BOTH),
     Story("all_paths_are_silent", &SILENT),
@@ -111,16 +136,38 @@ const KEPT: [Story; 8] = [
     Story(
         "the_other_path_has_the_first_response",
         &[
-            Does(CheckTo(101_350, THERE, true)),
-            Shows(NextAt(101_850)),
-            Does(CheckTo(101_850, THERE, true)),
-            Shows(NextAt(101_900)),
-            Does(CheckTo(101_900, ELSEWHERE, false)),
-            Takes(Answer(101_910, ELSEWHERE)),
-            Shows(NextAt(102_350)),
-            Does(CheckTo(102_350, THERE, true)),
-            Takes(Answer(102_360, THERE)),
+            Does(CheckTo(101_620, ELSEWHERE, false)),
+            Takes(Answer(101_630, ELSEWHERE)),
+            Shows(NextAt(101_670)),
+            Does(CheckTo(101_670, THERE, true)),
+            Does(CheckTo(101_750, THERE, true)),
+            Takes(Answer(101_760, THERE)),
             Does(Timeout(103_000)),
+            Emits(Selected(None)),
+            Holds(HasPair(PEER, true)),
+        ],
+    ),
+    // with nine checks, three before the last nine had no response, and two had one: so 1.1 s and the longest RTO are not enough
+    Story(
+        "most_checks_before_had_no_response",
+        &[
+            Begin(Unpaired),
+            Set(Setting::Profile(Profile::Modern)),
+            Set(Setting::MaxRto(500)),
+        ],
+    ),
+    Story("though_two_had_one", &BOTH),
+    Story("it_dies_again", &DIES),
+    Story(
+        "and_is_kept_for_longer",
+        &[
+            Does(CheckTo(101_290, THERE, true)),
+            Does(CheckTo(101_370, THERE, true)),
+            Does(CheckTo(101_450, THERE, true)),
+            Does(CheckTo(101_530, THERE, true)),
+            Does(CheckTo(101_610, ELSEWHERE, false)),
+            Takes(Answer(101_620, ELSEWHERE)),
+            Does(CheckTo(101_660, THERE, true)),
             Emits(Selected(None)),
             Holds(HasPair(PEER, true)),
         ],

@@ -89,6 +89,8 @@ pub(super) enum Setting {
     OneCheck,
     /// A pair is checked twice at most without a response.
     TwoChecks,
+    /// Eleven times.
+    ElevenChecks,
     /// Each nomination replaces the ones before, or not.
     Renomination(bool),
     /// Which behavior it has.

@@ -1,19 +1,24 @@
--- Pairs that become due at a time: removing pairs and fixing due times add none.
-use Rattle.std.proofs.Common.{if◌then◌else◌, ◌≡◌, ℕ, ◌&&◌, ◌||◌, Bool, true, false, not, List, [], ◌∷◌, map, Option, Some, None, is_some, option_map, MatchBool, subst, sym, refl}
+-- Pairs that become due at a time: removing pairs, hastening others then, and fixing due times add none.
+use Rattle.std.proofs.Common.{if◌then◌else◌, ◌≡◌, ℕ, ◌+◌, ◌&&◌, ◌||◌, Bool, true, false, not, nat_le, min, List, [], ◌∷◌, map, Option, Some, None, is_some, unwrap_or, option_map, MatchBool, subst, sym, refl, arith}
+use Rattle.std.specs.Prelude.{MatchOption}
 use Rattle.std.specs.List.{list_any}
 use Rattle.std.proofs.lemmas.Bool.{eq-eqb}
+use Rattle.std.proofs.lemmas.Bool.Decides.{nat_tests}
 use Rattle.is_proto.specs.Lists.{Has}
 use Rattle.is_stun.specs.declared.timing.StunTiming.{StunTiming}
+use Rattle.is_pair.specs.declared.pair.silence.Span.{Span}
 use Rattle.is_pair.specs.Pairs.{PairRecord}
-use Rattle.is_pair.specs.Due.{asked, is_due, IsNextDue}
+use Rattle.is_pair.specs.Due.{asked, is_due, moved_up, IsNextDue}
+use Rattle.is_pair.specs.Silence.{silence_until}
 use Rattle.is_pair.specs.Multiset.{without, has_number, is_numbered, pair_numbered, rises}
 use Rattle.rand_core.specs.Stream.{Stream}
 use Rattle.is_rules.specs.declared.credentials.IceCreds.{IceCreds}
 use Rattle.is_rules.specs.declared.emitted.Issued.{Issued}
 use Rattle.is_rules.specs.Agent.{AgentRecord}
-use Rattle.is_rules.specs.Checking.{all_asked, all_heard, is_ahead_turn, precedence, IsNextInTurn, IsNextToCheck, ChecksNext, MayCheck}
+use Rattle.is_rules.specs.Checking.{all_asked, all_heard, is_ahead_turn, GoesAhead, IsNextInTurn, IsNextToCheck, ChecksNext, MayCheck}
+use Rattle.is_rules.specs.Connecting.{is_connected}
 use Rattle.is_rules.specs.Due.{awaits_nomination, falls_due, may_nominate}
-use Rattle.is_rules.specs.Kinds.{IsNextAhead}
+use Rattle.is_rules.specs.Leaving.{has_urgent, hastened, late_since, IsAskedAlong, IsAskedNext}
 use Rattle.is_rules.specs.Nominating.{nominates_at_once, numbers, pair_selected}
 use Rattle.is_rules.proofs.PairLists.PairsByNumber.{numbered-found}
 use Rattle.is_agent.proofs.AgentParts.PairsByNumber.{find-Some, has-any}
@@ -48,6 +53,26 @@ pub or-both : (a b c d : Bool) → (a ≡ true → c ≡ true) → (b ≡ true �
 or-both true b c d one other h = rw (one refl) refl
 or-both false b c d one other h = or-right c d (other h)
 
+-- A pair that is hastened at a time falls due at that time only if it did before.
+pub falls-hastened : (controlling : Bool) (now : ℕ) (t : StunTiming) (ps : List PairRecord)
+    → list_any (falls_due controlling now t) (map (hastened controlling now) ps) ≡ true → list_any (falls_due controlling now t) ps ≡ true
+falls-hastened controlling now t [] none = none
+falls-hastened controlling now t (p ∷ ps) h =
+    or-both (falls_due controlling now t (hastened controlling now p)) (list_any (falls_due controlling now t) (map (hastened controlling now) ps))
+    (falls_due controlling now t p) (list_any (falls_due controlling now t) ps) (by (awaits_nomination controlling p) refl) (falls-hastened controlling now t ps) h where
+      later-still : (d : ℕ) → nat_le (min (now + 1) d) now ≡ nat_le d now
+      later-still d = grind (arith, nat_tests)
+
+      -- a pair whose due time is not fixed falls due since it awaits its nomination
+      either : (due : Option ℕ) (x y : ℕ) (a b : Bool) → b ≡ true → nat_le (unwrap_or (option_map (min (now + 1)) due) x) now || (not (is_some (option_map (min (now + 1)) due)) && a) ≡ true
+          → nat_le (unwrap_or due y) now || (not (is_some due) && b) ≡ true
+      either None x y a b awaits falls = or-right (nat_le y now) b awaits
+      either (Some d) x y a b awaits falls = subst (λ due. due || false ≡ true) (later-still d) falls
+
+      by : (b : Bool) → awaits_nomination controlling p ≡ b → falls_due controlling now t (if b then moved_up (now + 1) p else p) ≡ true → falls_due controlling now t p ≡ true
+      by true awaits falls = either p.due _ _ _ (awaits_nomination controlling p) awaits falls
+      by false awaits falls = falls
+
 -- a nomination that is due at once may be due
 pub nominates-may : {H P : Type 0} (a : AgentRecord H P) → nominates_at_once a ≡ true → may_nominate a ≡ true
 nominates-may a h = by a.controlling (not a.lite) (numbers a) h where
@@ -71,36 +96,65 @@ and-third false b c d weaker h = h
 pub all-three : (a b c : Bool) → a ≡ true → b ≡ true → c ≡ true → a && b && c ≡ true
 all-three a b c x y z = rw (x, y) z
 
--- the pair that is checked in its turn is in the list and due, also if the check goes ahead
-turn-is-due : {H P : Type 0} (a : AgentRecord H P) (now : ℕ) (p : PairRecord) → IsNextInTurn now a (Some p) → Has a.pairs p × (is_due now a.timing p ≡ true)
-turn-is-due a now p is =
-    elim (is_ahead_turn now a) as (λ b. MatchBool b (IsNextAhead a.local a.remote (precedence a) a.next_kind now a.timing a.pairs (Some p)) (IsNextDue now a.timing a.pairs (Some p))
-    → Has a.pairs p × (is_due now a.timing p ≡ true)) [
-      | true ↦ λ ahead. (ahead.0, ahead.1)
-      | false ↦ λ first. (first.0.0, first.1)
-    ] is
-
 -- the pair with the selected number is in the list
 pub selected-has : (number : Option ℕ) (ps : List PairRecord) (p : PairRecord) → Some p ≡ pair_selected number ps → Has ps p
 selected-has None ps p is = absurd (cc)
 selected-has (Some n) ps p is = (find-Some (is_numbered n) ps p (sym is)).0
+
+module _ {H P : Type 0} (a : AgentRecord H P) (now : ℕ) (p : PairRecord) where
+  -- the pair is in the list, and there is one that is due
+  abbrev IsThere : Type 0
+  IsThere = Has a.pairs p × (list_any (is_due now a.timing) a.pairs ≡ true)
+
+  since-due : (a b c : Bool) (o : Option Span) (silence : Span) → (if a && b && not c then o else None) ≡ Some silence → b ≡ true
+  since-due a true c o silence is = refl
+  since-due true false c o silence is = absurd (cc)
+  since-due false false c o silence is = absurd (cc)
+
+  -- A pair that is asked along is in the list, and the selected one is due.
+  along-is-there : IsAskedAlong now a (Some p) → IsThere
+  along-is-there along = by-selected (pair_selected a.selected_pair a.pairs) refl along where
+    by-silence : (q : PairRecord) → Has a.pairs q → (o : Option Span) → late_since now a q ≡ o
+        → MatchOption o (Some p ≡ None) (λ silence. IsAskedNext q.number silence now a.timing a.pairs (Some p)) → IsThere
+    by-silence q has None since is = absurd (cc)
+    by-silence q has (Some silence) since (there, asked, first) = (
+      there,
+      has-any (is_due now a.timing) a.pairs q has
+          (since-due (is_connected a.state) (is_due now a.timing q) (has_urgent now a) (silence_until now q.checks) silence since),
+    )
+
+    by-selected : (o : Option PairRecord) → o ≡ pair_selected a.selected_pair a.pairs
+        → MatchOption o (Some p ≡ None) (λ q. MatchOption (late_since now a q) (Some p ≡ None) (λ silence. IsAskedNext q.number silence now a.timing a.pairs (Some p))) → IsThere
+    by-selected None is none = absurd (cc)
+    by-selected (Some q) is asked = by-silence q (selected-has a.selected_pair a.pairs q is) (late_since now a q) refl asked
+
+  ahead-is-there : GoesAhead now a (Some p) → IsThere
+  ahead-is-there (None, along, (has, due, first)) = (has, has-any (is_due now a.timing) a.pairs p has due)
+  ahead-is-there (Some q, along, same) = along-is-there (subst (λ o. IsAskedAlong now a o) (sym same) along)
+
+  -- so is the pair that is checked in its turn
+  turn-is-there : IsNextInTurn now a (Some p) → IsThere
+  turn-is-there turn = by (is_ahead_turn now a) turn where
+    by : (b : Bool) → MatchBool b (GoesAhead now a (Some p)) (IsNextDue now a.timing a.pairs (Some p)) → IsThere
+    by true ahead = ahead-is-there ahead
+    by false ((has, first), due) = (has, has-any (is_due now a.timing) a.pairs p has due)
 
 -- the pair that is checked next is in the list
 next-is-there : {H P : Type 0} (a : AgentRecord H P) (now : ℕ) (p : PairRecord) → IsNextToCheck now a (Some p) → Has a.pairs p
 next-is-there a now p is =
     elim (nominates_at_once a) as (λ b. MatchBool b (Some p ≡ pair_selected a.selected_pair a.pairs) (IsNextInTurn now a (Some p)) → Has a.pairs p) [
       | true ↦ λ selected. selected-has a.selected_pair a.pairs p selected
-      | false ↦ λ turn. (turn-is-due a now p turn).0
+      | false ↦ λ turn. (turn-is-there a now p turn).0
     ] is
 
--- if the pair that is checked next has a number, it is due, or its nomination is
+-- if a pair is checked next that has a number, one is due, or its nomination is
 pub due-there : {H P : Type 0} (a : AgentRecord H P) (now : ℕ) (next : Option PairRecord) (n : ℕ) → IsNextToCheck now a next
     → option_map (λ p. p.number) next ≡ Some n → nominates_at_once a || list_any (is_due now a.timing) a.pairs ≡ true
 due-there a now None n is numbered = absurd (cc)
 due-there a now (Some p) n is numbered =
     elim (nominates_at_once a) as (λ b. MatchBool b (Some p ≡ pair_selected a.selected_pair a.pairs) (IsNextInTurn now a (Some p)) → b || list_any (is_due now a.timing) a.pairs ≡ true) [
       | true ↦ λ _. refl
-      | false ↦ λ turn. let its = turn-is-due a now p turn in has-any (is_due now a.timing) a.pairs p its.0 its.1
+      | false ↦ λ turn. (turn-is-there a now p turn).1
     ] is
 
 -- and it is found by that number

@@ -4,21 +4,21 @@ use Rattle.std.proofs.lemmas.List.{length-append}
 use Rattle.std.proofs.Math.ListN.{length-set}
 use Rattle.std.specs.Prelude.{slice_set, MatchBool}
 use Rattle.std.specs.List.{list_any, list_all}
-use Rattle.is_proto.specs.Lists.{Has}
 use Rattle.is_stun.specs.declared.timing.StunTiming.{StunTiming}
 use Rattle.is_candidate.specs.Candidates.{CandidateRecord}
-use Rattle.is_pair.specs.Multiset.{change_at, is_numbered, has_number, pair_numbered, put_pair, RecordsAnswer}
-use Rattle.is_pair.specs.Due.{asked}
-use Rattle.is_pair.specs.Pairs.{PairRecord, answered, checked, heard, heard_at, undue, TakesAnswer}
-use Rattle.is_rules.specs.declared.places.RemotePlace.{RemotePlace}
+use Rattle.is_pair.specs.Multiset.{change_at, is_numbered, has_number, pair_numbered, put_pair, KeepsKeys, RecordsAnswer}
+use Rattle.is_pair.specs.Due.{asked, moved_up}
+use Rattle.is_pair.specs.Pairs.{PairRecord, checked, heard, heard_at, undue}
 use Rattle.is_rules.specs.declared.places.RemotePlace.TheVariants.{Known, Barred, Unknown, Vacant, Full}
 use Rattle.is_rules.specs.Answers.{joined_by}
+use Rattle.is_rules.specs.Due.{awaits_nomination}
+use Rattle.is_rules.specs.Leaving.{hastened}
 use Rattle.is_rules.specs.Remote.{stored, place_or_end}
 use Rattle.is_rules.specs.Kept.{is_placed, are_placed}
 use Rattle.is_rules.specs.Limit.{has_room, IsPlaceOf, IsVacancy}
 use Rattle.is_rules.specs.Places.{is_sender, place_by}
 use Rattle.is_rules.specs.Request.{RequestRecord}
-use Rattle.is_rules.proofs.PairLists.PairsInLists.{in-lists, is-in, all-mapped, in-is, longer, placed-mapped, placed-changed, KeepsPlaces}
+use Rattle.is_rules.proofs.PairLists.PairsInLists.{in-lists, in-is, placed-mapped, KeepsPlaces}
 use Rattle.is_agent.proofs.AgentParts.PairsByNumber.{both, find-Some, has-any}
 
 -- what follows of what was made
@@ -80,6 +80,25 @@ placed-asked local remote now t ps all = placed-mapped local remote (asked now t
 
 pub placed-undue : (local remote : List CandidateRecord) (ps : List PairRecord) → are_placed local remote ps ≡ true → are_placed local remote (map undue ps) ≡ true
 placed-undue local remote ps all = placed-mapped local remote undue ps (record { local = λ p. refl; remote = λ p. refl }) all
+
+-- a pair that is hastened, or not
+hastened-if : {A : Type 0} (f : PairRecord → A) (now : ℕ) (p : PairRecord) → f (moved_up (now + 1) p) ≡ f p → (b : Bool) → f (if b then moved_up (now + 1) p else p) ≡ f p
+hastened-if f now p same true = same
+hastened-if f now p same false = refl
+
+pub hastened-keys : (controlling : Bool) (now : ℕ) → KeepsKeys (hastened controlling now)
+hastened-keys controlling now = λ p. let awaits = awaits_nomination controlling p in (
+  hastened-if (λ (x : PairRecord). x.number) now p refl awaits,
+  hastened-if (λ (x : PairRecord). x.priority) now p refl awaits,
+  hastened-if (λ (x : PairRecord). x.checks) now p refl awaits,
+)
+
+pub placed-hastened : (local remote : List CandidateRecord) (controlling : Bool) (now : ℕ) (ps : List PairRecord) → are_placed local remote ps ≡ true
+    → are_placed local remote (map (hastened controlling now) ps) ≡ true
+placed-hastened local remote controlling now ps all = placed-mapped local remote (hastened controlling now) ps (record {
+  local = λ p. hastened-if (λ (x : PairRecord). x.local) now p refl (awaits_nomination controlling p);
+  remote = λ p. hastened-if (λ (x : PairRecord). x.remote) now p refl (awaits_nomination controlling p);
+}) all
 
 pub checked-places : (now : ℕ) (t : StunTiming) (controlling : Bool) (id : List ℕ) → KeepsPlaces (checked now t controlling id)
 checked-places now t controlling id = record { local = λ p. refl; remote = λ p. refl }

@@ -1,5 +1,5 @@
 -- A pair that was checked is due after the time of the check, whenever its due time is computed from then on.
-use Rattle.std.proofs.Common.{◌≡◌, ℕ, zero, suc, ◌+◌, ◌-◌, ◌*◌, ◌/◌, ◌^◌, ◌==◌, ◌<◌, ◌≤◌, ◌&&◌, nat_lt, Bool, true, false, List, [], ◌∷◌, ◌++◌, length, drop, reverse, position, min, max, Option, Some, None, unwrap_or, if◌then◌else◌, refl, ap, sym, ◌∙◌, subst, arith}
+use Rattle.std.proofs.Common.{◌≡◌, ℕ, zero, suc, ◌+◌, ◌-◌, ◌*◌, ◌/◌, ◌^◌, ◌==◌, ◌<◌, ◌≤◌, ◌&&◌, ◌||◌, nat_lt, Bool, true, false, List, [], ◌∷◌, ◌++◌, length, drop, reverse, position, min, max, Option, Some, None, unwrap_or, if◌then◌else◌, refl, ap, sym, ◌∙◌, subst, arith}
 use Rattle.std.specs.Prelude.{slice_get}
 use Rattle.std.specs.Option.{option_map_or}
 use Rattle.std.proofs.Math.Nat.{one-le-pow, one-le-mul}
@@ -16,7 +16,7 @@ use Rattle.is_pair.specs.declared.pair.states.NominationState.TheVariants.{None 
 use Rattle.is_pair.specs.States.{nomination_once_sent}
 use Rattle.is_pair.specs.Checks.{Check, is_answered, last_checks, last_check, last_round_trip, unanswered_count}
 use Rattle.is_pair.specs.Pairs.{PairRecord, check_of, checked}
-use Rattle.is_pair.specs.Due.{is_silent, delaying_count, usual_delay, is_hushed, is_repeated_early, hushed_delay, HUSHED_INTERVAL, LATENESS, modern_delay, repeated_delay, silent_count, delay_of, next_due_time, computed_due_time}
+use Rattle.is_pair.specs.Due.{is_silent, delaying_count, usual_delay, is_hushed, is_repeated_early, is_within, hushed_delay, HUSHED_INTERVAL, HUSHED_TIME, SHORT_INTERVAL, LATENESS, modern_delay, repeated_delay, silent_count, delay_of, next_due_time, computed_due_time}
 use Rattle.is_pair.specs.Turns.{IsPaced, CheckedIsLater}
 
 -- ---- the delay
@@ -104,9 +104,9 @@ wait-positive at t q paced open_still some = either (is_modern t) where
   usual : 0 < usual_delay at t q.checks
   usual = delay-positive t (delaying_count at t q.checks) paced (delaying at t q.checks open_still some)
 
-  hushed : 0 < hushed_delay t q
-  hushed = most (nat_lt (unanswered_count q.checks) t.max_retransmits) (later (unwrap_or (last_round_trip q.checks) 0) LATENESS) where
-    most : (b : Bool) (y : ℕ) → 0 < max (if b then EARLY_INTERVAL else HUSHED_INTERVAL) y
+  hushed : 0 < hushed_delay at t q
+  hushed = most (nat_lt (unanswered_count q.checks) t.max_retransmits || is_within (later t.max_rto.0 HUSHED_TIME) at q.consented) (later (unwrap_or (last_round_trip q.checks) 0) LATENESS) where
+    most : (b : Bool) (y : ℕ) → 0 < max (if b then SHORT_INTERVAL else HUSHED_INTERVAL) y
     most true y = omega arith
     most false y = omega arith
 
@@ -117,8 +117,8 @@ wait-positive at t q paced open_still some = either (is_modern t) where
   repeated true = early-positive (silent_count q)
   repeated false = usual
 
-  modern : (b : Bool) → 0 < (if b then min (hushed_delay t q) (repeated_delay at t q) else repeated_delay at t q)
-  modern true = sooner (hushed_delay t q) (repeated_delay at t q) hushed (repeated (is_repeated_early at t q))
+  modern : (b : Bool) → 0 < (if b then min (hushed_delay at t q) (repeated_delay at t q) else repeated_delay at t q)
+  modern true = sooner (hushed_delay at t q) (repeated_delay at t q) hushed (repeated (is_repeated_early at t q))
   modern false = repeated (is_repeated_early at t q)
 
   either : (b : Bool) → 0 < (if b then modern_delay at t q else usual_delay at t q.checks)

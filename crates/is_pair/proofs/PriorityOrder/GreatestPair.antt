@@ -1,4 +1,4 @@
--- The pair of greatest priority, found from the end of the order.
+-- What is among a list, and the rank of a pair.
 use Rattle.std.proofs.Common.{if◌then◌else◌, ◌≡◌, ◌==◌, ℕ, ◌≤◌, ◌||◌, Bool, true, false, List, [], ◌∷◌, filter, find, reverse, nat_le, Some, None, unwrap_or, inl, inr, refl, sym, ap, subst, ◌∙◌, arith}
 use Rattle.std.proofs.lemmas.Bool.{eq-eqb, eqb-true}
 use Rattle.std.proofs.lemmas.List.{reverse-append}
@@ -65,52 +65,6 @@ find-has t (y ∷ ys) x found =
 pub found-has : (n : ℕ) (ps : List PairRecord) (v : PairRecord) → pair_numbered n ps ≡ Some v → Has ps v
 found-has n ps v found = (find-has (is_numbered n) ps v found).0
 
--- ---- the last that passes
-
-last-by : (t : Rank → Bool) (r : Rank) (rs : List Rank) → find t (reverse (r ∷ rs)) ≡ option_or (find t (reverse rs)) (if t r then Some r else None)
-last-by t r rs = ap (find t) (reverse-append (r ∷ []) rs) ∙ find-append t (reverse rs) (r ∷ [])
-
-none-last : (t : Rank → Bool) (rs : List Rank) (s : Rank) → find t (reverse rs) ≡ None → Has rs s → t s ≡ true → ⊥
-none-last t [] s none has is = elim has [ ]
-none-last t (r ∷ rs) s none has is =
-    elim (find t (reverse rs)) as (λ o. find t (reverse rs) ≡ o → option_or o (if t r then Some r else None) ≡ None → ⊥) [
-      | Some y ↦ λ found h. absurd (cc)
-      | None ↦ λ found h. by has (λ rest. none-last t rs s found rest is) h
-    ] refl (sym (last-by t r rs) ∙ none)
-  where
-    by : Has (r ∷ rs) s → (Has rs s → ⊥) → (if t r then Some r else None) ≡ None → ⊥
-    by (inl e) following h = let here : t r ≡ true = ap t e ∙ is in absurd (cc)
-    by (inr rest) following h = following rest
-
-abbrev pub IsLast : (Rank → Bool) → List Rank → Rank → Type 0
-IsLast t rs r = Has rs r × (t r ≡ true) × ((s : Rank) → Has rs s → t s ≡ true → s.priority ≤ r.priority)
-
-pub last-found : (t : Rank → Bool) (rs : List Rank) (r : Rank) → are_ordered rs ≡ true → find t (reverse rs) ≡ Some r → IsLast t rs r
-last-found t [] r ordered found = absurd (cc)
-last-found t (x ∷ rs) r ordered found =
-    let b = both (list_all (λ (q : Rank). nat_le x.priority q.priority) rs) (are_ordered rs) ordered in
-    elim (find t (reverse rs)) as (λ o. find t (reverse rs) ≡ o → option_or o (if t x then Some x else None) ≡ Some r → IsLast t (x ∷ rs) r) [
-      | Some y ↦ λ is h.
-          let same : y ≡ r = ap (λ o. unwrap_or o y) h in
-          let rest = last-found t rs r b.1 (is ∙ ap (λ z. Some z) same) in
-          (inr rest.0, rest.1, above b.0 rest)
-      | None ↦ λ is h. first is (elim (t x) as (λ c. t x ≡ c → (if c then Some x else None) ≡ Some r → (x ≡ r) × (t x ≡ true)) [
-        | true ↦ λ passes h. (ap (λ o. unwrap_or o x) h, passes)
-        | false ↦ λ passes h. absurd (cc)
-      ] refl h)
-    ] refl (sym (last-by t x rs) ∙ found)
-  where
-    above : list_all (λ (q : Rank). nat_le x.priority q.priority) rs ≡ true → IsLast t rs r → (s : Rank) → Has (x ∷ rs) s → t s ≡ true → s.priority ≤ r.priority
-    above low rest s (inl e) is = subst (λ (z : Rank). z.priority ≤ r.priority) e (le-from (all-has (λ (q : Rank). nat_le x.priority q.priority) rs r low rest.0))
-    above low rest s (inr h) is = rest.2 s h is
-
-    only_pair : find t (reverse rs) ≡ None → x ≡ r → (s : Rank) → Has (x ∷ rs) s → t s ≡ true → s.priority ≤ r.priority
-    only_pair none same s (inl e) is = subst (λ (z : Rank). z.priority ≤ r.priority) e (subst (λ (z : Rank). x.priority ≤ z.priority) same (omega arith))
-    only_pair none same s (inr h) is = absurd (none-last t rs s none h is)
-
-    first : find t (reverse rs) ≡ None → (x ≡ r) × (t x ≡ true) → IsLast t (x ∷ rs) r
-    first none h = (inl h.0, ap t (sym h.0) ∙ h.1, only_pair none h.0)
-
 -- ---- its pair
 
 module _ (ps : List PairRecord) (rs : List Rank) (test : PairRecord → Bool) (rising : rises ps ≡ true) (ranked : IsRanking rs ps) where
@@ -132,25 +86,3 @@ module _ (ps : List PairRecord) (rs : List Rank) (test : PairRecord → Bool) (r
   rank-priority r p has found =
       let own = has-any (is_rank r.priority r.number) rs r has (rw (eq-eqb r.number r.number refl) (eq-eqb r.priority r.priority refl)) in
       eqb-true p.priority r.priority (sym (one-passes r.number (λ q. q.priority == r.priority) ps p rising found) ∙ sym (ranked r.priority r.number) ∙ own)
-
-  greatest-at : (r : Rank) (p : PairRecord) → IsLast (has_passing test ps) rs r → pair_numbered r.number ps ≡ Some p → IsGreatest test ps (Some p)
-  greatest-at r p last found =
-      let priority = rank-priority r p last.0 found in (
-        found-has r.number ps p found,
-        sym (one-passes r.number test ps p rising found) ∙ last.1,
-        λ q has is.
-            let s = has-rank q has is in
-            let below = last.2 s.0 s.1 s.2 in
-            omega (arith, below, s.3, priority),
-      )
-
-  pub greatest-found : (r : Rank) → are_ordered rs ≡ true → find (has_passing test ps) (reverse rs) ≡ Some r → IsGreatest test ps (pair_numbered r.number ps)
-  greatest-found r ordered is =
-      let last = last-found (has_passing test ps) rs r ordered is in
-      elim (pair_numbered r.number ps) as (λ o. pair_numbered r.number ps ≡ o → IsGreatest test ps o) [
-        | Some p ↦ λ found. greatest-at r p last found
-        | None ↦ λ none. let fails = none-passes r.number test ps none in absurd (cc)
-      ] refl
-
-  pub none-greatest : find (has_passing test ps) (reverse rs) ≡ None → IsGreatest test ps None
-  none-greatest none = filter-none test ps (λ q has is. let s = has-rank q has is in none-last (has_passing test ps) rs s.0 none s.1 s.2)

@@ -1,6 +1,6 @@
 //! The pairs of a checklist, in the order of their numbers.
 
-ghost use Rattle.std.specs.Prelude.{◌≡◌, ◌<◌, ◌≤◌, ◌+◌, ◌++◌, ◌∷◌, [], List, true, false, IfSome, OnOk, find, fold, length, map, min};
+ghost use Rattle.std.specs.Prelude.{◌≡◌, ◌<◌, ◌≤◌, ◌+◌, ◌++◌, ◌∷◌, [], List, true, false, IfSome, OnOk, find, fold, length, map, max, min};
 ghost use Rattle.std.specs.Prelude.{is_some, position, vec_len, vec_capacity};
 ghost use Rattle.std.specs.List.{list_any};
 ghost use Rattle.std.specs.Option.{option_copied};
@@ -9,7 +9,7 @@ ghost use Rattle.is_proto.specs.Times.{MAX};
 ghost use Rattle.is_stun.specs.Timing.{consent_of};
 ghost use Rattle.is_pair.specs.Pairs.{PairRecord};
 ghost use Rattle.is_pair.specs.Due.{call_time_of, GoesBefore, IsEarliest};
-ghost use Rattle.is_pair.specs.Multiset.{is_numbered, has_number, pair_numbered, passes_at, rises, change_pair, with_priority, without, keep_fewer};
+ghost use Rattle.is_pair.specs.Multiset.{is_numbered, has_number, pair_numbered, passes_at, rises, change_pair, with_priority, without, keep_fewer, IsGreatest};
 
 use super::pair_change::PairChange;
 use super::pair_test::PairTest;
@@ -162,6 +162,38 @@ pub(super) fn first<'a, T: PairTest>(
     pairs.iter().find(|pair| test.passes(pair))
 }
 
+/// Returns the greatest so far, or one more pair if it passes the test and has a greater priority.
+fn greater<'a, T: PairTest>(
+    top: Option<&'a CandidatePair>,
+    pair: &'a CandidatePair,
+    test: &T,
+) -> Option<&'a CandidatePair>
+    ensures { (done : List PairRecord) → IsGreatest (T.passes test.now) done (option_copied top.entry)
+        → IsGreatest (T.passes test.now) (pair.now ∷ done) (option_copied result) }
+{
+    if !test.passes(pair) {
+        return top;
+    }
+    match top {
+        Some(top) if top.prio() >= pair.prio() => Some(top),
+        _ => Some(pair),
+    }
+}
+
+/// Returns a pair of greatest priority among those that pass the test.
+pub(super) fn greatest<'a, T: PairTest>(
+    pairs: &'a [CandidatePair],
+    test: &T,
+) -> Option<&'a CandidatePair>
+    ensures { IsGreatest (T.passes test.now) pairs.now (option_copied result) }
+{
+    let mut top = None;
+    for pair in pairs {
+        top = greater(top, pair, test);
+    }
+    top
+}
+
 /// Returns the earliest time at which a pair is due, or its consent ends, by what the timing says of consent.
 pub(super) fn earliest_call_with(
     pairs: &[CandidatePair],
@@ -177,6 +209,27 @@ pub(super) fn earliest_call_with(
         first = first.min(pair.call_time_of(now, timing, consent));
     }
     first
+}
+
+/// Returns the same, or this time if that is later. It looks at the pairs until one is due, or its consent ends, by this time.
+pub(super) fn earliest_call_from(
+    pairs: &[CandidatePair],
+    now: Instant,
+    timing: &StunTiming,
+    consent: Option<Consent>,
+    from: Instant,
+) -> Instant
+    requires { consent ≡ consent_of timing.now }
+    ensures { result.0 ≡ max (fold min MAX (map (call_time_of now.0 timing.now) pairs.now)) from.0 }
+{
+    let mut first = Instant(u64::MAX);
+    for pair in pairs {
+        first = first.min(pair.call_time_of(now, timing, consent));
+        if first <= from {
+            return from;
+        }
+    }
+    first.max(from)
 }
 
 /// Whether a pair is due earlier, or at the same time with no smaller priority.

@@ -1,6 +1,6 @@
 //! The pairs of a checklist in the order of their priorities.
 
-ghost use Rattle.std.specs.Prelude.{◌≡◌, ◌<◌, ◌≤◌, ◌==◌, ◌+◌, not, true, false, Bool, ◌||◌, filter, find, map, reverse, slice_get, vec_len, vec_capacity};
+ghost use Rattle.std.specs.Prelude.{◌≡◌, ◌<◌, ◌≤◌, ◌==◌, ◌+◌, not, true, false, Bool, ◌||◌, filter, find, map, slice_get, vec_len, vec_capacity};
 ghost use Rattle.std.specs.List.{list_any};
 ghost use Rattle.is_pair.specs.Multiset.{has_number, rises};
 ghost use Rattle.is_pair.specs.Entries.{are_ordered, are_single, has_passing, rank_now};
@@ -66,22 +66,6 @@ pub(crate) fn first_passing<T: PairTest>(
 {
     ranks
         .iter()
-        .find(|rank| listed::passes(pairs, rank.number, test))
-        .copied()
-}
-
-/// Returns the last one whose pair passes the test.
-pub(crate) fn last_passing<T: PairTest>(
-    ranks: &[Rank],
-    pairs: &[CandidatePair],
-    test: &T,
-) -> Option<Rank>
-    requires rising { rises pairs.now ≡ true }
-    ensures { result ≡ find (has_passing (T.passes test.now) pairs.now) (reverse ranks.now) }
-{
-    ranks
-        .iter()
-        .rev()
         .find(|rank| listed::passes(pairs, rank.number, test))
         .copied()
 }

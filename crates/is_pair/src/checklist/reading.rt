@@ -1,6 +1,6 @@
 //! Queries over the pairs.
 
-ghost use Rattle.std.specs.Prelude.{◌≡◌, ◌<◌, true, IfSome, find, fold, map, min};
+ghost use Rattle.std.specs.Prelude.{◌≡◌, ◌<◌, true, IfSome, find, fold, map, max, min};
 ghost use Rattle.std.specs.List.{list_any};
 ghost use Rattle.std.specs.Option.{option_copied};
 ghost use Rattle.is_proto.specs.Times.{MAX};
@@ -9,7 +9,7 @@ ghost use Rattle.is_pair.specs.Multiset.{has_number, passes_at, IsGreatest};
 ghost use Rattle.is_pair.specs.Due.{call_time_of, IsNextDue};
 ghost use Rattle.is_pair.specs.Checklists.{multiset_of};
 
-use super::{Checklist, PairTest, listed, ranks};
+use super::{Checklist, PairTest, listed};
 use crate::pair::CandidatePair;
 use is_proto::Instant;
 use is_stun::stun::{Consent, StunTiming};
@@ -47,14 +47,7 @@ impl Checklist {
     pub fn greatest<T: PairTest>(&self, test: &T) -> Option<&CandidatePair>
         ensures { IsGreatest (T.passes test.now) (multiset_of self.now) (option_copied result) }
     {
-        // first search all pairs: if none passes, this is faster, because it looks no pair up
-        if !self.any(test) {
-            return None;
-        }
-        match ranks::last_passing(&self.ranks, &self.pairs, test) {
-            Some(rank) => listed::get(&self.pairs, rank.number),
-            None => None,
-        }
+        listed::greatest(&self.pairs, test)
     }
 
     /// Returns the pair to check now, if one is due: the one with the earliest due time, and among several of those one
@@ -90,5 +83,19 @@ impl Checklist {
         ensures { result.0 ≡ fold min MAX (map (call_time_of now.0 timing.now) (multiset_of self.now)) }
     {
         listed::earliest_call_with(&self.pairs, now, timing, consent)
+    }
+
+    /// The same, or this time if that is later. With many pairs one is mostly due by then, and the others are not looked at.
+    pub fn earliest_call_from(
+        &self,
+        now: Instant,
+        timing: &StunTiming,
+        consent: Option<Consent>,
+        from: Instant,
+    ) -> Instant
+        requires { consent ≡ consent_of timing.now }
+        ensures { result.0 ≡ max (fold min MAX (map (call_time_of now.0 timing.now) (multiset_of self.now))) from.0 }
+    {
+        listed::earliest_call_from(&self.pairs, now, timing, consent, from)
     }
 }

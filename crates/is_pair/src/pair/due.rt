@@ -1,6 +1,6 @@
 //! When a pair is due for its next check, and when it fails.
 
-ghost use Rattle.std.specs.Prelude.{◌≡◌, ◌<◌, is_some, min, option_map};
+ghost use Rattle.std.specs.Prelude.{◌≡◌, ◌<◌, ◌||◌, ◌+◌, is_some, min, option_map};
 ghost use Rattle.is_proto.specs.Times.{later};
 ghost use Rattle.is_pair.specs.Pairs.{is_valid, undue};
 ghost use Rattle.is_pair.specs.Due.{asked, delaying_count, due_time_of, is_heard, is_in_time, is_possible, long_before, next_due_time, computed_due_time};
@@ -26,18 +26,22 @@ const BEGINNING: Duration = Duration(500_000_000);
 /// and a path that is slow or dead is not filled (RFC 8489, section 6.2.1).
 const EARLY_TIME: Duration = Duration(2_500_000_000);
 
-/// The shortest delay after which a check of a nominated pair that is silent is repeated.
-const EARLY_INTERVAL: Duration = Duration(100_000_000);
+/// How long a nominated pair that is silent is checked quickly at least, from the time on at which the check after the last answered one was
+/// due at the latest: so long both agents may take to leave the path.
+const HUSHED_TIME: Duration = Duration(4_500_000_000);
 
-/// The same, once `max_retransmits` of its checks have no response.
+/// The shortest delay after which a check of it is repeated.
+const SHORT_INTERVAL: Duration = Duration(80_000_000);
+
+/// The same after that time.
 const HUSHED_INTERVAL: Duration = Duration(500_000_000);
 
 /// How much later than the one before a response may come, before the check is repeated: a longer jitter is rare, and costs only a
 /// check.
-const LATENESS: Duration = Duration(50_000_000);
+const LATENESS: Duration = Duration(30_000_000);
 
 /// Whether less than the span has passed since a time, if there is one.
-fn is_within(span: Duration, now: Instant, since: Option<Instant>) -> bool
+pub(super) fn is_within(span: Duration, now: Instant, since: Option<Instant>) -> bool
     ensures { result ≡ is_within span.0 now.0 (option_map (λ at. at.0) since) }
 {
     match since {
@@ -67,9 +71,14 @@ impl CandidatePair {
         ensures time { result.0 ≡ due_time_of now.0 timing_config.now self.old }
         ensures fixed { self.new ≡ asked now.0 timing_config.now self.old }
     {
-        let due = self.due_time_of(now, timing_config);
-        self.cached_next_attempt_time = Some(due);
-        due
+        match self.cached_next_attempt_time {
+            Some(fixed) => fixed,
+            None => {
+                let due = self.unfixed_due_time(now, timing_config);
+                self.cached_next_attempt_time = Some(due);
+                due
+            }
+        }
     }
 
     /// Returns the due time that `fix_due_time` would return, and fix, now.
@@ -111,8 +120,8 @@ impl CandidatePair {
     {
         self.is_heard(now)
             || self.binding_attempts.len() < timing.max_retransmits()
-            || attempts::unanswered(&self.binding_attempts) < timing.max_retransmits()
             || is_in_time(&self.binding_attempts, now, timing)
+            || attempts::unanswered(&self.binding_attempts) < timing.max_retransmits()
     }
 
     /// Whether the path may still work because checks are repeated early: then time counts, and not their number.
@@ -166,10 +175,21 @@ impl CandidatePair {
         }
     }
 
-    /// Whether less than that has passed since the pair's first check, or since the first one after a request of the peer.
+    /// Whether less than 2.5 s have passed since the pair's first check, or since the first one after a request of the peer.
+    fn is_begun_lately(&self, now: Instant) -> bool
+        ensures { result ≡ (is_within EARLY_TIME.0 now.0 self.now.first_sent || is_within EARLY_TIME.0 now.0 self.now.first_after_request) }
+    {
+        is_within(EARLY_TIME, now, self.first_sent)
+            || is_within(EARLY_TIME, now, self.first_after_request)
+    }
+
+    /// The same with the time of a whole series of checks, if that is less. Later on it is not computed.
     fn is_early_on(&self, now: Instant, timing: &StunTiming) -> bool
         ensures { result ≡ is_early_on now.0 timing.now self.now }
     {
+        if !self.is_begun_lately(now) {
+            return false;
+        }
         let time = EARLY_TIME.min(timing.timeout());
         is_within(time, now, self.first_sent) || is_within(time, now, self.first_after_request)
     }
@@ -195,13 +215,27 @@ impl CandidatePair {
     }
 
     /// Returns the delay after which the response to the last check is late.
-    fn hushed_delay(&self, timing: &StunTiming) -> Duration
-        ensures { result.0 ≡ hushed_delay timing.now self.now }
+    fn hushed_delay(&self, now: Instant, timing: &StunTiming) -> Duration
+        ensures { result.0 ≡ hushed_delay now.0 timing.now self.now }
     {
         let round_trip = self.last_successful_rtt().unwrap_or(Duration(0));
-        hushed_interval(timing, attempts::unanswered(&self.binding_attempts)).max(
-            round_trip.saturating_add(LATENESS),
-        )
+        self.hushed_interval(now, timing)
+            .max(round_trip.saturating_add(LATENESS))
+    }
+
+    /// Returns how often a nominated pair is checked at most, by how many of its checks have no response, and how long ago its last answered
+    /// check was sent.
+    fn hushed_interval(&self, now: Instant, timing: &StunTiming) -> Duration
+        ensures { result.0 ≡ hushed_interval now.0 timing.now self.now }
+    {
+        let span = timing.max_rto().saturating_add(HUSHED_TIME);
+        if attempts::unanswered(&self.binding_attempts) < timing.max_retransmits()
+            || is_within(span, now, self.consented)
+        {
+            SHORT_INTERVAL
+        } else {
+            HUSHED_INTERVAL
+        }
     }
 
     /// Returns the delay after the last check: checks are repeated early, or after the RTO.
@@ -221,7 +255,7 @@ impl CandidatePair {
     {
         let delay = self.repeated_delay(now, timing);
         if self.is_hushed() {
-            self.hushed_delay(timing).min(delay)
+            self.hushed_delay(now, timing).min(delay)
         } else {
             delay
         }
@@ -286,17 +320,6 @@ fn long_before(now: Instant) -> Instant
     ensures { result.0 ≡ long_before now.0 }
 {
     now.checked_sub(HEAD_START).unwrap_or(now)
-}
-
-/// Returns how often a nominated pair is checked at most, by how many of its checks have no response.
-fn hushed_interval(timing: &StunTiming, count: usize) -> Duration
-    ensures { result.0 ≡ hushed_interval timing.now count }
-{
-    if count < timing.max_retransmits() {
-        EARLY_INTERVAL
-    } else {
-        HUSHED_INTERVAL
-    }
 }
 
 /// Returns the RTO after the last check.
@@ -371,6 +394,17 @@ pub fn trigger(pair: &mut CandidatePair, modern: bool, at: Instant)
 {
     if modern && pair.is_triggered() {
         pair.move_up(at);
+    }
+}
+
+/// The next check is due a nanosecond from now, after all pairs that are due now, if its due time is fixed and later.
+pub fn move_next(pair: &mut CandidatePair, now: Instant)
+    ensures { pair.new ≡ moved_up (now.0 + 1) pair.old }
+{
+    if let Some(due) = pair.cached_next_attempt_time {
+        if now.0 < due.0 {
+            pair.cached_next_attempt_time = Some(Instant(now.0 + 1));
+        }
     }
 }
 

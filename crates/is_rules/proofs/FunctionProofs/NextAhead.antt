@@ -11,7 +11,7 @@ use Rattle.is_rules.specs.Kinds.{TurnsBefore, IsNextAhead}
 use Rattle.is_rules.proofs.PairLists.ChosenPair.{none_pass}
 use Rattle.is_rules.proofs.PairLists.PairsInLists.{all-has}
 
-none-when : {X : Type 0} (test : X → Bool) (xs : List X) → ((x : X) → Has xs x → test x ≡ true → ⊥) → NonePass test xs
+pub none-when : {X : Type 0} (test : X → Bool) (xs : List X) → ((x : X) → Has xs x → test x ≡ true → ⊥) → NonePass test xs
 none-when test [] none = refl
 none-when test (x ∷ xs) none =
     elim (test x) as (λ b. test x ≡ b → (if b then x ∷ filter test xs else filter test xs) ≡ []) [

@@ -10,7 +10,7 @@ use Rattle.is_pair.specs.Silence.{silence_of}
 use Rattle.is_pair.specs.Multiset.{is_named_by, is_numbered, pair_numbered, rises, without}
 use Rattle.is_pair.specs.Pairs.{PairRecord}
 use Rattle.is_rules.specs.Agent.{AgentRecord}
-use Rattle.is_rules.specs.Leaving.{gives_way, may_replace, path_left}
+use Rattle.is_rules.specs.Leaving.{gives_way, is_silent_enough, may_replace, silent_gone}
 use Rattle.is_rules.specs.Nominating.{is_eligible, pair_selected}
 use Rattle.is_rules.proofs.PairLists.ChosenPair.{found-in}
 use Rattle.is_rules.proofs.PairLists.PairsByNumber.{numbered-found}
@@ -35,11 +35,11 @@ selected-in : (s : Option ℕ) (ps : List PairRecord) (q : PairRecord) → pair_
 selected-in None ps q is = absurd (cc)
 selected-in (Some n) ps q is = (found-in (is_numbered n) ps q is).0
 
-third : (a b c d e f : Bool) → (a && b && c && d && e && f) ≡ true → c ≡ true
-third true true true d e f h = refl
-third true true false d e f h = absurd (cc)
-third true false c d e f h = absurd (cc)
-third false b c d e f h = absurd (cc)
+third : (a b c d e f g : Bool) → (a && b && c && d && e && f && g) ≡ true → c ≡ true
+third true true true d e f g h = refl
+third true true false d e f g h = absurd (cc)
+third true false c d e f g h = absurd (cc)
+third false b c d e f g h = absurd (cc)
 
 off : (b : Bool) → (b ≡ true → ⊥) → b ≡ false
 off true wrong = absurd (wrong refl)
@@ -47,18 +47,18 @@ off false wrong = refl
 
 module _ {H P : Type 0} (now : ℕ) (a : AgentRecord H P) (rising : rises a.pairs ≡ true) where
   gives-selected : (p : PairRecord) → Has a.pairs p → gives_way now a p ≡ true → pair_selected a.selected_pair a.pairs ≡ Some p
-  gives-selected p has gives = named-selected a.selected_pair a.pairs p rising has (third (is_modern a.timing) (not a.lite) (is_named_by a.selected_pair p) (is_eligible a.controlling p) (nat_le a.timing.max_retransmits (unanswered_count p.checks)) (option_map_or (λ silence. list_any (may_replace now a p.number silence) a.pairs) (silence_of p.checks) false) gives)
+  gives-selected p has gives = named-selected a.selected_pair a.pairs p rising has (third (is_modern a.timing) (not a.lite) (is_named_by a.selected_pair p) (is_eligible a.controlling p) (nat_le a.timing.max_retransmits (unanswered_count p.checks)) (is_silent_enough now a.timing p) (option_map_or (λ silence. list_any (may_replace now a p.number silence) a.pairs) (silence_of p.checks) false) gives)
 
-  pub none-left : pair_selected a.selected_pair a.pairs ≡ None → a.pairs ≡ (path_left now a).pairs
+  pub none-left : pair_selected a.selected_pair a.pairs ≡ None → a.pairs ≡ (silent_gone now a).pairs
   none-left none = sym (kept-all (gives_way now a) a.pairs (λ p has. off (gives_way now a p) (λ gives. let no : None ≡ Some p = sym none ∙ gives-selected p has gives in absurd (cc))))
 
-  pub stays-selected : (q : PairRecord) → pair_selected a.selected_pair a.pairs ≡ Some q → gives_way now a q ≡ false → a.pairs ≡ (path_left now a).pairs
+  pub stays-selected : (q : PairRecord) → pair_selected a.selected_pair a.pairs ≡ Some q → gives_way now a q ≡ false → a.pairs ≡ (silent_gone now a).pairs
   stays-selected q is stays = sym (kept-all (gives_way now a) a.pairs (λ p has. off (gives_way now a p) (λ gives.
       let same : q ≡ p = ap (λ o. unwrap_or o q) (sym is ∙ gives-selected p has gives) in
       let no : false ≡ true = sym stays ∙ subst (λ (x : PairRecord). gives_way now a x ≡ true) (sym same) gives in absurd (cc))))
 
   pub one-left : (q : PairRecord) → pair_selected a.selected_pair a.pairs ≡ Some q → gives_way now a q ≡ true
-      → without (is_numbered q.number) a.pairs ≡ (path_left now a).pairs
+      → without (is_numbered q.number) a.pairs ≡ (silent_gone now a).pairs
   one-left q is gives = same-without (is_numbered q.number) (gives_way now a) a.pairs alike where
     there : Has a.pairs q
     there = selected-in a.selected_pair a.pairs q is

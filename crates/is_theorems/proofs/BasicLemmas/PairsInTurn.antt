@@ -1,9 +1,11 @@
 -- The pair that is checked next, whether it goes ahead or not, and what its check leaves of the pairs.
-use Rattle.std.proofs.Common.{◌≡◌, ℕ, ◌&&◌, Bool, true, false, not, List, [], ◌∷◌, Option, Some, None, is_some, refl, ap, sym, ◌∙◌, subst, if◌then◌else◌}
-use Rattle.std.specs.Prelude.{MatchBool}
+use Rattle.std.proofs.Common.{◌≡◌, ℕ, ◌&&◌, Bool, true, false, not, List, [], ◌∷◌, Option, Some, None, is_some, inl, inr, ◌⊎◌, refl, ap, sym, ◌∙◌, subst, if◌then◌else◌}
+use Rattle.std.specs.Prelude.{MatchBool, MatchOption}
 use Rattle.is_proto.specs.Lists.{Has, NonePass}
 use Rattle.is_stun.specs.declared.timing.StunTiming.{StunTiming}
+use Rattle.is_pair.specs.declared.pair.silence.Span.{Span}
 use Rattle.is_pair.specs.Due.{is_due, IsNextDue}
+use Rattle.is_pair.specs.Silence.{silence_until}
 use Rattle.is_pair.specs.Multiset.{change_at, change_pair, is_numbered}
 use Rattle.is_pair.specs.Pairs.{PairRecord, checked, is_nominated, renominated}
 use Rattle.is_pair.specs.States.{is_nominated_state, nomination_again, nomination_once_sent}
@@ -12,8 +14,10 @@ use Rattle.is_pair.specs.declared.pair.states.NominationState.TheVariants.{None 
 use Rattle.is_rules.proofs.PairLists.ChosenPair.{found-in}
 use Rattle.is_rules.specs.declared.credentials.IceCreds.{IceCreds}
 use Rattle.is_rules.specs.Agent.{AgentRecord}
-use Rattle.is_rules.specs.Checking.{check_sent, is_ahead_turn, precedence, IsNextInTurn, IsNextToCheck}
+use Rattle.is_rules.specs.Checking.{check_sent, is_ahead_turn, precedence, GoesAhead, IsNextInTurn, IsNextToCheck}
+use Rattle.is_rules.specs.Connecting.{is_connected}
 use Rattle.is_rules.specs.Kinds.{IsNextAhead}
+use Rattle.is_rules.specs.Leaving.{has_urgent, is_asked_along, late_since, IsAskedAlong, IsAskedNext}
 use Rattle.is_rules.specs.Nominating.{nominates_at_once, numbers, pair_selected}
 
 -- ---- which pair
@@ -44,7 +48,58 @@ both-facts true true false d e h = refl
 both-facts true false c d e h = refl
 both-facts false b c d e h = refl
 
+late-facts : {X : Type 0} (a b c : Bool) (o : Option X) (x : X) → (if a && b && not c then o else None) ≡ Some x → (a ≡ true) × (b ≡ true) × (c ≡ false)
+late-facts true true false o x h = (refl, refl, refl)
+late-facts true true true o x h = absurd (let no : None ≡ Some x = h in cc)
+late-facts true false c o x h = absurd (let no : None ≡ Some x = h in cc)
+late-facts false b c o x h = absurd (let no : None ≡ Some x = h in cc)
+
 module _ {H P : Type 0} (now : ℕ) (a : AgentRecord H P) where
+  -- the pair is asked along with the selected one, which is silent
+  pub record AskedAlong (p : PairRecord) : Type 0 where
+    pub selected : PairRecord
+    pub chosen : pair_selected a.selected_pair a.pairs ≡ Some selected
+    pub connected : is_connected a.state ≡ true
+    pub due : is_due now a.timing selected ≡ true
+    pub no_urgent : has_urgent now a ≡ false
+    pub there : Has a.pairs p
+    pub silence : Span
+    pub asked : is_asked_along selected.number silence p ≡ true
+
+  pub asked-why : (p : PairRecord) → IsAskedAlong now a (Some p) → AskedAlong p
+  asked-why p h = by-selected (pair_selected a.selected_pair a.pairs) refl h where
+    Since : PairRecord → Option Span → Type 0
+    Since q o = MatchOption o (Some p ≡ None) (λ silence. IsAskedNext q.number silence now a.timing a.pairs (Some p))
+
+    by-silence : (q : PairRecord) → pair_selected a.selected_pair a.pairs ≡ Some q → (o : Option Span) → late_since now a q ≡ o → Since q o → AskedAlong p
+    by-silence q chosen None is none = absurd (cc)
+    by-silence q chosen (Some silence) is (has, asked, first) =
+        let facts = late-facts (is_connected a.state) (is_due now a.timing q) (has_urgent now a) (silence_until now q.checks) silence is in record {
+          selected = q;
+          chosen = chosen;
+          connected = facts.0;
+          due = facts.1;
+          no_urgent = facts.2;
+          there = has;
+          silence = silence;
+          asked = asked;
+        }
+
+    by-selected : (o : Option PairRecord) → pair_selected a.selected_pair a.pairs ≡ o
+        → MatchOption o (Some p ≡ None) (λ q. MatchOption (late_since now a q) (Some p ≡ None) (λ silence. IsAskedNext q.number silence now a.timing a.pairs (Some p))) → AskedAlong p
+    by-selected None is none = absurd (cc)
+    by-selected (Some q) is k = by-silence q is (late_since now a q) refl k
+
+  -- the pair whose check goes ahead is the next one that is due, or one that is asked along
+  pub ahead-or-along : (p : PairRecord) → GoesAhead now a (Some p)
+      → IsNextAhead a.local a.remote (precedence a) a.next_kind now a.timing a.pairs (Some p) ⊎ AskedAlong p
+  ahead-or-along p (None, along, next) = inl next
+  ahead-or-along p (Some q, along, same) = inr (asked-why p (subst (λ o. IsAskedAlong now a o) (sym same) along))
+
+  none-ahead : GoesAhead now a None → NonePass (is_due now a.timing) a.pairs
+  none-ahead (None, along, none) = none
+  none-ahead (Some q, along, same) = absurd (let no : None ≡ Some q = same in cc)
+
   abbrev Turn : Option PairRecord → Type 0
   Turn next = IsNextInTurn now a next
 
@@ -63,9 +118,8 @@ module _ {H P : Type 0} (now : ℕ) (a : AgentRecord H P) where
   -- if there is none, no pair is due
   pub none-is-due : IsNextToCheck now a None → NonePass (is_due now a.timing) a.pairs
   none-is-due h = at-once (nominates_at_once a) refl h where
-    by : (b : Bool) → MatchBool b (IsNextAhead a.local a.remote (precedence a) a.next_kind now a.timing a.pairs None) (IsNextDue now a.timing a.pairs None)
-        → NonePass (is_due now a.timing) a.pairs
-    by true none = none
+    by : (b : Bool) → MatchBool b (GoesAhead now a None) (IsNextDue now a.timing a.pairs None) → NonePass (is_due now a.timing) a.pairs
+    by true none = none-ahead none
     by false none = none
 
     at-once : (b : Bool) → nominates_at_once a ≡ b → MatchBool b (None ≡ pair_selected a.selected_pair a.pairs) (IsNextInTurn now a None) → NonePass (is_due now a.timing) a.pairs
@@ -79,24 +133,35 @@ module _ {H P : Type 0} (now : ℕ) (a : AgentRecord H P) where
       (subst (λ b. MatchBool b (None ≡ pair_selected a.selected_pair a.pairs) (IsNextInTurn now a None)) due h)
       (last-fact a.controlling (not a.lite) (numbers a) a.nomination_due (is_some (pair_selected a.selected_pair a.pairs)) due)
 
-  pub turn-is-due : (p : PairRecord) → IsNextInTurn now a (Some p) → Has a.pairs p × (is_due now a.timing p ≡ true)
-  turn-is-due p h = by (is_ahead_turn now a) h where
-    by : (b : Bool) → MatchBool b (IsNextAhead a.local a.remote (precedence a) a.next_kind now a.timing a.pairs (Some p)) (IsNextDue now a.timing a.pairs (Some p))
-        → Has a.pairs p × (is_due now a.timing p ≡ true)
-    by true (has, due, first) = (has, due)
-    by false ((has, first), due) = (has, due)
+  -- the pair whose turn it is, is due, or asked along
+  pub due-or-along : (p : PairRecord) → IsNextInTurn now a (Some p) → (Has a.pairs p × (is_due now a.timing p ≡ true)) ⊎ AskedAlong p
+  due-or-along p h = by (is_ahead_turn now a) h where
+    either-ahead : IsNextAhead a.local a.remote (precedence a) a.next_kind now a.timing a.pairs (Some p) ⊎ AskedAlong p
+        → (Has a.pairs p × (is_due now a.timing p ≡ true)) ⊎ AskedAlong p
+    either-ahead (inl (has, due, first)) = inl (has, due)
+    either-ahead (inr along) = inr along
+
+    by : (b : Bool) → MatchBool b (GoesAhead now a (Some p)) (IsNextDue now a.timing a.pairs (Some p)) → (Has a.pairs p × (is_due now a.timing p ≡ true)) ⊎ AskedAlong p
+    by true goes = either-ahead (ahead-or-along p goes)
+    by false ((has, first), due) = inl (has, due)
+
+  pub turn-has : (p : PairRecord) → IsNextInTurn now a (Some p) → Has a.pairs p
+  turn-has p h = by (due-or-along p h) where
+    by : (Has a.pairs p × (is_due now a.timing p ≡ true)) ⊎ AskedAlong p → Has a.pairs p
+    by (inl due) = due.0
+    by (inr along) = along.there
 
   -- otherwise it is one of the pairs
   pub next-has : (p : PairRecord) → IsNextToCheck now a (Some p) → Has a.pairs p
   next-has p h = by (nominates_at_once a) h where
     by : (b : Bool) → MatchBool b (Some p ≡ pair_selected a.selected_pair a.pairs) (IsNextInTurn now a (Some p)) → Has a.pairs p
     by true selected = selected-has a.selected_pair a.pairs p selected
-    by false turn = (turn-is-due p turn).0
+    by false turn = turn-has p turn
 
   -- unless the check goes ahead, it is the pair that is due first
   pub next-in-turn : (next : Option PairRecord) → nominates_at_once a ≡ false → is_ahead_turn now a ≡ false → IsNextToCheck now a next → IsNextDue now a.timing a.pairs next
   next-in-turn next calm off h =
-      subst (λ b. MatchBool b (IsNextAhead a.local a.remote (precedence a) a.next_kind now a.timing a.pairs next) (IsNextDue now a.timing a.pairs next)) off (in-turn next calm h)
+      subst (λ b. MatchBool b (GoesAhead now a next) (IsNextDue now a.timing a.pairs next)) off (in-turn next calm h)
 
 -- ---- the pairs after the check
 

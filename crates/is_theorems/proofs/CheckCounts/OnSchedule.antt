@@ -168,7 +168,7 @@ module _ (t : StunTiming) (most : ℕ) where
       unless false off = refl
 
     delay-is : delay_of now t p ≡ (if is_modern t then repeated_delay now t p else usual_delay now t p.checks)
-    delay-is = ap (λ b. if is_modern t then (if b then min (hushed_delay t p) (repeated_delay now t p) else repeated_delay now t p) else usual_delay now t p.checks) unhushed
+    delay-is = ap (λ b. if is_modern t then (if b then min (hushed_delay now t p) (repeated_delay now t p) else repeated_delay now t p) else usual_delay now t p.checks) unhushed
 
     delay-least : least_delay t gap h.count ≤ delay_of now t p
     delay-least = subst (λ n. least_delay t gap h.count ≤ n) (sym delay-is) (repeated (is_modern t) (is_repeated_early now t p) refl refl) where

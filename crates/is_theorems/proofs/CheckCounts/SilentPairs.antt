@@ -46,7 +46,9 @@ use Rattle.is_theorems.proofs.PunctualTimeouts.UnchangedPacing.{Pace, gives-up-s
 use Rattle.is_theorems.proofs.RuleEffects.SelectedPaths.{one_pair}
 use Rattle.is_theorems.proofs.RuleEffects.UnchangedSettings.{either}
 use Rattle.is_theorems.proofs.CheckCounts.SilentTimeouts.{no-case, is_poll, latest, left-possible, checks-on}
-use Rattle.is_rules.specs.Leaving.{path_left, gives_way}
+use Rattle.is_theorems.proofs.RuleEffects.HastenedPairs.{only-due, Hastens}
+use Rattle.is_theorems.proofs.RuleEffects.UnhastenedPairs.{invalid-stays}
+use Rattle.is_rules.specs.Leaving.{gives_way, hastened, path_left, silent_gone}
 
 module _ {H P : Type 0} where
   -- ---- calls
@@ -177,9 +179,18 @@ module _ {H P : Type 0} where
         subst (λ (x : StunTiming). IsKept floor now (IsOnSchedule x most o now now) new.next_number new.pairs) kept_timing
         (checks-on mac most o floor now apart kept new (subst (λ (x : StunTiming). EndsWith x most) (sym kept_timing) ends) (subst (λ (x : StunTiming). 0 < x.max_retransmits) (sym kept_timing) limit)
         (subst (λ (x : StunTiming). (w : Watch) → o ≡ Some w → (w.requests ≡ 0) ⊎ IsPastRequests x most) (sym kept_timing) fits) goes_on possible valid at_kept kept.remote_creds s u issued checking) where
+          -- only valid pairs are hastened
+          hastened-on : (controlling : Bool) (p : PairRecord) → On now now p → On now now (hastened controlling now p)
+          hastened-on controlling p on = by (is_valid p) refl where
+            by : (b : Bool) → is_valid p ≡ b → On now now (hastened controlling now p)
+            by true valid = (rule now now).valid (hastened controlling now p) (ap (λ (x : PairRecord). is_valid x) (only-due controlling now p) ∙ valid)
+            by false invalid = subst (λ (x : PairRecord). On now now x) (sym (invalid-stays controlling now p invalid)) on
+
           at_named : At now now named
           at_named = nominates-kept floor now (On now now) (rule now now) (path_left now (at_timeout now old)) named first nominating
-              (kept-filter floor now (On now now) old.next_number (λ p. not (gives_way now (at_timeout now old) p)) old.pairs k)
+              (kept-map floor now (On now now) old.next_number (hastened (Hastens now (at_timeout now old)) now) (silent_gone now (at_timeout now old)).pairs
+              (λ p. ap (λ (x : PairRecord). x.number) (only-due (Hastens now (at_timeout now old)) now p)) (λ p has on. hastened-on (Hastens now (at_timeout now old)) p on)
+              (kept-filter floor now (On now now) old.next_number (λ p. not (gives_way now (at_timeout now old) p)) old.pairs k))
 
           left : kept.timing ≡ named.timing
           left = ap (λ (p : Pace). p.clock.timing) (gives-up-same now named kept second giving)

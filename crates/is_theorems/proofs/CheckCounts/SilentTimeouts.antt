@@ -1,5 +1,5 @@
--- A `handle_timeout` call leaves pairs on schedule: it removes those that are no longer possible, and then checks one that is due.
-use Rattle.std.proofs.Common.{◌≡◌, ℕ, ◌<◌, ◌≤◌, ◌&&◌, ◌||◌, Bool, true, false, not, nat_le, List, Option, Some, None, unwrap_or, inl, ◌⊎◌, refl, ap, sym, ◌∙◌, subst, arith, if◌then◌else◌}
+-- A `handle_timeout` call leaves pairs on schedule: it removes those that are no longer possible, and then checks one that is due or has a response.
+use Rattle.std.proofs.Common.{◌≡◌, ℕ, ◌<◌, ◌≤◌, ◌&&◌, ◌||◌, Bool, true, false, not, nat_le, List, Option, Some, None, unwrap_or, inl, inr, ◌⊎◌, refl, ap, sym, ◌∙◌, subst, arith, if◌then◌else◌}
 use Rattle.std.specs.Prelude.{MatchBool}
 use Rattle.std.specs.List.{list_any}
 use Rattle.std.proofs.lemmas.Bool.{eqb-true, eq-eqb}
@@ -12,6 +12,10 @@ use Rattle.is_stun.specs.Timing.{consent_of}
 use Rattle.is_pair.specs.Due as due
 use Rattle.is_pair.specs.Due.{asked, due_time_of, early_time, is_due, is_possible}
 use Rattle.is_pair.specs.Multiset.{change_at, change_pair, is_numbered}
+use Rattle.is_pair.specs.Silence.{outlives}
+use Rattle.is_pair.specs.States.{is_valid_state, state_once_sent}
+use Rattle.is_pair.specs.declared.pair.states.CheckState.{CheckState}
+use Rattle.is_pair.specs.declared.pair.states.CheckState.TheVariants.{Waiting, InProgress, Succeeded}
 use Rattle.is_pair.specs.Pairs.{PairRecord, checked, heard, heard_at, is_lite_alive, is_nominated, is_valid, nominated, with_request}
 use Rattle.is_rules.specs.declared.credentials.IceCreds.{IceCreds}
 use Rattle.is_rules.specs.declared.emitted.Issued.{Issued}
@@ -23,7 +27,7 @@ use Rattle.is_rules.specs.Steps.{Call, PollTimeout}
 use Rattle.is_rules.specs.Timeouts.{expired_gone, is_expired, RemovesExpired}
 use Rattle.is_rules.proofs.PairLists.ChosenPair.{found-in}
 use Rattle.is_theorems.specs.SilentPairs.{EndsWith, IsPastRequests}
-use Rattle.is_theorems.proofs.BasicLemmas.PairsInTurn.{in-turn, pairs-sent, sent-number, sent_at, turn-is-due}
+use Rattle.is_theorems.proofs.BasicLemmas.PairsInTurn.{due-or-along, in-turn, pairs-sent, sent-number, sent_at, AskedAlong}
 use Rattle.is_theorems.proofs.BasicLemmas.UsernamesAndFirstMatches.{any_has}
 use Rattle.is_theorems.proofs.CallEffects.ServedRequests.{Has-mapped}
 use Rattle.is_theorems.proofs.CheckCounts.KeptPairs.{IsKept, IsOfSilent, kept-change, kept-map}
@@ -66,6 +70,23 @@ possible-changed now t n c l p = by (is_numbered n p) where
   by : (b : Bool) → is_possible now t (if b then nominated_by_self c l p else p) ≡ is_possible now t p
   by true = possible-nominated now t (not (is_nominated p) && (c || l)) l p
   by false = refl
+
+-- a check leaves whether the pair is valid
+stays-valid : (begins : Bool) (now : ℕ) (t : StunTiming) (c : Bool) (id : List ℕ) (p : PairRecord) → is_valid (sent_at begins now t c id p) ≡ is_valid p
+stays-valid begins now t c id p = by begins where
+  once : (s : CheckState) → is_valid_state (state_once_sent s) ≡ is_valid_state s
+  once Waiting = refl
+  once InProgress = refl
+  once Succeeded = refl
+
+  by : (b : Bool) → is_valid (sent_at b now t c id p) ≡ is_valid p
+  by true = once p.state
+  by false = once p.state
+
+middle : (a b c : Bool) → (a && b && c) ≡ true → b ≡ true
+middle true true c h = refl
+middle true false c h = h
+middle false b c h = no-case h
 
 -- the number of the selected pair
 selected-number : (number : Option ℕ) (ps : List PairRecord) (p : PairRecord) → Some p ≡ pair_selected number ps → number ≡ Some p.number
@@ -160,16 +181,29 @@ module _ {H P : Type 0} where
             (subst (λ (x : PairRecord). Has (change_pair p.number change asking.pairs) x) (changed-is p.number change q same) (Has-mapped (change_at p.number change) asking.pairs q has)) in
             ruled.valid (change q) (named (change q) there (selects ∙ (selected ∙ ap Some (sym (number-kept q ∙ same)))))
 
-        -- or it is the turn of a pair that is due
-        turn : nominates_at_once asking ≡ false → (q : PairRecord) → Has asking.pairs q → q.number ≡ p.number → OnTime (change q)
-        turn calm q has same =
-            let due_now = turn-is-due now asking p (in-turn now asking (Some p) calm next) in
+        -- the pair is due
+        due-on : nominates_at_once asking ≡ false → Has asking.pairs p × (is_due now old.timing p ≡ true) → (q : PairRecord) → Has asking.pairs q → q.number ≡ p.number → OnTime (change q)
+        due-on calm due_now q has same =
             let one : q ≡ p = one_pair asking.pairs q p asks-on.rising has due_now.0 same in
             let was = Has-map (asked now old.timing) old.pairs q has in
             let is_due_now : is_due now old.timing (asked now old.timing was.0) ≡ true = ap (λ x. is_due now old.timing x) (was.2 ∙ one) ∙ due_now.1 in
             let sent : OnTime (checked now old.timing old.controlling id (asked now old.timing was.0)) =
             checked-on old.timing most ends limit o fits now old.controlling id was.0 goes_on (k.each was.0 was.1) (le-of (due_time_of now old.timing was.0) now is_due_now) (possible full was.0 was.1) in
             subst (λ b. OnTime (sent_at b now old.timing old.controlling id q)) (sym calm) (subst (λ (x : PairRecord). OnTime (checked now old.timing old.controlling id x)) was.2 sent)
+
+        -- or it is asked along, and valid
+        along-on : AskedAlong now asking p → (q : PairRecord) → Has asking.pairs q → q.number ≡ p.number → OnTime (change q)
+        along-on along q has same =
+            let one : q ≡ p = one_pair asking.pairs q p asks-on.rising has along.there same in
+            let valid : is_valid p ≡ true = middle (not (is_numbered along.selected.number p)) (is_valid p) (not (outlives along.silence p)) along.asked in
+            ruled.valid (change q) (stays-valid (nominates_at_once asking) now old.timing old.controlling id q ∙ (ap (λ (x : PairRecord). is_valid x) one ∙ valid))
+
+        -- it is the pair's turn
+        turn : nominates_at_once asking ≡ false → (q : PairRecord) → Has asking.pairs q → q.number ≡ p.number → OnTime (change q)
+        turn calm q has same = elim (due-or-along now asking p (in-turn now asking (Some p) calm next)) [
+          | inl due_now ↦ due-on calm due_now q has same
+          | inr along ↦ along-on along q has same
+        ]
 
         each : (q : PairRecord) → Has asking.pairs q → q.number ≡ p.number → OnTime q → OnTime (change q)
         each q has same _ = by (nominates_at_once asking) refl where

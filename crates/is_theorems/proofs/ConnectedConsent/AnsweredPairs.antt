@@ -16,7 +16,6 @@ use Rattle.is_stun.specs.declared.header.Class.{Class}
 use Rattle.is_stun.specs.declared.header.Class.TheVariants as class
 use Rattle.is_stun.specs.declared.timing.StunTiming.{StunTiming}
 use Rattle.is_stun.specs.Message.{Message}
-use Rattle.is_stun.specs.Timing.{consent_of}
 use Rattle.is_rules.specs.declared.credentials.IceCreds.{IceCreds}
 use Rattle.is_rules.specs.declared.emitted.Emitted.{Emitted}
 use Rattle.is_rules.specs.declared.emitted.Issued.{Issued}
@@ -51,7 +50,8 @@ use Rattle.is_theorems.proofs.RuleEffects.UnchangedSettings.{either}
 use Rattle.is_theorems.proofs.BasicLemmas.PairsInTurn.{by-begins, sent-pairs, sent_at}
 use Rattle.is_theorems.proofs.BasicLemmas.ServedPairs.{numbered-by}
 use Rattle.is_theorems.proofs.RuleEffects.NotedErrors.{coded, recoded, by_failure}
-use Rattle.is_rules.specs.Leaving.{path_left, gives_way}
+use Rattle.is_rules.specs.Leaving.{gives_way, hastened, path_left, silent_gone}
+use Rattle.is_theorems.proofs.RuleEffects.HastenedPairs.{by-hastened, Hastens}
 
 -- ---- one pair
 
@@ -216,8 +216,12 @@ module _ {H P : Type 0} where
   maintains-firm : (mac : H → List ℕ → List ℕ → List ℕ) (now : ℕ) (old new : AgentRecord H P) (s t : Stream) (emitted : Emitted) → MaintainsPairs mac now old s emitted new t → Keeps old new
   maintains-firm mac now old new s t emitted (first, second, issued, named, kept, nominating, giving, checking, is) f =
       check-firm mac now kept.remote_creds kept new s t issued checking
-      (gives-up-firm now named kept second giving (nominates-firm (path_left now (at_timeout now old)) named first nominating
-      (f.0, answered-filter (λ p. not (gives_way now (at_timeout now old) p)) old.pairs f.1)))
+      (gives-up-firm now named kept second giving (nominates-firm (path_left now (at_timeout now old)) named first nominating (
+        f.0,
+        answered-map (hastened (Hastens now (at_timeout now old)) now) (silent_gone now (at_timeout now old)).pairs
+            (λ p a. by-hastened (λ x. IsAnswered x) (Hastens now (at_timeout now old)) now p (λ at. a) a)
+            (answered-filter (λ p. not (gives_way now (at_timeout now old) p)) old.pairs f.1),
+      )))
 
   -- ---- responses
 

@@ -1,5 +1,6 @@
--- What nomination and removal leave of a list of pairs: fewer of them, each due as it was.
-use Rattle.std.proofs.Common.{◌≡◌, ℕ, ◌≤◌, ◌&&◌, ◌||◌, Bool, true, false, not, List, [], ◌∷◌, length, map, filter, nat_le, nat_lt, Option, Some, None, is_some, unwrap_or, inl, inr, ◌⊎◌, refl, ap, sym, ◌∙◌, subst, arith, if◌then◌else◌}
+-- What nomination and removal leave of a list of pairs: fewer of them, each due as it was. As a silent path is left, pairs may become due
+-- sooner, but only after the call.
+use Rattle.std.proofs.Common.{◌≡◌, ℕ, ◌<◌, ◌≤◌, ◌&&◌, ◌||◌, Bool, true, false, not, min, List, [], ◌∷◌, length, map, filter, nat_le, nat_lt, Option, Some, None, is_some, option_map, unwrap_or, inl, inr, ◌⊎◌, refl, ap, sym, ◌∙◌, subst, arith, if◌then◌else◌}
 use Rattle.std.specs.List.{list_any}
 use Rattle.std.specs.Option.{option_map_or}
 use Rattle.is_proto.specs.Lists.{Has}
@@ -29,7 +30,9 @@ use Rattle.is_theorems.specs.Progress.{IsGone, ChecksInTurn}
 use Rattle.is_theorems.specs.Reached.{IsLasting}
 use Rattle.is_rules.specs.Sound.{IsSound}
 use Rattle.std.proofs.lemmas.Bool.Decides.{nat_tests}
-use Rattle.is_rules.specs.Leaving.{gives_way, may_replace, path_left}
+use Rattle.is_rules.specs.Due.{awaits_nomination}
+use Rattle.is_rules.specs.Leaving.{gives_way, hastened, is_silent_enough, may_replace, path_left, silent_gone}
+use Rattle.is_theorems.proofs.RuleEffects.HastenedPairs.{due_next, Hastens}
 
 -- ---- lists
 
@@ -77,46 +80,126 @@ alike-on p q r a b = record {
 abbrev pub is_fixed_by : ℕ → PairRecord → Bool
 is_fixed_by by p = nat_le (unwrap_or p.due 0) by
 
-pub record Thinned (by : ℕ) (old new : List PairRecord) : Type 0 where
-  pub distinct : Distinct old → Distinct new
-  pub back : (q : PairRecord) → Has new q → (p : PairRecord) × Has old p × Alike p q
-  pub forth : Distinct old → (p : PairRecord) → Has old p → ((q : PairRecord) × Has new q × Alike p q) ⊎ IsGone p.number new
-  pub fewer : length (filter (is_fixed_by by) new) ≤ length (filter (is_fixed_by by) old)
+-- the same pair; it may be due sooner, but not before this time
+pub record Akin (to : ℕ) (p q : PairRecord) : Type 0 where
+  pub number : q.number ≡ p.number
+  pub local : q.local ≡ p.local
+  pub remote : q.remote ≡ p.remote
+  pub fixed : is_some q.due ≡ is_some p.due
+  pub sooner : unwrap_or q.due 0 ≤ unwrap_or p.due 0
+  pub early : (by : ℕ) → by < to → is_fixed_by by q ≡ true → is_fixed_by by p ≡ true
+  pub checks : q.checks ≡ p.checks
+  pub valid : is_valid q ≡ is_valid p
+  pub consented : q.consented ≡ p.consented
+  pub heard : q.last_request ≡ p.last_request
 
-pub thinned-same : (by : ℕ) (ps : List PairRecord) → Thinned by ps ps
-thinned-same by ps = record {
-  distinct = λ d. d;
-  back = λ q has. (q, has, alike-same q);
-  forth = λ d p has. inl (p, has, alike-same p);
-  fewer = omega arith;
+pub alike-akin : (to : ℕ) (p q : PairRecord) → Alike p q → Akin to p q
+alike-akin to p q a = record {
+  number = a.number;
+  local = a.local;
+  remote = a.remote;
+  fixed = ap is_some a.due;
+  sooner = subst (λ o. unwrap_or o 0 ≤ unwrap_or p.due 0) (sym a.due) (omega arith);
+  early = λ by late is. ap (λ o. nat_le (unwrap_or o 0) by) (sym a.due) ∙ is;
+  checks = a.checks;
+  valid = a.valid;
+  consented = a.consented;
+  heard = a.heard;
 }
 
-gone-on : (by : ℕ) (xs ys : List PairRecord) (n : ℕ) → Thinned by xs ys → IsGone n xs → IsGone n ys
-gone-on by xs ys n t gone q has same = let o = t.back q has in gone o.0 o.1 (sym o.2.number ∙ same)
+akin-same : (to : ℕ) (p : PairRecord) → Akin to p p
+akin-same to p = alike-akin to p p (alike-same p)
 
-pub thinned-on : (by : ℕ) (xs ys zs : List PairRecord) → Thinned by xs ys → Thinned by ys zs → Thinned by xs zs
-thinned-on by xs ys zs a b = record {
+akin-on : (to : ℕ) (p q r : PairRecord) → Akin to p q → Akin to q r → Akin to p r
+akin-on to p q r a b = record {
+  number = b.number ∙ a.number;
+  local = b.local ∙ a.local;
+  remote = b.remote ∙ a.remote;
+  fixed = b.fixed ∙ a.fixed;
+  sooner = (let first = a.sooner in let second = b.sooner in omega (arith, first, second));
+  early = λ by late is. a.early by late (b.early by late is);
+  checks = b.checks ∙ a.checks;
+  valid = b.valid ∙ a.valid;
+  consented = b.consented ∙ a.consented;
+  heard = b.heard ∙ a.heard;
+}
+
+le-after : (by to d : ℕ) → by < to → nat_le (min to d) by ≡ true → nat_le d by ≡ true
+le-after by to d late is = grind (arith, nat_tests, late, is)
+
+-- a pair whose due time is moved up
+moved-akin : (to : ℕ) (p : PairRecord) → Akin to p (due.moved_up to p)
+moved-akin to p = record {
+  number = refl;
+  local = refl;
+  remote = refl;
+  fixed = fixed p.due;
+  sooner = sooner p.due;
+  early = λ by late. early by late p.due;
+  checks = refl;
+  valid = refl;
+  consented = refl;
+  heard = refl;
+} where
+  fixed : (o : Option ℕ) → is_some (option_map (min to) o) ≡ is_some o
+  fixed None = refl
+  fixed (Some d) = refl
+
+  sooner : (o : Option ℕ) → unwrap_or (option_map (min to) o) 0 ≤ unwrap_or o 0
+  sooner None = omega arith
+  sooner (Some d) = omega arith
+
+  early : (by : ℕ) → by < to → (o : Option ℕ) → nat_le (unwrap_or (option_map (min to) o) 0) by ≡ true → nat_le (unwrap_or o 0) by ≡ true
+  early by late None is = is
+  early by late (Some d) is = le-after by to d late is
+
+pub hastened-akin : (c : Bool) (now : ℕ) (p : PairRecord) → Akin (due_next now) p (hastened c now p)
+hastened-akin c now p = by (awaits_nomination c p) where
+  by : (b : Bool) → Akin (due_next now) p (if b then due.moved_up (due_next now) p else p)
+  by true = moved-akin (due_next now) p
+  by false = akin-same (due_next now) p
+
+-- Fewer pairs, some of which may be due sooner: none of them before this time.
+pub record Thinned (to : ℕ) (old new : List PairRecord) : Type 0 where
+  pub distinct : Distinct old → Distinct new
+  pub back : (q : PairRecord) → Has new q → (p : PairRecord) × Has old p × Akin to p q
+  pub forth : Distinct old → (p : PairRecord) → Has old p → ((q : PairRecord) × Has new q × Akin to p q) ⊎ IsGone p.number new
+  pub fewer : (by : ℕ) → by < to → length (filter (is_fixed_by by) new) ≤ length (filter (is_fixed_by by) old)
+
+pub thinned-same : (to : ℕ) (ps : List PairRecord) → Thinned to ps ps
+thinned-same to ps = record {
+  distinct = λ d. d;
+  back = λ q has. (q, has, akin-same to q);
+  forth = λ d p has. inl (p, has, akin-same to p);
+  fewer = λ by late. omega arith;
+}
+
+gone-on : (to : ℕ) (xs ys : List PairRecord) (n : ℕ) → Thinned to xs ys → IsGone n xs → IsGone n ys
+gone-on to xs ys n t gone q has same = let o = t.back q has in gone o.0 o.1 (sym o.2.number ∙ same)
+
+pub thinned-on : (to : ℕ) (xs ys zs : List PairRecord) → Thinned to xs ys → Thinned to ys zs → Thinned to xs zs
+thinned-on to xs ys zs a b = record {
   distinct = λ d. b.distinct (a.distinct d);
-  back = λ r has. (let o = b.back r has in let n = a.back o.0 o.1 in (n.0, n.1, alike-on n.0 o.0 r n.2 o.2));
+  back = λ r has. (let o = b.back r has in let n = a.back o.0 o.1 in (n.0, n.1, akin-on to n.0 o.0 r n.2 o.2));
   forth = λ d p has. elim (a.forth d p has) [
     | inl k ↦ elim (b.forth (a.distinct d) k.0 k.1) [
-      | inl l ↦ inl (l.0, l.1, alike-on p k.0 l.0 k.2 l.2)
+      | inl l ↦ inl (l.0, l.1, akin-on to p k.0 l.0 k.2 l.2)
       | inr gone ↦ inr (λ q there. (let apart = gone q there in λ same. apart (same ∙ sym k.2.number)))
     ]
-    | inr gone ↦ inr (gone-on by ys zs p.number b gone)
+    | inr gone ↦ inr (gone-on to ys zs p.number b gone)
   ];
-  fewer = (let f = a.fewer in let g = b.fewer in omega (arith, f, g));
+  fewer = λ by late. (let f = a.fewer by late in let g = b.fewer by late in omega (arith, f, g));
 }
 
-pub thinned-map : (by : ℕ) (f : PairRecord → PairRecord) (ps : List PairRecord) → ((p : PairRecord) → Alike p (f p)) → Thinned by ps (map f ps)
-thinned-map by f ps alike = record {
+pub thinned-map : (to : ℕ) (f : PairRecord → PairRecord) (ps : List PairRecord) → ((p : PairRecord) → Akin to p (f p)) → Thinned to ps (map f ps)
+thinned-map to f ps alike = record {
   distinct = λ d x y has_x has_y same.
       (let a = Has-map f ps x has_x in let b = Has-map f ps y has_y in
       let one : a.0 ≡ b.0 = d a.0 b.0 a.1 b.1 (sym (alike a.0).number ∙ (ap (λ (p : PairRecord). p.number) a.2 ∙ (same ∙ (ap (λ (p : PairRecord). p.number) (sym b.2) ∙ (alike b.0).number)))) in
       sym a.2 ∙ (ap f one ∙ b.2));
-  back = λ q has. (let o = Has-map f ps q has in (o.0, o.1, subst (λ (x : PairRecord). Alike o.0 x) o.2 (alike o.0)));
+  back = λ q has. (let o = Has-map f ps q has in (o.0, o.1, subst (λ (x : PairRecord). Akin to o.0 x) o.2 (alike o.0)));
   forth = λ d p has. inl (f p, Has-mapped f ps p has, alike p);
-  fewer = no-more (is_fixed_by by) (is_fixed_by by) f ps (λ p has is. sym (ap (λ o. nat_le (unwrap_or o 0) by) (alike p).due) ∙ is);
+  fewer = λ by late. no-more (is_fixed_by by) (is_fixed_by by) f ps (λ p has is. (alike p).early by late is);
 }
 
 pub Has-kept : {X : Type 0} (keep : X → Bool) (xs : List X) (x : X) → Has xs x → keep x ≡ true → Has (filter keep xs) x
@@ -138,15 +221,15 @@ passed keep (y ∷ ys) x has =
       | false ↦ λ is h. passed keep ys x h
     ] refl has
 
-pub thinned-filter : (by : ℕ) (keep : PairRecord → Bool) (ps : List PairRecord) → Thinned by ps (filter keep ps)
-thinned-filter by keep ps = record {
+pub thinned-filter : (to : ℕ) (keep : PairRecord → Bool) (ps : List PairRecord) → Thinned to ps (filter keep ps)
+thinned-filter to keep ps = record {
   distinct = λ d x y has_x has_y same. d x y (Has-filter keep ps x has_x) (Has-filter keep ps y has_y) same;
-  back = λ q has. (q, Has-filter keep ps q has, alike-same q);
+  back = λ q has. (q, Has-filter keep ps q has, akin-same to q);
   forth = λ d p has. apart d p has (keep p) refl;
-  fewer = thinner (is_fixed_by by) keep ps;
+  fewer = λ by late. thinner (is_fixed_by by) keep ps;
 } where
-  apart : Distinct ps → (p : PairRecord) → Has ps p → (b : Bool) → keep p ≡ b → ((q : PairRecord) × Has (filter keep ps) q × Alike p q) ⊎ IsGone p.number (filter keep ps)
-  apart d p has true is = inl (p, Has-kept keep ps p has is, alike-same p)
+  apart : Distinct ps → (p : PairRecord) → Has ps p → (b : Bool) → keep p ≡ b → ((q : PairRecord) × Has (filter keep ps) q × Akin to p q) ⊎ IsGone p.number (filter keep ps)
+  apart d p has true is = inl (p, Has-kept keep ps p has is, akin-same to p)
   apart d p has false is = inr (λ q there same.
       (let one : q ≡ p = d q p (Has-filter keep ps q there) has same in
       let no : true ≡ false = sym (passed keep ps q there) ∙ (ap keep one ∙ is) in cc))
@@ -179,12 +262,12 @@ at-alike n c l p = apart (is_numbered n p) where
   apart true = self-alike c l p
   apart false = alike-same p
 
-fifth-off : (a b c d e f : Bool) → e ≡ false → (a && b && c && d && e && f) ≡ false
-fifth-off true true true true e f is = ap (λ x. x && f) is
-fifth-off true true true false e f is = refl
-fifth-off true true false d e f is = refl
-fifth-off true false c d e f is = refl
-fifth-off false b c d e f is = refl
+fifth-off : (a b c d e f g : Bool) → e ≡ false → (a && b && c && d && e && f && g) ≡ false
+fifth-off true true true true e f g is = ap (λ x. x && f && g) is
+fifth-off true true true false e f g is = refl
+fifth-off true true false d e f g is = refl
+fifth-off true false c d e f g is = refl
+fifth-off false b c d e f g is = refl
 
 not-under : (n m : ℕ) → nat_lt n m ≡ true → nat_le m n ≡ false
 not-under n m h = grind (arith, nat_tests, h)
@@ -259,47 +342,55 @@ module _ {H P : Type 0} where
   pub turns-by : (x : Base) (a : AgentRecord H P) → base_of a ≡ x → (x.controlling && (x.renominates && is_modern x.timing)) ≡ false → ChecksInTurn a
   turns-by x a same turn = ap (λ (y : Base). y.controlling && (y.renominates && is_modern y.timing)) same ∙ turn
 
+  -- pairs aside the same, and these are fewer
   abbrev pub Thins : ℕ → AgentRecord H P → AgentRecord H P → Type 0
-  Thins by old new = (base_of new ≡ base_of old) × Thinned by old.pairs new.pairs
+  Thins to old new = (base_of new ≡ base_of old) × Thinned to old.pairs new.pairs
 
-  pub thins-same : (by : ℕ) (old new : AgentRecord H P) → new ≡ old → Thins by old new
-  thins-same by old new is = subst (λ (a : AgentRecord H P). Thins by old a) (sym is) (refl, thinned-same by old.pairs)
+  pub thins-same : (to : ℕ) (old new : AgentRecord H P) → new ≡ old → Thins to old new
+  thins-same to old new is = subst (λ (a : AgentRecord H P). Thins to old a) (sym is) (refl, thinned-same to old.pairs)
 
-  pub thins-on : (by : ℕ) (x y z : AgentRecord H P) → Thins by x y → Thins by y z → Thins by x z
-  thins-on by x y z a b = (b.0 ∙ a.0, thinned-on by x.pairs y.pairs z.pairs a.1 b.1)
+  pub thins-on : (to : ℕ) (x y z : AgentRecord H P) → Thins to x y → Thins to y z → Thins to x z
+  thins-on to x y z a b = (b.0 ∙ a.0, thinned-on to x.pairs y.pairs z.pairs a.1 b.1)
 
-  pub nominates-thins : (by : ℕ) (old new : AgentRecord H P) (path : Option Path) → Nominates old path new → Thins by old new
-  nominates-thins by old new path h = from (selects_path old new path h) where
-    from : SelectsPath old path new → Thins by old new
-    from (None, none, (is, same)) = thins-same by old new same
+  pub nominates-thins : (to : ℕ) (old new : AgentRecord H P) (path : Option Path) → Nominates old path new → Thins to old new
+  nominates-thins to old new path h = from (selects_path old new path h) where
+    from : SelectsPath old path new → Thins to old new
+    from (None, none, (is, same)) = thins-same to old new same
     from (Some top, greatest, k) = either (remains (followed old) top (selection_of old)) k
-        (λ _ l. thins-same by old new l.1)
-        (λ _ l. subst (λ (a : AgentRecord H P). Thins by old a) (sym l.1)
-        (refl, thinned-map by (change_at top.number (nominated_by_self old.controlling old.lite)) old.pairs (at-alike top.number old.controlling old.lite)))
+        (λ _ l. thins-same to old new l.1)
+        (λ _ l. subst (λ (a : AgentRecord H P). Thins to old a) (sym l.1) (
+          refl,
+          thinned-map to (change_at top.number (nominated_by_self old.controlling old.lite)) old.pairs
+              (λ p. alike-akin to p (change_at top.number (nominated_by_self old.controlling old.lite) p) (at-alike top.number old.controlling old.lite p)),
+        ))
 
-  pub gives-up-thins : (by now : ℕ) (old new : AgentRecord H P) (path : Option Path) → RemovesExpired now old path new → Thins by old new
-  gives-up-thins by now old new path h = either (list_any (is_expired now old) old.pairs) h
+  pub gives-up-thins : (to now : ℕ) (old new : AgentRecord H P) (path : Option Path) → RemovesExpired now old path new → Thins to old new
+  gives-up-thins to now old new path h = either (list_any (is_expired now old) old.pairs) h
       (λ _ k. (
-      let a : Thins by old (expired_gone now old) = (refl, thinned-filter by (λ p. not (is_expired now old p)) old.pairs) in
-      let b : Thins by (expired_gone now old) k.0 = nominates-thins by (expired_gone now old) k.0 path k.1 in
-      let c : Thins by k.0 new = subst (λ (a : AgentRecord H P). Thins by k.0 a) (sym k.2) (refl, thinned-same by k.0.pairs) in
-      thins-on by old k.0 new (thins-on by old (expired_gone now old) k.0 a b) c))
-      (λ _ k. subst (λ (a : AgentRecord H P). Thins by old a) (sym k.1) (refl, thinned-same by old.pairs))
+      let a : Thins to old (expired_gone now old) = (refl, thinned-filter to (λ p. not (is_expired now old p)) old.pairs) in
+      let b : Thins to (expired_gone now old) k.0 = nominates-thins to (expired_gone now old) k.0 path k.1 in
+      let c : Thins to k.0 new = subst (λ (a : AgentRecord H P). Thins to k.0 a) (sym k.2) (refl, thinned-same to k.0.pairs) in
+      thins-on to old k.0 new (thins-on to old (expired_gone now old) k.0 a b) c))
+      (λ _ k. subst (λ (a : AgentRecord H P). Thins to old a) (sym k.1) (refl, thinned-same to old.pairs))
 
   -- ---- a path that is left before nomination
 
-  pub leaves-thins : (by now : ℕ) (a : AgentRecord H P) → Thins by a (path_left now a)
-  leaves-thins by now a = (refl, thinned-filter by (λ p. not (gives_way now a p)) a.pairs)
+  pub leaves-thins : (now : ℕ) (a : AgentRecord H P) → Thins (due_next now) a (path_left now a)
+  leaves-thins now a = (
+    refl,
+    thinned-on (due_next now) a.pairs (silent_gone now a).pairs (path_left now a).pairs (thinned-filter (due_next now) (λ p. not (gives_way now a p)) a.pairs)
+        (thinned-map (due_next now) (hastened (Hastens now a) now) (silent_gone now a).pairs (hastened-akin (Hastens now a) now)),
+  )
 
-  pub names-thins : (by now : ℕ) (old named : AgentRecord H P) (path : Option Path) → Nominates (path_left now old) path named → Thins by old named
-  names-thins by now old named path h = thins-on by old (path_left now old) named (leaves-thins by now old) (nominates-thins by (path_left now old) named path h)
+  pub names-thins : (now : ℕ) (old named : AgentRecord H P) (path : Option Path) → Nominates (path_left now old) path named → Thins (due_next now) old named
+  names-thins now old named path h = thins-on (due_next now) old (path_left now old) named (leaves-thins now old) (nominates-thins (due_next now) (path_left now old) named path h)
 
   -- ---- a pair that was checked less often than the limit stays
 
   pub keeps-young : (now : ℕ) (a : AgentRecord H P) (p : PairRecord) → nat_lt (unanswered_count p.checks) a.timing.max_retransmits ≡ true → gives_way now a p ≡ false
   keeps-young now a p young =
       fifth-off (is_modern a.timing) (not a.lite) (is_named_by a.selected_pair p) (is_eligible a.controlling p) (nat_le a.timing.max_retransmits (unanswered_count p.checks))
-      (option_map_or (λ silence. list_any (may_replace now a p.number silence) a.pairs) (silence_of p.checks) false) (not-under (unanswered_count p.checks) a.timing.max_retransmits young)
+      (is_silent_enough now a.timing p) (option_map_or (λ silence. list_any (may_replace now a p.number silence) a.pairs) (silence_of p.checks) false) (not-under (unanswered_count p.checks) a.timing.max_retransmits young)
 
   pub lasts-young : (now : ℕ) (a : AgentRecord H P) (p : PairRecord) → a.lite ≡ false → due.stays_answered (consent_of a.timing) now p ≡ true
       → nat_lt (unanswered_count p.checks) a.timing.max_retransmits ≡ true → not (is_expired now a p || gives_way now a p) ≡ true
@@ -308,9 +399,6 @@ module _ {H P : Type 0} where
         neither : (b : Bool) → not b ≡ true → not (b || false) ≡ true
         neither true h = h
         neither false h = refl
-
-  pub leaves-has : (now : ℕ) (a : AgentRecord H P) (p : PairRecord) → Has a.pairs p → nat_lt (unanswered_count p.checks) a.timing.max_retransmits ≡ true → Has (path_left now a).pairs p
-  leaves-has now a p has young = Has-kept (λ q. not (gives_way now a q)) a.pairs p has (ap not (keeps-young now a p young))
 
   pub nominates-has : (old new : AgentRecord H P) (path : Option Path) → Nominates old path new → (p : PairRecord) → Has old.pairs p → (q : PairRecord) × Has new.pairs q × Alike p q
   nominates-has old new path h p has = from (selects_path old new path h) where

@@ -12,12 +12,12 @@ use Rattle.is_pair.specs.Checks.{Check, last_check, unanswered_count, last_round
 use Rattle.is_pair.specs.States.{is_nominating, is_nominated_state}
 use Rattle.is_pair.specs.declared.pair.states.NominationState.{NominationState}
 use Rattle.is_pair.specs.declared.pair.states.NominationState.TheVariants.{None as Unnominated, Nominated, Attempt, Success}
-use Rattle.is_pair.specs.Due.{early_time, is_within, computed_due_time, delay_of, due_time_of, is_triggered, moved_up, next_due_time, triggered, usual_delay, hushed_interval, LATENESS}
+use Rattle.is_pair.specs.Due.{early_time, is_within, computed_due_time, delay_of, due_time_of, is_triggered, moved_up, next_due_time, triggered, usual_delay, HUSHED_INTERVAL, HUSHED_TIME, LATENESS, SHORT_INTERVAL}
 use Rattle.is_pair.specs.Multiset.{is_numbered, change_at, passes_at, is_valid_at}
 use Rattle.is_stun.specs.declared.header.Class.{Class}
 use Rattle.is_stun.specs.declared.header.Class.TheVariants as class
 use Rattle.is_stun.specs.declared.timing.StunTiming.{StunTiming}
-use Rattle.is_stun.specs.Timing.{early_delay, timeout_of, is_modern}
+use Rattle.is_stun.specs.Timing.{early_delay, is_modern}
 use Rattle.is_stun.specs.Message.{Message}
 use Rattle.is_rules.specs.declared.credentials.IceCreds.{IceCreds}
 use Rattle.is_rules.specs.declared.places.RemotePlace.{RemotePlace}
@@ -65,27 +65,32 @@ pub record CheckedAlike (p q : PairRecord) : Type 0 where
   pub answers : q.answers ≡ p.answers
   pub nomination : q.nomination ≡ p.nomination
   pub valid : is_valid q ≡ is_valid p
+  pub consented : q.consented ≡ p.consented
 
 delay-same : (now : ℕ) (t : StunTiming) (p q : PairRecord) → CheckedAlike p q → delay_of now t q ≡ delay_of now t p
 delay-same now t p q alike =
-    ap (λ n. by n q.nomination q.checks q.checks_sent q.first_sent q.first_after_request (is_valid q)) alike.answers
-    ∙ ap (λ s. by p.answers s q.checks q.checks_sent q.first_sent q.first_after_request (is_valid q)) alike.nomination
-    ∙ ap (λ cs. by p.answers p.nomination cs q.checks_sent q.first_sent q.first_after_request (is_valid q)) alike.checks
-    ∙ ap (λ k. by p.answers p.nomination p.checks k q.first_sent q.first_after_request (is_valid q)) alike.sent
-    ∙ ap (λ at. by p.answers p.nomination p.checks p.checks_sent at q.first_after_request (is_valid q)) alike.first
-    ∙ ap (λ at. by p.answers p.nomination p.checks p.checks_sent p.first_sent at (is_valid q)) alike.again
-    ∙ ap (λ v. by p.answers p.nomination p.checks p.checks_sent p.first_sent p.first_after_request v) alike.valid where
+    ap (λ n. by n q.nomination q.checks q.checks_sent q.first_sent q.first_after_request (is_valid q) q.consented) alike.answers
+    ∙ ap (λ s. by p.answers s q.checks q.checks_sent q.first_sent q.first_after_request (is_valid q) q.consented) alike.nomination
+    ∙ ap (λ cs. by p.answers p.nomination cs q.checks_sent q.first_sent q.first_after_request (is_valid q) q.consented) alike.checks
+    ∙ ap (λ k. by p.answers p.nomination p.checks k q.first_sent q.first_after_request (is_valid q) q.consented) alike.sent
+    ∙ ap (λ at. by p.answers p.nomination p.checks p.checks_sent at q.first_after_request (is_valid q) q.consented) alike.first
+    ∙ ap (λ at. by p.answers p.nomination p.checks p.checks_sent p.first_sent at (is_valid q) q.consented) alike.again
+    ∙ ap (λ v. by p.answers p.nomination p.checks p.checks_sent p.first_sent p.first_after_request v q.consented) alike.valid
+    ∙ ap (λ had. by p.answers p.nomination p.checks p.checks_sent p.first_sent p.first_after_request (is_valid p) had) alike.consented where
       repeated : ℕ → NominationState → List Check → ℕ → Option ℕ → Option ℕ → ℕ
       repeated n s cs sent first again =
           if (if n == 0 then is_within (early_time t) now first || is_within (early_time t) now again else is_nominating s && nat_lt (unanswered_count cs) t.max_retransmits)
           then early_delay (if n == 0 then sent else unanswered_count cs)
           else usual_delay now t cs
 
-      by : ℕ → NominationState → List Check → ℕ → Option ℕ → Option ℕ → Bool → ℕ
-      by n s cs sent first again v =
+      interval : List Check → Option ℕ → ℕ
+      interval cs had = if nat_lt (unanswered_count cs) t.max_retransmits || is_within (later t.max_rto.0 HUSHED_TIME) now had then SHORT_INTERVAL else HUSHED_INTERVAL
+
+      by : ℕ → NominationState → List Check → ℕ → Option ℕ → Option ℕ → Bool → Option ℕ → ℕ
+      by n s cs sent first again v had =
           if is_modern t
           then (if v && is_nominated_state s && nat_lt 0 (unanswered_count cs)
-          then min (max (hushed_interval t (unanswered_count cs)) (later (unwrap_or (last_round_trip cs) 0) LATENESS)) (repeated n s cs sent first again)
+          then min (max (interval cs had) (later (unwrap_or (last_round_trip cs) 0) LATENESS)) (repeated n s cs sent first again)
           else repeated n s cs sent first again)
           else usual_delay now t cs
 
@@ -131,7 +136,7 @@ coded-alike by at t code p = record {
   stays = λ m le now. subst (λ k. k ≤ by) (sym (same_due m)) le;
 } where
   same_due : (m : ℕ) → due_time_of m t (coded code p) ≡ due_time_of m t p
-  same_due m = ap (λ k. unwrap_or p.due (min k (later m t.max_rto.0))) (computed-same p.nomination m t p (coded code p) (record { checks = refl; sent = refl; first = refl; again = refl; answers = refl; nomination = refl; valid = refl }))
+  same_due m = ap (λ k. unwrap_or p.due (min k (later m t.max_rto.0))) (computed-same p.nomination m t p (coded code p) (record { checks = refl; sent = refl; first = refl; again = refl; answers = refl; nomination = refl; valid = refl; consented = refl }))
 
 -- computed at the same time
 due-before : (by at : ℕ) (t : StunTiming) (p q : PairRecord) → DueAlike by at t p q → due_time_of at t q ≤ by → due_time_of at t p ≤ by
@@ -269,7 +274,7 @@ moved-stays by to x (Some d) le = omega (arith, le)
 moved-due : (now to : ℕ) (t : StunTiming) (p : PairRecord)
     → due_time_of now t (moved_up to p) ≡ unwrap_or (option_map (min to) p.due) (min (computed_due_time p.nomination now t p) (later now t.max_rto.0))
 moved-due now to t p =
-    ap (λ n. unwrap_or (option_map (min to) p.due) (min n (later now t.max_rto.0))) (computed-same p.nomination now t p (moved_up to p) (record { checks = refl; sent = refl; first = refl; again = refl; answers = refl; nomination = refl; valid = refl }))
+    ap (λ n. unwrap_or (option_map (min to) p.due) (min n (later now t.max_rto.0))) (computed-same p.nomination now t p (moved_up to p) (record { checks = refl; sent = refl; first = refl; again = refl; answers = refl; nomination = refl; valid = refl; consented = refl }))
 
 triggered-alike : (by at to : ℕ) (t : StunTiming) (modern : Bool) (p : PairRecord) → by < to → DueAlike by at t p (triggered modern to p)
 triggered-alike by at to t modern p late = moved (modern && is_triggered p) where
@@ -303,7 +308,7 @@ module _ (to : ℕ) (n : ℕ) (q : RequestRecord) (modern : Bool) where
   served-alike : (by at : ℕ) (t : StunTiming) (c l : Bool) (p : PairRecord) → c ≡ true → l ≡ false → by < to → DueAlike by at t p (change_at n (λ x. served c l q (triggered modern to x)) p)
   served-alike by at t true false p is full late = numbered (is_numbered n p) where
     recorded-due : (m : ℕ) (x : PairRecord) → due_time_of m t (with_request q.time x) ≡ due_time_of m t x
-    recorded-due m x = ap (λ k. unwrap_or x.due (min k (later m t.max_rto.0))) (computed-same x.nomination m t x (with_request q.time x) (record { checks = refl; sent = refl; first = refl; again = refl; answers = refl; nomination = refl; valid = refl }))
+    recorded-due m x = ap (λ k. unwrap_or x.due (min k (later m t.max_rto.0))) (computed-same x.nomination m t x (with_request q.time x) (record { checks = refl; sent = refl; first = refl; again = refl; answers = refl; nomination = refl; valid = refl; consented = refl }))
 
     recorded-alike : (x : PairRecord) → DueAlike by at t x (with_request q.time x)
     recorded-alike x = record {

@@ -8,7 +8,7 @@ use Rattle.is_proto.specs.Lists.{Has}
 use Rattle.is_proto.specs.Times.{MAX, SECOND, later}
 use Rattle.is_pair.specs.Due.{asked, consent_end, has_consent, heard_until, is_answered_lately, is_heard, is_pair_expired, is_possible}
 use Rattle.is_pair.specs.Multiset.{change_at, is_numbered}
-use Rattle.is_pair.specs.Pairs.{PairRecord, checked, is_recent}
+use Rattle.is_pair.specs.Pairs.{PairRecord, is_recent}
 use Rattle.is_stun.specs.declared.timing.Consent.{Consent}
 use Rattle.is_stun.specs.declared.timing.StunTiming.{StunTiming}
 use Rattle.is_stun.specs.Timing.{consent_of}
@@ -139,7 +139,7 @@ module _ {H P : Type 0} where
     pub maintains-consents : (now : ℕ) (old new : AgentRecord H P) (s t : Stream) (emitted : Emitted) → old.lite ≡ false → MaintainsPairs mac now old s emitted new t
         → (new.timing ≡ old.timing) × Leaves old.pairs new.pairs × HaveConsent now new
     maintains-consents now old new s t emitted full (first, second, issued, named, kept, nominating, giving, checking, is) =
-        let a = names-thins 0 now (at_timeout now old) named first nominating in
+        let a = names-thins now (at_timeout now old) named first nominating in
         let b = gives-up-thins 0 now named kept second giving in
         let named_full : named.lite ≡ false = ap (λ (x : Base). x.lite) a.0 ∙ full in
         let kept_full : kept.lite ≡ false = ap (λ (x : Base). x.lite) b.0 ∙ named_full in

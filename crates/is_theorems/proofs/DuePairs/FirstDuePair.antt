@@ -27,6 +27,7 @@ use Rattle.is_rules.specs.Sending.{path_of}
 use Rattle.is_rules.specs.Checking.{all_asked, all_heard, are_kinds_in_turn, check_sent, has_first, is_ahead_turn, IsNextToCheck, ChecksTop, ChecksNext, MayCheck}
 use Rattle.is_rules.specs.Timeouts.{at_timeout, MaintainsPairs, RemovesExpired}
 use Rattle.is_theorems.proofs.RuleEffects.ChangedPairs.{Has-map}
+use Rattle.is_theorems.proofs.RuleEffects.HastenedPairs.{due_next}
 use Rattle.is_theorems.proofs.CallEffects.ServedRequests.{Has-mapped}
 use Rattle.is_rules.proofs.PairLists.ChosenPair.{none_pass}
 use Rattle.is_theorems.proofs.BasicLemmas.PairsInTurn.{by-begins, next-has, none-is-due, none-at-once, next-in-turn, pairs-checked, pairs-sent, sent_at}
@@ -34,7 +35,7 @@ use Rattle.is_pair.specs.Turns.{IsPaced, is_due_by, due_by}
 use Rattle.is_pair.proofs.DueTimes.CountOfDuePairs.{no-more, fewer-due}
 use Rattle.is_theorems.specs.Progress.{IsGone, ChecksOn, ChecksInTurn}
 use Rattle.is_theorems.proofs.DuePairs.ChecksAhead.{Falls, falls-from, is-turn, no-more-due}
-use Rattle.is_theorems.proofs.DuePairs.AfterNominationAndRemoval.{Distinct, Alike, Thinned, is_fixed_by, Base, Thins, base_of as agent_base, turns-by, thins-on, names-thins, gives-up-thins}
+use Rattle.is_theorems.proofs.DuePairs.AfterNominationAndRemoval.{Distinct, Akin, Thinned, is_fixed_by, Base, Thins, base_of as agent_base, turns-by, thins-on, names-thins, gives-up-thins}
 use Rattle.is_rules.specs.Nominating.{nominates_at_once, Nominates}
 use Rattle.is_rules.specs.Leaving.{path_left}
 
@@ -50,15 +51,15 @@ pub record Matches (p q : PairRecord) : Type 0 where
 pub matches-on : (p q r : PairRecord) → Matches p q → Matches q r → Matches p r
 matches-on p q r a b = record { number = b.number ∙ a.number; local = b.local ∙ a.local; remote = b.remote ∙ a.remote; valid = b.valid ∙ a.valid }
 
-alike-matches : (p q : PairRecord) → Alike p q → Matches p q
-alike-matches p q a = record { number = a.number; local = a.local; remote = a.remote; valid = a.valid }
+akin-matches : (to : ℕ) (p q : PairRecord) → Akin to p q → Matches p q
+akin-matches to p q a = record { number = a.number; local = a.local; remote = a.remote; valid = a.valid }
 
 -- all due times are fixed
 abbrev pub AllAsked : List PairRecord → Type 0
 AllAsked ps = (p : PairRecord) → Has ps p → is_some p.due ≡ true
 
-asked-on : (by : ℕ) (xs ys : List PairRecord) → Thinned by xs ys → AllAsked xs → AllAsked ys
-asked-on by xs ys t all q has = let o = t.back q has in ap is_some o.2.due ∙ all o.0 o.1
+asked-on : (to : ℕ) (xs ys : List PairRecord) → Thinned to xs ys → AllAsked xs → AllAsked ys
+asked-on to xs ys t all q has = let o = t.back q has in o.2.fixed ∙ all o.0 o.1
 
 pub fixed-is : (o : Option ℕ) (x : ℕ) → is_some o ≡ true → unwrap_or o x ≡ unwrap_or o 0
 fixed-is None x is = absurd (cc)
@@ -108,10 +109,10 @@ follows-map f ps matches = record {
   back = λ q has. (let o = Has-map f ps q has in (o.0, o.1, subst (λ (x : PairRecord). Matches o.0 x) o.2 (matches o.0)));
 }
 
-pub thinned-follows : (by : ℕ) (xs ys : List PairRecord) → Thinned by xs ys → Follows xs ys
-thinned-follows by xs ys t = record {
+pub thinned-follows : (to : ℕ) (xs ys : List PairRecord) → Thinned to xs ys → Follows xs ys
+thinned-follows to xs ys t = record {
   distinct = t.distinct;
-  back = λ q has. (let o = t.back q has in (o.0, o.1, alike-matches o.0 q o.2));
+  back = λ q has. (let o = t.back q has in (o.0, o.1, akin-matches to o.0 q o.2));
 }
 
 pub gone-follows : (xs ys : List PairRecord) (n : ℕ) → Follows xs ys → IsGone n xs → IsGone n ys
@@ -271,13 +272,13 @@ module _ {H P : Type 0} where
     pub timeout-follows : (now : ℕ) (old new : AgentRecord H P) (s t : Stream) (emitted : Emitted) → is_some old.remote_creds ≡ true → old.lite ≡ false
         → MaintainsPairs mac now old s emitted new t → (agent_base new ≡ record (agent_base old) { last_time = Some now; ahead_turn = new.ahead_turn }) × Follows old.pairs new.pairs
     timeout-follows now old new s t emitted known full (first, second, issued, named, kept, nominating, giving, checking, is) =
-        let a = names-thins 0 now (at_timeout now old) named first nominating in
-        let b = gives-up-thins 0 now named kept second giving in
-        let c = thins-on 0 (at_timeout now old) named kept a b in
+        let a = names-thins now (at_timeout now old) named first nominating in
+        let b = gives-up-thins (due_next now) now named kept second giving in
+        let c = thins-on (due_next now) (at_timeout now old) named kept a b in
         let known_kept : is_some kept.remote_creds ≡ true = ap (λ (x : Base). is_some x.remote_creds) c.0 ∙ known in
         let full_kept : kept.lite ≡ false = ap (λ (x : Base). x.lite) c.0 ∙ full in
         let d = check-follows now kept.remote_creds kept new s t issued known_kept full_kept checking in
-        (d.0 ∙ ap (λ (x : Base). record x { ahead_turn = new.ahead_turn }) c.0, follows-on old.pairs kept.pairs new.pairs (thinned-follows 0 old.pairs kept.pairs c.1) d.1)
+        (d.0 ∙ ap (λ (x : Base). record x { ahead_turn = new.ahead_turn }) c.0, follows-on old.pairs kept.pairs new.pairs (thinned-follows (due_next now) old.pairs kept.pairs c.1) d.1)
 
     fixed-due : (now by : ℕ) (a : AgentRecord H P) (p : PairRecord) → is_some p.due ≡ true → unwrap_or p.due 0 ≤ by → due_time_of now a.timing p ≤ by
     fixed-due now by a p fixed due = subst (λ n. n ≤ by) (sym (fixed-is p.due _ fixed)) due
@@ -290,52 +291,51 @@ module _ {H P : Type 0} where
         → Distinct old.pairs → AllAsked old.pairs → by ≤ now → (p : PairRecord) → Has old.pairs p → unwrap_or p.due 0 ≤ by
         → MaintainsPairs mac now old s emitted new t → Moved now by old emitted new p
     timeout-moves now by old new s t emitted known full distinct all from p has due (first, second, issued, named, kept, nominating, giving, checking, is) =
-        let a = names-thins by now (at_timeout now old) named first nominating in
-        let b = gives-up-thins by now named kept second giving in
-        let c = thins-on by (at_timeout now old) named kept a b in
+        let a = names-thins now (at_timeout now old) named first nominating in
+        let b = gives-up-thins (due_next now) now named kept second giving in
+        let c = thins-on (due_next now) (at_timeout now old) named kept a b in
         let known_kept : is_some kept.remote_creds ≡ true = ap (λ (x : Base). is_some x.remote_creds) c.0 ∙ known in
         let full_kept : kept.lite ≡ false = ap (λ (x : Base). x.lite) c.0 ∙ full in
         let timing : kept.timing ≡ old.timing = ap (λ (x : Base). x.timing) c.0 in
         let d = check-follows now kept.remote_creds kept new s t issued known_kept full_kept checking in
         record {
           base = d.0 ∙ ap (λ (x : Base). record x { ahead_turn = new.ahead_turn }) c.0;
-          follows = follows-on old.pairs kept.pairs new.pairs (thinned-follows by old.pairs kept.pairs c.1) d.1;
+          follows = follows-on old.pairs kept.pairs new.pairs (thinned-follows (due_next now) old.pairs kept.pairs c.1) d.1;
           does = elim (c.1.forth distinct p has) [
             | inr gone ↦ inl (gone-follows kept.pairs new.pairs p.number d.1 gone)
             | inl k ↦
-                inr (on-kept now by old kept new s t emitted issued c timing distinct p has k
+                inr (on-kept now by old kept new s t emitted issued c timing from distinct p has k
                 (check-moves now by (length (filter (is_fixed_by by) kept.pairs)) kept (c.1.distinct distinct) from k.0 k.1
-                (fixed-due now by kept k.0 (asked-on by old.pairs kept.pairs c.1 all k.0 k.1) (subst (λ o. unwrap_or o 0 ≤ by) (sym k.2.due) due))
-                (fixed-count now by kept (asked-on by old.pairs kept.pairs c.1 all)) new s t issued kept.remote_creds known_kept full_kept checking)
+                (fixed-due now by kept k.0 (asked-on (due_next now) old.pairs kept.pairs c.1 all k.0 k.1) (let sooner = k.2.sooner in omega (arith, sooner, due)))
+                (fixed-count now by kept (asked-on (due_next now) old.pairs kept.pairs c.1 all)) new s t issued kept.remote_creds known_kept full_kept checking)
                 (ap (λ (x : Emitted). x.issued) is))
           ];
         } where
-          on-kept : (now by : ℕ) (old kept new : AgentRecord H P) (s t : Stream) (emitted : Emitted) (issued : Option Issued) → Thins by (at_timeout now old) kept → kept.timing ≡ old.timing
-              → Distinct old.pairs → (p : PairRecord) → Has old.pairs p → (k : (q : PairRecord) × Has kept.pairs q × Alike p q) → Checked now by (length (filter (is_fixed_by by) kept.pairs)) kept issued new k.0 → emitted.issued ≡ issued
+          on-kept : (now by : ℕ) (old kept new : AgentRecord H P) (s t : Stream) (emitted : Emitted) (issued : Option Issued) → Thins (due_next now) (at_timeout now old) kept → kept.timing ≡ old.timing
+              → by ≤ now → Distinct old.pairs → (p : PairRecord) → Has old.pairs p → (k : (q : PairRecord) × Has kept.pairs q × Akin (due_next now) p q) → Checked now by (length (filter (is_fixed_by by) kept.pairs)) kept issued new k.0 → emitted.issued ≡ issued
               → (o : PairRecord) × Has old.pairs o × ChecksOn old emitted o × ((o ≡ p) ⊎ WaitsOn (ChecksInTurn old) now by (length (filter (is_fixed_by by) old.pairs)) old new p)
-          on-kept now by old kept new s t emitted issued c timing distinct p has (q, there, alike) (n, n_there, (id, out), which) issues =
+          on-kept now by old kept new s t emitted issued c timing from distinct p has (q, there, akin) (n, n_there, (id, out), which) issues =
               let o = c.1.back n n_there in (
                 o.0,
                 o.1,
                 (
                   id,
                   issues ∙ (out ∙ ap (λ w. Some (issued_as w class.Request id))
-                      (same-path old kept o.0 n (ap (λ (x : Base). x.local) c.0) (ap (λ (x : Base). x.remote) c.0) (alike-matches o.0 n o.2))),
+                      (same-path old kept o.0 n (ap (λ (x : Base). x.local) c.0) (ap (λ (x : Base). x.remote) c.0) (akin-matches (due_next now) o.0 n o.2))),
                 ),
                 elim which [
-                  | inl same ↦ inl (distinct o.0 p o.1 has (sym o.2.number ∙ (ap (λ (x : PairRecord). x.number) same ∙ alike.number)))
+                  | inl same ↦ inl (distinct o.0 p o.1 has (sym o.2.number ∙ (ap (λ (x : PairRecord). x.number) same ∙ akin.number)))
                   | inr (r, r_there, matches, checks, r_due, fewer) ↦
-                      (let counted = c.1.fewer in
-                      let fewer_old : ChecksInTurn old → IsPaced kept.timing → now < MAX
+                      (let fewer_old : ChecksInTurn old → IsPaced kept.timing → now < MAX
                       → Falls (is_modern old.timing) old.ahead_turn new.ahead_turn (length (filter (is_fixed_by by) old.pairs)) (length (due_by by now kept.timing new.pairs)) =
                       λ turn paced early. falls-from (is_modern kept.timing) (is_modern old.timing) kept.ahead_turn old.ahead_turn new.ahead_turn
                       (length (filter (is_fixed_by by) kept.pairs)) (length (filter (is_fixed_by by) old.pairs)) (length (due_by by now kept.timing new.pairs))
-                      (ap (λ (x : Base). is_modern x.timing) (sym c.0)) (ap (λ (x : Base). x.ahead_turn) (sym c.0)) counted (fewer (none-at-once now (all_asked now kept) (turns-by (agent_base (at_timeout now old)) kept c.0 turn)) paced early) in
+                      (ap (λ (x : Base). is_modern x.timing) (sym c.0)) (ap (λ (x : Base). x.ahead_turn) (sym c.0)) (c.1.fewer by (omega (arith, from))) (fewer (none-at-once now (all_asked now kept) (turns-by (agent_base (at_timeout now old)) kept c.0 turn)) paced early) in
                       inr (
                         r,
                         r_there,
-                        matches-on p q r (alike-matches p q alike) matches,
-                        checks ∙ alike.checks,
+                        matches-on p q r (akin-matches (due_next now) p q akin) matches,
+                        checks ∙ akin.checks,
                         (λ at. subst (λ (x : StunTiming). due_time_of at x r ≤ by) timing (r_due at)),
                         subst (λ (x : StunTiming). ChecksInTurn old → IsPaced x → now < MAX
                             → Falls (is_modern old.timing) old.ahead_turn new.ahead_turn (length (filter (is_fixed_by by) old.pairs)) (length (due_by by now x new.pairs))) timing fewer_old,

@@ -60,8 +60,7 @@ use Rattle.is_theorems.proofs.RuleEffects.ChangedPairs.{Has-map, parts_of}
 use Rattle.is_theorems.proofs.RuleEffects.EarlierAndNewPairs.{Has-filter, Has-push, Onward}
 use Rattle.is_theorems.proofs.RuleEffects.NominatedPairs.{SelectsPath, selects_path}
 use Rattle.is_theorems.proofs.RuleEffects.UnchangedSettings.{either}
-use Rattle.is_theorems.proofs.RuleEffects.NotedErrors.{recoded, by_failure}
-use Rattle.is_rules.specs.Leaving.{path_left}
+use Rattle.is_theorems.proofs.RuleEffects.NotedErrors.{by_failure}
 use Rattle.is_theorems.proofs.RuleEffects.PathsThatAreLeft.{none-valid-left}
 
 no-case : {A : Type 0} → false ≡ true → A

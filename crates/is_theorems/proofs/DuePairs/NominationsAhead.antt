@@ -5,7 +5,6 @@ use Rattle.std.specs.Option.{option_map_or}
 use Rattle.std.specs.Prelude.{MatchBool, MatchOption}
 use Rattle.std.proofs.lemmas.Bool.{eq-eqb, eqb-true}
 use Rattle.rand_core.specs.Stream.{Stream}
-use Rattle.is_proto.specs.Lists.{same}
 use Rattle.is_candidate.specs.Candidates.{CandidateRecord, candidate_at}
 use Rattle.is_pair.specs.Multiset.{is_numbered, is_valid_at}
 use Rattle.is_pair.specs.Pairs.{PairRecord}
@@ -49,9 +48,10 @@ use Rattle.is_theorems.proofs.DuePairs.ChecksAhead.{one-at-most}
 use Rattle.is_theorems.proofs.DuePairs.FirstDuePair.{next-check}
 use Rattle.is_theorems.proofs.DuePairs.NoNominationDue.{not-numbered}
 use Rattle.is_theorems.proofs.ExecutionLogs.LogSegments.{no-case}
+use Rattle.is_theorems.proofs.RuleEffects.HastenedPairs.{due_next}
 use Rattle.is_theorems.proofs.RuleEffects.NominatedPairs.{SelectsPath, selects_path}
 use Rattle.is_theorems.proofs.RuleEffects.UnchangedSettings.{either}
-use Rattle.is_theorems.proofs.RuleEffects.NotedErrors.{recoded, by_failure}
+use Rattle.is_theorems.proofs.RuleEffects.NotedErrors.{by_failure}
 use Rattle.is_rules.specs.Leaving.{path_left}
 
 -- ---- which paths a call selects
@@ -276,7 +276,7 @@ module _ {H P : Type 0} where
         → (h : MaintainsPairs mac now old s emitted new t) → nominates_at_once (all_asked now h.4) ≡ true
         → (new.nomination_due ≡ false) × (numbers old ≡ true) × ((old.nomination_due ≡ true) ⊎ (selected emitted ≡ true))
     at-once-ends now old new s t emitted known full (first, second, issued, named, kept, nominating, giving, checking, is) due =
-        let c = thins-on 0 (at_timeout now old) named kept (names-thins 0 now (at_timeout now old) named first nominating) (gives-up-thins 0 now named kept second giving) in
+        let c = thins-on (due_next now) (at_timeout now old) named kept (names-thins now (at_timeout now old) named first nominating) (gives-up-thins (due_next now) now named kept second giving) in
         let k = next-check mac now kept.remote_creds kept new s t issued (ap (λ (x : Base). is_some x.remote_creds) c.0 ∙ known) (ap (λ (x : Base). x.lite) c.0 ∙ full) checking in
         (ends k.0 k.1 k.2 k.3, numbered (numbers old) refl, was (old.nomination_due) refl) where
           d : Dues (selected emitted) old kept

@@ -23,14 +23,15 @@ use Rattle.is_rules.specs.Sending.{path_of}
 use Rattle.is_rules.specs.Settling.{settled}
 use Rattle.is_rules.specs.Timeouts.{at_timeout, is_expired, expired_gone, MaintainsPairs, RemovesExpired}
 use Rattle.is_theorems.specs.Progress.{ChecksOn, IsGone}
-use Rattle.is_theorems.proofs.DuePairs.AfterNominationAndRemoval.{Base, Distinct, Thins, base_of, nominates-thins, passed, gives-up-thins}
+use Rattle.is_theorems.proofs.DuePairs.AfterNominationAndRemoval.{Base, Distinct, Thins, base_of, hastened-akin, nominates-thins, passed, gives-up-thins}
 use Rattle.is_theorems.proofs.BasicLemmas.PairsInTurn.{next-has, none-to-send}
 use Rattle.is_theorems.proofs.DuePairs.FirstDuePair.{check-follows, gone-follows, next-check}
 use Rattle.is_theorems.proofs.RuleEffects.ChangedPairs.{Has-map}
 use Rattle.is_theorems.proofs.RuleEffects.EarlierAndNewPairs.{Has-filter}
+use Rattle.is_theorems.proofs.RuleEffects.HastenedPairs.{Hastens}
 use Rattle.is_theorems.proofs.RuleEffects.NominatedPairs.{SelectsPath, selects_path}
 use Rattle.is_theorems.proofs.RuleEffects.UnchangedSettings.{either}
-use Rattle.is_rules.specs.Leaving.{path_left, gives_way}
+use Rattle.is_rules.specs.Leaving.{gives_way, hastened, path_left, silent_gone}
 use Rattle.is_theorems.proofs.DuePairs.ConsentAfterTimeouts.{any-none}
 use Rattle.is_theorems.proofs.RuleEffects.PathsThatAreLeft.{none-left}
 
@@ -187,10 +188,13 @@ module _ {H P : Type 0} where
           let base : base_of kept ≡ base_of (at_timeout now old) = b.0 ∙ a.0 in
           let gone : IsGone p.number kept.pairs = (λ q q_has number.
           (let n = b.1.back q q_has in let o = a.1.back n.0 n.1 in
-          let there = Has-filter (λ x. not (gives_way now (at_timeout now old) x)) old.pairs o.0 o.1 in
-          let one : o.0 ≡ p = distinct o.0 p there has (sym o.2.number ∙ (sym n.2.number ∙ number)) in
+          let c : Bool = Hastens now (at_timeout now old) in
+          let m = Has-map (hastened c now) (silent_gone now (at_timeout now old)).pairs o.0 o.1 in
+          let there = Has-filter (λ x. not (gives_way now (at_timeout now old) x)) old.pairs m.0 m.1 in
+          let same : m.0.number ≡ o.0.number = sym (hastened-akin c now m.0).number ∙ ap (λ (x : PairRecord). x.number) m.2 in
+          let one : m.0 ≡ p = distinct m.0 p there has (same ∙ (sym o.2.number ∙ (sym n.2.number ∙ number))) in
           let no : false ≡ true = ap not (sym gives_p)
-          ∙ (ap (λ (x : PairRecord). not (gives_way now (at_timeout now old) x)) (sym one) ∙ passed (λ x. not (gives_way now (at_timeout now old) x)) old.pairs o.0 o.1) in
+          ∙ (ap (λ (x : PairRecord). not (gives_way now (at_timeout now old) x)) (sym one) ∙ passed (λ x. not (gives_way now (at_timeout now old) x)) old.pairs m.0 m.1) in
           cc)) in
           let d = check-follows mac now kept.remote_creds kept new s t issued (ap (λ (x : Base). is_some x.remote_creds) base ∙ known) (ap (λ (x : Base). x.lite) base ∙ full) checking in
           inl (p, has, inr (gone-follows kept.pairs new.pairs p.number d.1 gone))

@@ -46,7 +46,6 @@ use Rattle.is_theorems.proofs.DuePairs.PollingCycles.{none-left, maintains_pairs
 use Rattle.is_theorems.proofs.DuePairs.AfterPackets.{NoneValid, Held}
 use Rattle.is_theorems.proofs.DuePairs.NoNominationDue.{NoneIsDue, Quiet, due-none, nominates-nothing, none-at-check, quiet-call, quiet-timeout}
 use Rattle.is_theorems.proofs.BasicLemmas.PairsInTurn.{by-begins, sent_at, pairs-sent}
-use Rattle.is_rules.specs.Leaving.{path_left}
 use Rattle.is_theorems.proofs.RuleEffects.PathsThatAreLeft.{none-valid-left}
 
 lt-is : (n m : ℕ) → n < m → nat_lt n m ≡ true

@@ -86,7 +86,7 @@ at-mild n f p m = by (is_numbered n p) where
   by true = m
   by false = mild-same p
 
--- The same pair, which a request may have moved up to the time `at` or a later one: it is due by an earlier time exactly if it was, and due
+-- The same pair, which may have been moved up to the time `at` or a later one: it is due by an earlier time exactly if it was, and due
 -- as it was if that is by then.
 pub record MovedUp (by at : ℕ) (p q : PairRecord) : Type 0 where
   pub number : q.number ≡ p.number
@@ -118,18 +118,22 @@ moved-fixed : (to d : ℕ) (o : Option ℕ) → d ≤ to → o ≡ Some d → op
 moved-fixed to d None le is = absurd (cc)
 moved-fixed to d (Some e) le is = let same : e ≡ d = ap (λ o. unwrap_or o 0) is in ap Some (omega (arith, same, le))
 
+-- to a time that is not before `at`
+pub moved-to : (by at to : ℕ) (p q : PairRecord) → at ≤ to → Mild (moved_up to p) q → MovedUp by at p q
+moved-to by at to p q late m = record {
+  number = m.number;
+  kept = m.kept;
+  nomination = m.nomination;
+  early = λ before. ap (λ o. option_map_or (λ d. nat_le d by) o false) m.due ∙ moved-early by to p.due (omega (arith, before, late));
+  fixed = λ d le is. m.due ∙ moved-fixed to d p.due (omega (arith, le, late)) is;
+}
+
 -- a request may move the pair up before it is served
 pub triggered-mild : (by at to : ℕ) (modern : Bool) (p q : PairRecord) → at ≤ to → Mild (triggered modern to p) q → MovedUp by at p q
 triggered-mild by at to modern p q late m = moves (modern && is_triggered p) m where
   moves : (b : Bool) → Mild (if b then moved_up to p else p) q → MovedUp by at p q
   moves false m = moved-mild by at p q m
-  moves true m = record {
-    number = m.number;
-    kept = m.kept;
-    nomination = m.nomination;
-    early = λ before. ap (λ o. option_map_or (λ d. nat_le d by) o false) m.due ∙ moved-early by to p.due (omega (arith, before, late));
-    fixed = λ d le is. m.due ∙ moved-fixed to d p.due (omega (arith, le, late)) is;
-  }
+  moves true m = moved-to by at to p q late m
 
 pub at-moved : (by at n : ℕ) (f : PairRecord → PairRecord) (p : PairRecord) → MovedUp by at p (f p) → MovedUp by at p (change_at n f p)
 at-moved by at n f p m = from (is_numbered n p) where
@@ -137,7 +141,7 @@ at-moved by at n f p m = from (is_numbered n p) where
   from true = m
   from false = moved-mild by at p p (mild-same p)
 
-lead-moved : (both : Bool) (by at : ℕ) (p q : PairRecord) → by < at → MovedUp by at p q → lead both by q ≤ lead both by p
+pub lead-moved : (both : Bool) (by at : ℕ) (p q : PairRecord) → by < at → MovedUp by at p q → lead both by q ≤ lead both by p
 lead-moved both by at p q late m =
     let e : is_early by q.due q.checks ≡ is_early by p.due p.checks = ap (λ b. b || sent_by by q.checks) (m.early late) ∙ ap (λ k. is_early by p.due k.0) m.kept in
     subst (λ b. weight both q.nomination b ≤ lead both by p) (sym e) (weight-becomes both p.nomination q.nomination (is_early by p.due p.checks) m.nomination)

@@ -8,7 +8,7 @@ use Rattle.is_proto.specs.Lists.{Has}
 use Rattle.is_pair.specs.Multiset.{is_numbered, change_at, change_pair}
 use Rattle.is_pair.specs.Checks.{unanswered_count}
 use Rattle.is_pair.specs.Due.{asked, due_time_of, is_due, stays_answered}
-use Rattle.is_pair.specs.Pairs.{PairRecord, is_valid, is_nominated, checked}
+use Rattle.is_pair.specs.Pairs.{PairRecord, is_valid, is_nominated}
 use Rattle.is_stun.specs.declared.header.Class.TheVariants as class
 use Rattle.is_stun.specs.declared.timing.StunTiming.{StunTiming}
 use Rattle.is_stun.specs.Timing.{consent_of}
@@ -31,7 +31,8 @@ use Rattle.is_theorems.proofs.RuleEffects.ChangedPairs.{Has-map}
 use Rattle.is_theorems.proofs.DuePairs.FirstDuePair.{fixed-is, same-path, next-check}
 use Rattle.is_theorems.proofs.RuleEffects.NominatedPairs.{SelectsPath, selects_path}
 use Rattle.is_theorems.proofs.CallEffects.ServedRequests.{Has-mapped}
-use Rattle.is_theorems.proofs.DuePairs.AfterNominationAndRemoval.{kept_of, alike-kept, answered-on, Distinct, Alike, Base, base_of as agent_base, Has-kept, stays-young, thinned-filter, names-thins, gives-up-thins, nominates-has, leaves-has, leaves-thins}
+use Rattle.is_theorems.proofs.DuePairs.AfterNominationAndRemoval.{kept_of, alike-kept, answered-on, Distinct, Alike, Base, base_of as agent_base, Has-kept, stays-young, thinned-filter, keeps-young, names-thins, gives-up-thins, nominates-has, leaves-thins}
+use Rattle.is_theorems.proofs.EarlierChecks.LeavingPaths.{as-left, ready-left, there-left}
 use Rattle.is_rules.specs.Leaving.{path_left}
 
 le-is : (n m : ℕ) → n ≤ m → nat_le n m ≡ true
@@ -165,16 +166,18 @@ module _ (now by : ℕ) (begun : by ≤ now) where
           → stays_answered (consent_of old.timing) now p ≡ true → nat_lt (unanswered_count p.checks) old.timing.max_retransmits ≡ true → Ready old.timing p
           → MaintainsPairs mac now old s emitted new u → ChecksOn old emitted p ⊎ WaitsOn old new p
       timeout-goes old new s u emitted known full distinct p has answered young ready (first, second, issued, named, kept, nominating, giving, checking, is) =
-          let a = names-thins 0 now (at_timeout now old) named first nominating in
+          let left = leaves-thins now (at_timeout now old) in
+          let a = names-thins now (at_timeout now old) named first nominating in
           let b = gives-up-thins 0 now named kept second giving in
-          let x = named-ready old.timing (path_left now (at_timeout now old)) named first nominating ((leaves-thins 0 now (at_timeout now old)).1.distinct distinct) p
-          (leaves-has now (at_timeout now old) p has young) ready in
+          let p_left = as-left now (at_timeout now old) p in
+          let x = named-ready old.timing (path_left now (at_timeout now old)) named first nominating (left.1.distinct distinct) p_left
+          (there-left now (at_timeout now old) p has (keeps-young now (at_timeout now old) p young)) (ready-left now (at_timeout now old) by old.timing p ready) in
           let timing : named.timing ≡ old.timing = ap (λ (y : Base). y.timing) a.0 in
           let y = given-ready named kept second giving (ap (λ (y : Base). y.lite) a.0 ∙ full) (a.1.distinct distinct) x.0 x.1 (answered-on old.timing named.timing now p x.0 timing x.2.consented answered)
           (ap (λ cs. nat_lt (unanswered_count cs) named.timing.max_retransmits) x.2.checks ∙ (ap (λ (z : StunTiming). nat_lt (unanswered_count p.checks) z.max_retransmits) timing ∙ young))
           (subst (λ z. Ready z x.0) (sym timing) x.3) in
           let base : agent_base kept ≡ agent_base (at_timeout now old) = b.0 ∙ a.0 in
-          let alike = joins p x.0 y.0 x.2 y.2 in
+          let alike = joins p_left x.0 y.0 x.2 y.2 in
           let same : kept.timing ≡ named.timing = ap (λ (z : Base). z.timing) b.0 in
           elim (check-goes kept new s u issued kept.remote_creds (ap (λ (z : Base). is_some z.remote_creds) base ∙ known) (ap (λ (z : Base). z.lite) base ∙ full)
           (b.1.distinct (a.1.distinct distinct)) y.0 y.1 (subst (λ (z : StunTiming). due_time_of now z y.0 ≤ by) (sym same) y.3.0) checking) [
@@ -182,13 +185,13 @@ module _ (now by : ℕ) (begun : by ≤ now) where
                 inl (
                   id,
                   ap (λ (z : Emitted). z.issued) is ∙ (out ∙ ap (λ w. Some (issued_as w class.Request id))
-                      (same-path old kept p y.0 (ap (λ (z : Base). z.local) base) (ap (λ (z : Base). z.remote) base)
+                      (same-path old kept p_left y.0 (ap (λ (z : Base). z.local) base) (ap (λ (z : Base). z.remote) base)
                       (record { number = alike.number; local = alike.local; remote = alike.remote; valid = alike.valid }))),
                 )
             | inr ((o, o_has, apart), (d, due, fixed)) ↦
                 (let n = b.1.back o o_has in let m = a.1.back n.0 n.1 in
                 inr (
                   (m.0, m.1, ap (λ k. k == m.0.number) (sym alike.number) ∙ (ap (λ k. y.0.number == k) (sym (n.2.number ∙ m.2.number)) ∙ apart)),
-                  (d, due, subst (λ k. Fixed p.number d k new.pairs) (alike-kept p y.0 alike) (subst (λ k. Fixed k d (kept_of y.0) new.pairs) alike.number fixed)),
+                  (d, due, subst (λ k. Fixed p.number d k new.pairs) (alike-kept p_left y.0 alike) (subst (λ k. Fixed k d (kept_of y.0) new.pairs) alike.number fixed)),
                 ))
           ]

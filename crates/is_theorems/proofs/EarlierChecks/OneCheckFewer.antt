@@ -38,8 +38,9 @@ use Rattle.is_theorems.proofs.DuePairs.ChecksAhead.{Falls, falls-from, is-turn}
 use Rattle.is_rules.proofs.PairLists.ChosenPair.{chosen-able, none_pass}
 use Rattle.is_theorems.proofs.RuleEffects.NominatedPairs.{SelectsPath, selects_path}
 use Rattle.is_theorems.proofs.CallEffects.ServedRequests.{Has-mapped}
-use Rattle.is_theorems.proofs.DuePairs.AfterNominationAndRemoval.{kept_of, alike-kept, answered-on, Distinct, Alike, Base, base_of as agent_base, Has-kept, stays-young, thinned-filter, nominates-thins, names-thins, gives-up-thins, nominates-has, leaves-has, leaves-thins}
-use Rattle.is_rules.specs.Leaving.{path_left, gives_way}
+use Rattle.is_theorems.proofs.DuePairs.AfterNominationAndRemoval.{kept_of, alike-kept, answered-on, Distinct, Alike, Base, base_of as agent_base, Has-kept, stays-young, thinned-filter, keeps-young, nominates-thins, names-thins, gives-up-thins, nominates-has, leaves-thins}
+use Rattle.is_theorems.proofs.EarlierChecks.LeavingPaths.{as-left, leads-left, ready-left, there-left}
+use Rattle.is_rules.specs.Leaving.{path_left}
 
 le-is : (n m : ℕ) → n ≤ m → nat_le n m ≡ true
 le-is n m h = grind (arith, nat_tests, h)
@@ -301,19 +302,21 @@ module _ (now by : ℕ) (late : by < now) (early : now < MAX) where
           → stays_answered (consent_of old.timing) now p ≡ true → nat_lt (unanswered_count p.checks) old.timing.max_retransmits ≡ true → Ready old.timing p
           → (h : MaintainsPairs mac now old s emitted new u) → ChecksOn old emitted p ⊎ WaitsOn (NoneAtCheck now h.4) old new p
       timeout-goes old new s u emitted known full distinct some p has answered young ready (first, second, issued, named, kept, nominating, giving, checking, is) =
-          let a = names-thins 0 now (at_timeout now old) named first nominating in
+          let left = leaves-thins now (at_timeout now old) in
+          let a = names-thins now (at_timeout now old) named first nominating in
           let b = gives-up-thins 0 now named kept second giving in
-          let x = named-ready old.timing (path_left now (at_timeout now old)) named first nominating ((leaves-thins 0 now (at_timeout now old)).1.distinct distinct) p
-          (leaves-has now (at_timeout now old) p has young) ready in
+          let p_left = as-left now (at_timeout now old) p in
+          let x = named-ready old.timing (path_left now (at_timeout now old)) named first nominating (left.1.distinct distinct) p_left
+          (there-left now (at_timeout now old) p has (keeps-young now (at_timeout now old) p young)) (ready-left now (at_timeout now old) by old.timing p ready) in
           let timing : named.timing ≡ old.timing = ap (λ (y : Base). y.timing) a.0 in
           let y = given-ready named kept second giving (ap (λ (y : Base). y.lite) a.0 ∙ full) (a.1.distinct distinct) x.0 x.1 (answered-on old.timing named.timing now p x.0 timing x.2.consented answered)
           (ap (λ cs. nat_lt (unanswered_count cs) named.timing.max_retransmits) x.2.checks ∙ (ap (λ (z : StunTiming). nat_lt (unanswered_count p.checks) z.max_retransmits) timing ∙ young))
           (subst (λ z. Ready z x.0) (sym timing) x.3) in
           let base : agent_base kept ≡ agent_base (at_timeout now old) = b.0 ∙ a.0 in
-          let alike = joins p x.0 y.0 x.2 y.2 in
+          let alike = joins p_left x.0 y.0 x.2 y.2 in
           let same : kept.timing ≡ named.timing = ap (λ (z : Base). z.timing) b.0 in
           let lessened : (w : Measure) → leads w by kept.pairs ≤ leads w by old.pairs =
-          (λ w. (let k : leads w by (path_left now (at_timeout now old)).pairs ≤ leads w by old.pairs = leads-filter w by (λ q. not (gives_way now (at_timeout now old) q)) old.pairs in
+          (λ w. (let k : leads w by (path_left now (at_timeout now old)).pairs ≤ leads w by old.pairs = leads-left now (at_timeout now old) by late w in
           let l : leads w by named.pairs ≤ leads w by (path_left now (at_timeout now old)).pairs = named-less w (path_left now (at_timeout now old)) named first nominating in
           let m : leads w by kept.pairs ≤ leads w by named.pairs = given-less w named kept second giving in
           omega (arith, k, l, m))) in
@@ -324,7 +327,7 @@ module _ (now by : ℕ) (late : by < now) (early : now < MAX) where
                 inl (
                   id,
                   ap (λ (z : Emitted). z.issued) is ∙ (out ∙ ap (λ w. Some (issued_as w class.Request id))
-                      (same-path old kept p y.0 (ap (λ (z : Base). z.local) base) (ap (λ (z : Base). z.remote) base)
+                      (same-path old kept p_left y.0 (ap (λ (z : Base). z.local) base) (ap (λ (z : Base). z.remote) base)
                       (record { number = alike.number; local = alike.local; remote = alike.remote; valid = alike.valid }))),
                 )
             | inr (d, due, fixed, fewer, falls) ↦
@@ -334,7 +337,7 @@ module _ (now by : ℕ) (late : by < now) (early : now < MAX) where
                 inr (
                   d,
                   due,
-                  subst (λ k. Fixed p.number d k new.pairs) (alike-kept p y.0 alike) (subst (λ k. Fixed k d (kept_of y.0) new.pairs) alike.number fixed),
+                  subst (λ k. Fixed p.number d k new.pairs) (alike-kept p_left y.0 alike) (subst (λ k. Fixed k d (kept_of y.0) new.pairs) alike.number fixed),
                   λ w. (let few = fewer w in let l = lessened w in omega (arith, few, l)),
                   λ turn. falls-from (is_modern kept.timing) (is_modern old.timing) kept.ahead_turn old.ahead_turn new.ahead_turn
                       (leads (all-but p.number) by kept.pairs) (leads (all-but p.number) by old.pairs) (leads (all-but p.number) by new.pairs)

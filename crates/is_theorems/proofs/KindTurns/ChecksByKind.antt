@@ -16,7 +16,7 @@ use Rattle.is_stun.specs.declared.header.Class.TheVariants as class
 use Rattle.is_stun.specs.declared.timing.StunTiming.{StunTiming}
 use Rattle.is_stun.specs.Timing.{is_modern}
 use Rattle.is_rules.specs.Agent.{AgentRecord}
-use Rattle.is_rules.specs.Checking.{all_asked, are_kinds_in_turn, has_first, is_ahead_turn, next_kind_after, precedence, ChecksTop, IsNextToCheck, MayCheck}
+use Rattle.is_rules.specs.Checking.{all_asked, are_kinds_in_turn, has_first, is_ahead_turn, next_kind_after, precedence, ChecksTop, GoesAhead, IsNextToCheck, MayCheck}
 use Rattle.is_rules.specs.declared.credentials.IceCreds.{IceCreds}
 use Rattle.is_rules.specs.declared.emitted.Emitted.{Emitted}
 use Rattle.is_rules.specs.declared.emitted.Issued.{Issued}
@@ -29,18 +29,19 @@ use Rattle.is_rules.specs.Sending.{path_of}
 use Rattle.is_rules.specs.Timeouts.{at_timeout, expired_gone, is_expired, MaintainsPairs, RemovesExpired}
 use Rattle.is_rules.proofs.PairLists.ChosenPair.{none_pass}
 use Rattle.is_theorems.specs.KindsInTurn.{kind_in}
-use Rattle.is_theorems.proofs.BasicLemmas.PairsInTurn.{in-turn, next-has, none-is-due, pairs-sent, sent_at}
+use Rattle.is_theorems.proofs.BasicLemmas.PairsInTurn.{ahead-or-along, in-turn, next-has, none-is-due, pairs-sent, sent_at}
 use Rattle.is_theorems.proofs.CallEffects.ServedRequests.{Has-mapped}
 use Rattle.is_theorems.proofs.DuePairs.AfterNominationAndRemoval.{Base, Distinct, Has-kept, base_of as agent_base, gives-up-thins, names-thins}
 use Rattle.is_theorems.proofs.DuePairs.FirstDuePair.{next-check}
-use Rattle.is_theorems.proofs.EarlierChecks.ChecksOfOtherPairs.{leads, Counts, Measure, leads-filter}
+use Rattle.is_theorems.proofs.EarlierChecks.ChecksOfOtherPairs.{leads, Counts, Measure}
+use Rattle.is_theorems.proofs.EarlierChecks.LeavingPaths.{leads-left}
 use Rattle.is_theorems.proofs.EarlierChecks.OneCheckFewer.{after-check, given-less, named-less, one-fewer-left}
 use Rattle.is_theorems.proofs.KindTurns.OrderOfKinds.{kind-within, same-kind}
 use Rattle.is_theorems.proofs.RuleEffects.ChangedPairs.{Has-map}
 use Rattle.is_theorems.proofs.RuleEffects.EarlierAndNewPairs.{Has-filter}
 use Rattle.is_theorems.proofs.RuleEffects.NominatedPairs.{selects_path, SelectsPath}
 use Rattle.is_theorems.proofs.RuleEffects.UnchangedSettings.{either}
-use Rattle.is_rules.specs.Leaving.{path_left, gives_way}
+use Rattle.is_rules.specs.Leaving.{path_left}
 use Rattle.is_theorems.proofs.RuleEffects.PathsThatAreLeft.{unselected-left}
 
 le-is : (n m : ℕ) → n ≤ m → nat_le n m ≡ true
@@ -103,6 +104,9 @@ path_by v p = record {
 
 some-not-none : (n : ℕ) → Some n ≡ None → ⊥
 some-not-none n h = cc
+
+none-some : (p : PairRecord) → None ≡ Some p → ⊥
+none-some p h = cc
 
 -- In the turn of a kind the pair o is checked before p: it goes before all kinds, or it is one of the same kind that goes before p, or its
 -- kind comes before.
@@ -223,11 +227,15 @@ module _ {H P : Type 0} where
                 | inr (inr less) ↦ inr (inr less)
               ]
 
+          -- no pair is selected, so none is asked along
           in-kind-turn : (q : PairRecord) → IsNextToCheck now (all_asked now old) (Some q) → old.ahead_turn ≡ true
               → IsNextAhead old.local old.remote (precedence old) old.next_kind now old.timing (map (asked now old.timing) old.pairs) (Some q)
-          in-kind-turn q chosen on =
-              subst (λ b. MatchBool b (IsNextAhead old.local old.remote (precedence old) old.next_kind now old.timing (map (asked now old.timing) old.pairs) (Some q)) (IsNextDue now old.timing (map (asked now old.timing) old.pairs) (Some q))) (ahead ∙ on)
-              (in-turn now (all_asked now old) (Some q) calm chosen)
+          in-kind-turn q chosen on = elim (ahead-or-along now (all_asked now old) q
+              (subst (λ b. MatchBool b (GoesAhead now (all_asked now old) (Some q)) (IsNextDue now old.timing (map (asked now old.timing) old.pairs) (Some q))) (ahead ∙ on)
+              (in-turn now (all_asked now old) (Some q) calm chosen))) [
+                | inl next ↦ next
+                | inr along ↦ absurd (none-some along.selected (sym (ap (λ o. pair_selected o (map (asked now old.timing) old.pairs)) none) ∙ along.chosen))
+              ]
 
           kind-next : (q : PairRecord) → new.next_kind ≡ next_kind_after now q (all_asked now old) → (b : Bool) → is_ahead_turn now (all_asked now old) ≡ b
               → new.next_kind ≡ (if b then kind_of old.local old.remote q + 1 else old.next_kind)
@@ -313,7 +321,7 @@ module _ {H P : Type 0} where
         → (h : MaintainsPairs mac now old s emitted new u)
         → (nominates_at_once (all_asked now h.4) ≡ false) × (Checks old emitted.issued p ⊎ Turns by now old emitted.issued new p)
     timeout-takes old new s u emitted known full distinct some turns none p has due stays (first, second, issued, named, kept, nominating, giving, checking, is) =
-        let a = names-thins 0 now (at_timeout now old) named first nominating in
+        let a = names-thins now (at_timeout now old) named first nominating in
         let b = gives-up-thins 0 now named kept second giving in
         let base : agent_base kept ≡ agent_base (at_timeout now old) = b.0 ∙ a.0 in
         let known_kept : is_some kept.remote_creds ≡ true = ap (λ (x : Base). is_some x.remote_creds) base ∙ known in
@@ -327,7 +335,7 @@ module _ {H P : Type 0} where
         let view : view_of kept ≡ view_of old = left.0 in
         let issues : emitted.issued ≡ issued = ap (λ (x : Emitted). x.issued) is in
         let fewer : (w : Measure) → leads w by kept.pairs ≤ leads w by old.pairs =
-        (λ w. (let k : leads w by (path_left now (at_timeout now old)).pairs ≤ leads w by old.pairs = leads-filter w by (λ q. not (gives_way now (at_timeout now old) q)) old.pairs in
+        (λ w. (let k : leads w by (path_left now (at_timeout now old)).pairs ≤ leads w by old.pairs = leads-left now (at_timeout now old) by late w in
         let l : leads w by named.pairs ≤ leads w by (path_left now (at_timeout now old)).pairs = named-less now by late early w (path_left now (at_timeout now old)) named first nominating in
         let m : leads w by kept.pairs ≤ leads w by named.pairs = given-less now by late early w named kept second giving in
         omega (arith, k, l, m))) in (

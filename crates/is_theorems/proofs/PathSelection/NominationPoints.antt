@@ -42,7 +42,7 @@ use Rattle.is_rules.specs.Points.{IsNominationPoint, IsTopSelected, AnswersAreVa
 use Rattle.is_theorems.proofs.RuleEffects.UnchangedSettings.{either}
 use Rattle.is_theorems.proofs.RuleEffects.SelectedPaths.{one_pair, some_is}
 use Rattle.is_theorems.proofs.RuleEffects.EarlierAndNewPairs.{Fit, thinned}
-use Rattle.is_theorems.proofs.RuleEffects.ChangedPairs.{Kept_by_self, self_kept, Has-map, parts_of, nominates, names_moves}
+use Rattle.is_theorems.proofs.RuleEffects.ChangedPairs.{Kept_by_self, self_kept, Has-map, parts_of, left_moves, names_moves}
 use Rattle.is_theorems.proofs.CallEffects.ChecksAndResponses.{Has-get, again_nominated, sent_nominated, records, put_at}
 use Rattle.is_theorems.proofs.CallEffects.ServedRequests.{Has-mapped}
 use Rattle.is_theorems.proofs.PathSelection.FirstNumbered.{SameOrder, number-mapped}
@@ -50,7 +50,7 @@ use Rattle.is_theorems.proofs.PathSelection.GreatestEligiblePair.{followed-on, n
 use Rattle.is_theorems.proofs.BasicLemmas.PairsInTurn.{by-begins, sent_at, sent-pairs}
 use Rattle.is_rules.proofs.PairLists.ChosenPair.{none_pass}
 use Rattle.is_theorems.proofs.RuleEffects.NominatedPairs.{SelectsPath, selects_path}
-use Rattle.is_rules.specs.Leaving.{path_left, gives_way}
+use Rattle.is_rules.specs.Leaving.{path_left}
 
 -- ---- lists
 
@@ -293,7 +293,7 @@ module _ {H P : Type 0} where
 
   pub maintains_pairs_top : (mac : H → List ℕ → List ℕ → List ℕ) (now : ℕ) (old new : AgentRecord H P) (s t : Stream) (emitted : Emitted) → FitOf old → MaintainsPairs mac now old s emitted new t → IsTopSelected new
   maintains_pairs_top mac now old new s t emitted fit (first, second, issued, named, kept, nominating, giving, checking, is) =
-      let left = thinned AllNumbers All1 All3 (parts_of AllNumbers All1 All3 (at_timeout now old)) (λ p. not (gives_way now (at_timeout now old) p)) fit in
+      let left = left_moves AllNumbers All1 All3 now (at_timeout now old) fit in
       let a = nominates_top (path_left now (at_timeout now old)) named first left.fit.rising nominating in
       let named_fit = (names_moves AllNumbers All1 All3 now (at_timeout now old) named first (λ _ _ _. tt) fit nominating).0.fit in
       let b = removes_expired_top now named kept second named_fit giving a in

@@ -1,8 +1,7 @@
 -- A pair that did not expire is removed by a `handle_timeout` call only if it gives way to another one, which stays.
-use Rattle.std.proofs.Common.{◌≡◌, ℕ, ◌==◌, ◌<◌, ◌&&◌, ◌||◌, Bool, true, false, not, List, Option, Some, None, unwrap_or, nat_lt, Ok, Err, Result, inl, inr, ◌⊎◌, refl, ap, sym, ◌∙◌, subst, arith}
-use Rattle.std.specs.Prelude.{MatchOption, option_map}
-use Rattle.std.specs.List.{list_any}
-use Rattle.std.specs.Option.{option_and_then}
+use Rattle.std.proofs.Common.{◌≡◌, ℕ, ◌==◌, ◌<◌, ◌&&◌, ◌||◌, Bool, true, false, not, List, Option, Some, None, is_some, unwrap_or, nat_lt, Ok, Err, inl, inr, refl, ap, sym, ◌∙◌, subst, arith}
+use Rattle.std.specs.Prelude.{MatchOption}
+use Rattle.std.specs.Option.{option_map_or}
 use Rattle.std.proofs.lemmas.Bool.{eq-eqb, eqb-true}
 use Rattle.std.proofs.lemmas.Bool.Decides.{nat_tests}
 use Rattle.rand_core.specs.Stream.{Stream}
@@ -12,7 +11,7 @@ use Rattle.is_pair.specs.declared.pair.silence.Span.{Span}
 use Rattle.is_pair.specs.Checks.{Check, first_unanswered, is_answered}
 use Rattle.is_pair.specs.Multiset.{is_named_by, is_numbered}
 use Rattle.is_pair.specs.Pairs.{PairRecord, is_valid, is_nominated}
-use Rattle.is_pair.specs.Silence.{FOLLOWING, first_of_last, is_answered_within, outlives, silence_of, span_between, span_from}
+use Rattle.is_pair.specs.Silence.{FOLLOWING, first_of_last, is_answered_by, is_answered_within, outlives, span_between, span_from}
 use Rattle.is_rules.specs.declared.emitted.Emitted.{Emitted}
 use Rattle.is_rules.specs.Agent.{AgentRecord}
 use Rattle.is_rules.specs.Leaving.{gives_way}
@@ -23,11 +22,9 @@ use Rattle.is_rules.specs.Sound.{IsSound}
 use Rattle.is_rules.specs.Steps.{HandleTimeout, Entry, Step}
 use Rattle.is_rules.specs.Timeouts.{at_request, is_expired, timeout_begun, MaintainsPairs, ServesQueued}
 use Rattle.is_rules.proofs.PairLists.ChosenPair.{named-by}
-use Rattle.is_theorems.specs.Logs.{Logged}
-use Rattle.is_theorems.specs.GivingWay.{IsLeft, IsReplaced, PathsAreReplaced}
+use Rattle.is_theorems.specs.GivingWay.{IsReplaced, PathsAreReplaced}
 use Rattle.is_theorems.specs.Progress.{IsGone}
-use Rattle.is_theorems.specs.Runs.{Point}
-use Rattle.is_theorems.specs.Staying.{MayEnd, Stays}
+use Rattle.is_theorems.specs.Staying.{Stays}
 use Rattle.is_theorems.proofs.CallEffects.PathAndTradeEffects.{path_theorem}
 use Rattle.is_theorems.proofs.CallEffects.SettingsRoleAndQueues.{maintains_pairs}
 use Rattle.is_theorems.proofs.ExecutionLogs.LogTheorems.{points_are_top, runs_sound}
@@ -61,6 +58,13 @@ is-off false h = refl
 right-one : (a b : Bool) → a ≡ false → (a || b) ≡ true → b ≡ true
 right-one true b off h = absurd (let no : true ≡ false = off in cc)
 right-one false b off h = h
+
+-- it had a response
+answered-by : (at : ℕ) (c : Check) → is_answered_by at c ≡ true → is_answered c ≡ true
+answered-by at c h = by c.answered h where
+  by : (o : Option ℕ) → option_map_or (λ received. nat_lt received at) o false ≡ true → is_some o ≡ true
+  by None none = none
+  by (Some received) before = refl
 
 lt-from : (n m : ℕ) → nat_lt n m ≡ true → n < m
 lt-from n m h = grind (arith, nat_tests, h)
@@ -118,8 +122,8 @@ module _ {H P : Type 0} (mac : H → List ℕ → List ℕ → List ℕ) (answer
     answered : (c : Check) × Has g.other.checks c × (is_answered_within g.silence c ≡ true)
     answered = passes (is_answered_within g.silence) g.other.checks parts.3
 
-    within : (is_answered answered.0 ≡ true) × (nat_lt g.silence.from.0 answered.0.sent ≡ true) × (nat_lt answered.0.sent g.silence.to.0 ≡ true)
-    within = all-three (is_answered answered.0) (nat_lt g.silence.from.0 answered.0.sent) (nat_lt answered.0.sent g.silence.to.0) answered.2
+    within : (is_answered_by g.silence.to.0 answered.0 ≡ true) × (nat_lt g.silence.from.0 answered.0.sent ≡ true) × (nat_lt answered.0.sent g.silence.to.0 ≡ true)
+    within = all-three (is_answered_by g.silence.to.0 answered.0) (nat_lt g.silence.from.0 answered.0.sent) (nat_lt answered.0.sent g.silence.to.0) answered.2
 
     silence : (a : Check) × (b : Check) × (first_unanswered p.checks ≡ Some a) × (first_of_last FOLLOWING p.checks ≡ Some b) × (g.silence ≡ span_between a b)
     silence = between (first_unanswered p.checks) (first_of_last FOLLOWING p.checks) g.silence g.lasts
@@ -139,7 +143,7 @@ module _ {H P : Type 0} (mac : H → List ℕ → List ℕ → List ℕ) (answer
           other = g.other;
           there = g.there;
           answered = answered.0;
-          had = (answered.1, within.0);
+          had = (answered.1, answered-by g.silence.to.0 answered.0 within.0);
           meanwhile = (
             lt-from silence.0.sent answered.0.sent (subst (λ (x : Span). nat_lt x.from.0 answered.0.sent ≡ true) silence.4 within.1),
             lt-from answered.0.sent silence.1.sent (subst (λ (x : Span). nat_lt answered.0.sent x.to.0 ≡ true) silence.4 within.2),

@@ -54,7 +54,8 @@ use Rattle.is_theorems.proofs.RemainingChecks.RemainingOfPairs.{unspent, unspent
 use Rattle.is_theorems.proofs.BasicLemmas.PairsInTurn.{by-begins, sent-pairs, sent_at}
 use Rattle.is_theorems.proofs.BasicLemmas.ServedPairs.{numbered-by}
 use Rattle.is_theorems.proofs.RuleEffects.NotedErrors.{coded, recoded, by_failure}
-use Rattle.is_rules.specs.Leaving.{path_left, gives_way}
+use Rattle.is_rules.specs.Leaving.{gives_way, hastened, path_left, silent_gone}
+use Rattle.is_theorems.proofs.RuleEffects.HastenedPairs.{by-hastened, due_next, Hastens}
 use Rattle.is_theorems.proofs.RuleEffects.PathsThatAreLeft.{gives-stores}
 
 -- what stays of the agent
@@ -253,12 +254,15 @@ module _ {H P : Type 0} where
 
       -- ---- timeouts
 
-      -- a pair that gives way sent all its checks
+      -- a pair that gives way sent all its checks, and the others store the same ones
       leaves-spends : (now : ℕ) (a : AgentRecord H P) → a.timing.max_retransmits ≡ m → Spends 0 a (path_left now a)
       leaves-spends now a same_most = (
         refl,
         omega arith,
-        (let le = unspents-filter m (λ p. not (gives_way now a p)) a.pairs (λ p has is. spent p (not-kept (gives_way now a p) is)) in omega (arith, le)),
+        (let le = unspents-filter m (λ p. not (gives_way now a p)) a.pairs (λ p has is. spent p (not-kept (gives_way now a p) is)) in
+            let same = unspents-map m (hastened (Hastens now a) now) (silent_gone now a).pairs
+            (λ p. unspent-alike m p (hastened (Hastens now a) now p) (by-hastened (λ x. x.checks ≡ p.checks) (Hastens now a) now p (λ at. refl) refl)) in
+            omega (arith, le, same)),
       ) where
         not-kept : (b : Bool) → not b ≡ false → b ≡ true
         not-kept true h = refl
@@ -266,6 +270,11 @@ module _ {H P : Type 0} where
 
         spent : (p : PairRecord) → gives_way now a p ≡ true → unspent m p ≡ 0
         spent p gives = let many = gives-stores now a p gives in omega (arith, many, same_most)
+
+      leaves-rises : (now : ℕ) (a : AgentRecord H P) → rises a.pairs ≡ true → rises (path_left now a).pairs ≡ true
+      leaves-rises now a rising =
+          rises-changed (hastened (Hastens now a) now) (λ p. by-hastened (λ x. x.number ≡ p.number) (Hastens now a) now p (λ at. refl) refl) (silent_gone now a).pairs
+          ∙ rises-filter (λ p. not (gives_way now a p)) a.pairs rising
 
       gives-up : (now : ℕ) (old new : AgentRecord H P) (path : Option Path) → old.lite ≡ false → old.timing.max_retransmits ≡ m → HaveConsent now old → RemovesExpired now old path new → Spends 0 old new × (rises old.pairs ≡ true → rises new.pairs ≡ true)
       gives-up now old new path full same_most consents h = either (list_any (is_expired now old) old.pairs) h
@@ -311,12 +320,12 @@ module _ {H P : Type 0} where
           (nominates-spends (path_left now (at_timeout now old)) named first nominating) in
           let named_full : named.lite ≡ false = ap (λ (x : Held). x.lite) a.0 ∙ full in
           let named_most : named.timing.max_retransmits ≡ m = ap (λ (x : Held). x.timing.max_retransmits) a.0 ∙ same_most in
-          let b = gives-up now named kept second named_full named_most (consents-named (names-thins 0 now (at_timeout now old) named first nominating)) giving in
-          let kept_rising = b.1 (nominates-rises (path_left now (at_timeout now old)) named first nominating ∙ rises-filter (λ p. not (gives_way now (at_timeout now old) p)) old.pairs rising) in
+          let b = gives-up now named kept second named_full named_most (consents-named (names-thins now (at_timeout now old) named first nominating)) giving in
+          let kept_rising = b.1 (nominates-rises (path_left now (at_timeout now old)) named first nominating ∙ leaves-rises now (at_timeout now old) rising) in
           let c = check now kept.remote_creds kept new s t issued (ap (λ (x : Held). x.lite) b.0.0 ∙ named_full) kept_rising checking in
           let all = spends-on 0 1 (at_timeout now old) kept new (spends-on 0 0 (at_timeout now old) named kept a b.0) c in
           (all.0, all.1, all.2) where
-            consents-named : Thins 0 (at_timeout now old) named → HaveConsent now named
+            consents-named : Thins (due_next now) (at_timeout now old) named → HaveConsent now named
             consents-named thins q has =
                 let o = thins.1.back q has in
                 consent-same (consent_of named.timing) now o.0 q o.2.consented o.2.heard

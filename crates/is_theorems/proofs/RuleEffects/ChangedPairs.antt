@@ -4,6 +4,7 @@ use Rattle.std.specs.List.{list_any}
 use Rattle.std.proofs.lemmas.Bool.{eq-eqb}
 use Rattle.is_proto.specs.Lists.{Has}
 use Rattle.is_pair.specs.Checks.{Check}
+use Rattle.is_pair.specs.Due.{moved_up}
 use Rattle.is_pair.specs.Pairs.{PairRecord, is_valid, is_nominated, nominated}
 use Rattle.is_rules.specs.declared.emitted.Path.{Path}
 use Rattle.is_rules.specs.Agent.{AgentRecord}
@@ -17,7 +18,8 @@ use Rattle.is_theorems.proofs.RuleEffects.SelectedPaths.{Evaluates, evaluates_no
 use Rattle.is_theorems.proofs.RuleEffects.EarlierAndNewPairs.{Parts, path_in, Fit, IsConsented, IsStarted, IsNominatedIn, Persisted, Onward, here, onward, thinned, Has-filter}
 use Rattle.is_rules.proofs.PairLists.ChosenPair.{chosen-able}
 use Rattle.is_theorems.proofs.RuleEffects.NominatedPairs.{selected_paths, SelectsPath, selects_path}
-use Rattle.is_rules.specs.Leaving.{gives_way, path_left}
+use Rattle.is_rules.specs.Leaving.{gives_way, hastened, path_left, silent_gone}
+use Rattle.is_theorems.proofs.RuleEffects.HastenedPairs.{by-hastened, left-held, Hastens}
 
 pub Has-map : {X Y : Type 0} (f : X → Y) (xs : List X) (y : Y) → Has (map f xs) y → (x : X) × Has xs x × (f x ≡ y)
 Has-map f [] y h = absurd h
@@ -93,6 +95,22 @@ module _ (asks : Path → ℕ → Type 0) (met : Path → Type 0) (sent : Path �
 
   pub unchanged : (path : Path) (p : PairRecord) → Changed path p p
   unchanged path p = record {
+    number = refl;
+    local = refl;
+    remote = refl;
+    checks = λ c keeps. inl (c, keeps, refl, refl);
+    valid = λ is. inl is;
+    asked = λ is. inl is;
+    numbered = λ m le. inl le;
+    still_valid = λ is. is;
+    still_nominated = λ is. is;
+    started = λ s. s;
+    consented = λ _ had. had;
+  }
+
+  -- its due time is moved up
+  sooner : (path : Path) (at : ℕ) (p : PairRecord) → Changed path p (moved_up at p)
+  sooner path at p = record {
     number = refl;
     local = refl;
     remote = refl;
@@ -263,16 +281,32 @@ module _ (asks : Path → ℕ → Type 0) (met : Path → Type 0) (sent : Path �
         → Onward asks met sent (parts_of old) (parts_of new) × Evaluates asks met sent (parts_of old) (parts_of new) old.selected_pair new.selected_pair path
     nominates old new path free fit h = selects_one old new path free fit (selects_path old new path h)
 
-    -- nomination, after the selected pair may have given way
+    -- the selected pair may have given way, and others may be hastened
+    pub left_moves : (now : ℕ) (old : AgentRecord H P) → Fit (parts_of old) → Onward asks met sent (parts_of old) (parts_of (path_left now old))
+    left_moves now old fit =
+        let gone = thinned asks met sent (parts_of old) (λ p. not (gives_way now old p)) fit in
+        onward asks met sent (parts_of old) (parts_of (silent_gone now old)) (parts_of (path_left now old)) gone
+        (mapped (parts_of (silent_gone now old)) (hastened (Hastens now old) now) gone.fit
+        (λ p has. by-hastened (λ q. Changed (path_of old p) p q) (Hastens now old) now p (λ at. sooner (path_of old p) at p) (unchanged (path_of old p) p)))
+
+    -- nomination after that
     pub names_moves : (now : ℕ) (old new : AgentRecord H P) (path : Option Path) → ((old.controlling || old.lite) ≡ true → (p : Path) (m : ℕ) → asks p m) → Fit (parts_of old) → Nominates (path_left now old) path new
         → Onward asks met sent (parts_of old) (parts_of new) × Evaluates asks met sent (parts_of old) (parts_of new) old.selected_pair new.selected_pair path
     names_moves now old new path free fit h =
-        let first = thinned asks met sent (parts_of old) (λ p. not (gives_way now old p)) fit in
+        let first = left_moves now old fit in
         let second = nominates (path_left now old) new path free first.fit h in (
           onward asks met sent (parts_of old) (parts_of (path_left now old)) (parts_of new) first second.0,
           record {
-            valid = λ p is. (let v = second.1.valid p is in (v.0, Has-filter (λ q. not (gives_way now old q)) old.pairs v.0 v.1, v.2, v.3));
-            asked = λ p is. elim (second.1.asked p is) [ inl v ↦ inl (v.0, Has-filter (λ q. not (gives_way now old q)) old.pairs v.0 v.1, v.2, v.3) | inr m ↦ inr m ];
+            valid = λ p is.
+                let v = second.1.valid p is in
+                let o = left-held now old (λ q. (is_valid q ≡ true) × (path_of old q ≡ p)) (λ at q held. held) (v.0, v.1, (v.2, v.3)) in
+                (o.0, o.1, o.2.0, o.2.1);
+            asked = λ p is. elim (second.1.asked p is) [
+              | inl v ↦
+                  let o = left-held now old (λ q. (is_nominated q ≡ true) × (path_of old q ≡ p)) (λ at q held. held) (v.0, v.1, (v.2, v.3)) in
+                  inl (o.0, o.1, o.2.0, o.2.1)
+              | inr m ↦ inr m
+            ];
             stays = second.1.stays;
             names = second.1.names;
           },

@@ -1,5 +1,5 @@
 -- When a selected pair gives way, and that all pairs stay otherwise.
-use Rattle.std.proofs.Common.{◌≡◌, ℕ, ◌<◌, ◌≤◌, ◌&&◌, ◌||◌, Bool, true, false, not, List, [], ◌∷◌, length, filter, inl, inr, nat_le, nat_lt, Option, Some, None, refl, ap, sym, ◌∙◌, subst, arith, if◌then◌else◌}
+use Rattle.std.proofs.Common.{◌≡◌, ℕ, ◌<◌, ◌≤◌, ◌&&◌, ◌||◌, Bool, true, false, not, List, [], ◌∷◌, length, map, filter, inl, inr, nat_le, Option, Some, None, refl, ap, ◌∙◌, arith, if◌then◌else◌}
 use Rattle.std.specs.Prelude.{position, reverse, unwrap_or}
 use Rattle.std.specs.List.{list_any}
 use Rattle.std.specs.Option.{option_map_or}
@@ -14,8 +14,9 @@ use Rattle.is_pair.specs.Multiset.{is_named_by}
 use Rattle.is_pair.specs.Pairs.{PairRecord, is_nominated, is_valid}
 use Rattle.is_pair.specs.Silence.{silence_of}
 use Rattle.is_rules.specs.Agent.{AgentRecord}
-use Rattle.is_rules.specs.Leaving.{gives_way, may_replace, path_left}
+use Rattle.is_rules.specs.Leaving.{gives_way, hastened, is_silent_enough, may_replace, path_left, silent_gone}
 use Rattle.is_rules.specs.Nominating.{is_eligible}
+use Rattle.is_theorems.proofs.RuleEffects.HastenedPairs.{none-hastened}
 
 -- ---- lists
 
@@ -24,6 +25,10 @@ filter-all : {X : Type 0} (keep : X → Bool) (xs : List X) → ((x : X) → Has
 filter-all keep [] all = refl
 filter-all keep (x ∷ xs) all =
     ap (λ b. if b then x ∷ filter keep xs else filter keep xs) (all x (inl refl)) ∙ ap (λ ys. x ∷ ys) (filter-all keep xs (λ y has. all y (inr has)))
+
+none-any : {X : Type 0} (test : X → Bool) (xs : List X) → ((x : X) → Has xs x → test x ≡ false) → list_any test xs ≡ false
+none-any test [] none = refl
+none-any test (x ∷ xs) none = ap (λ b. b || list_any test xs) (none x (inl refl)) ∙ none-any test xs (λ y has. none y (inr has))
 
 pub passes : {X : Type 0} (test : X → Bool) (xs : List X) → list_any test xs ≡ true → (x : X) × Has xs x × (test x ≡ true)
 passes test [] h = absurd (let no : false ≡ true = h in cc)
@@ -47,30 +52,32 @@ unanswered-most cs = by (position is_answered (reverse cs)) refl where
 le-from : (n m : ℕ) → nat_le n m ≡ true → n ≤ m
 le-from n m h = grind (arith, nat_tests, h)
 
-all-six : (a b c d e f : Bool) → (a && b && c && d && e && f) ≡ true → (a ≡ true) × (b ≡ true) × (c ≡ true) × (d ≡ true) × (e ≡ true) × (f ≡ true)
-all-six true true true true true f h = (refl, refl, refl, refl, refl, h)
-all-six true true true true false f h = absurd (let no : false ≡ true = h in cc)
-all-six true true true false e f h = absurd (let no : false ≡ true = h in cc)
-all-six true true false d e f h = absurd (let no : false ≡ true = h in cc)
-all-six true false c d e f h = absurd (let no : false ≡ true = h in cc)
-all-six false b c d e f h = absurd (let no : false ≡ true = h in cc)
+all-seven : (a b c d e f g : Bool) → (a && b && c && d && e && f && g) ≡ true
+    → (a ≡ true) × (b ≡ true) × (c ≡ true) × (d ≡ true) × (e ≡ true) × (f ≡ true) × (g ≡ true)
+all-seven true true true true true true g h = (refl, refl, refl, refl, refl, refl, h)
+all-seven true true true true true false g h = absurd (let no : false ≡ true = h in cc)
+all-seven true true true true false f g h = absurd (let no : false ≡ true = h in cc)
+all-seven true true true false e f g h = absurd (let no : false ≡ true = h in cc)
+all-seven true true false d e f g h = absurd (let no : false ≡ true = h in cc)
+all-seven true false c d e f g h = absurd (let no : false ≡ true = h in cc)
+all-seven false b c d e f g h = absurd (let no : false ≡ true = h in cc)
 
-third-off : (a b c d e f : Bool) → c ≡ false → (a && b && c && d && e && f) ≡ false
-third-off true true true d e f is = absurd (let no : true ≡ false = is in cc)
-third-off true true false d e f is = refl
-third-off true false c d e f is = refl
-third-off false b c d e f is = refl
+third-off : (a b c d e f g : Bool) → c ≡ false → (a && b && c && d && e && f && g) ≡ false
+third-off true true true d e f g is = absurd (let no : true ≡ false = is in cc)
+third-off true true false d e f g is = refl
+third-off true false c d e f g is = refl
+third-off false b c d e f g is = refl
 
-fourth-off : (a b c d e f : Bool) → d ≡ false → (a && b && c && d && e && f) ≡ false
-fourth-off true true true true e f is = absurd (let no : true ≡ false = is in cc)
-fourth-off true true true false e f is = refl
-fourth-off true true false d e f is = refl
-fourth-off true false c d e f is = refl
-fourth-off false b c d e f is = refl
+fourth-off : (a b c d e f g : Bool) → d ≡ false → (a && b && c && d && e && f && g) ≡ false
+fourth-off true true true true e f g is = absurd (let no : true ≡ false = is in cc)
+fourth-off true true true false e f g is = refl
+fourth-off true true false d e f g is = refl
+fourth-off true false c d e f g is = refl
+fourth-off false b c d e f g is = refl
 
-first-off : (a b c d e f : Bool) → a ≡ false → (a && b && c && d && e && f) ≡ false
-first-off true b c d e f is = absurd (let no : true ≡ false = is in cc)
-first-off false b c d e f is = refl
+first-off : (a b c d e f g : Bool) → a ≡ false → (a && b && c && d && e && f && g) ≡ false
+first-off true b c d e f g is = absurd (let no : true ≡ false = is in cc)
+first-off false b c d e f g is = refl
 
 invalid-off : (v n : Bool) → v ≡ false → (v && n) ≡ false
 invalid-off true n is = absurd (let no : true ≡ false = is in cc)
@@ -92,6 +99,7 @@ module _ {H P : Type 0} where
     pub selected : is_named_by a.selected_pair p ≡ true
     pub eligible : is_eligible a.controlling p ≡ true
     pub silent : a.timing.max_retransmits ≤ unanswered_count p.checks
+    pub long : is_silent_enough now a.timing p ≡ true
     pub silence : Span
     pub lasts : silence_of p.checks ≡ Some silence
     pub other : PairRecord
@@ -102,14 +110,15 @@ module _ {H P : Type 0} where
   gives-why now a p h = from parts where
     Parts : Type 0
     Parts = (is_modern a.timing ≡ true) × (not a.lite ≡ true) × (is_named_by a.selected_pair p ≡ true) × (is_eligible a.controlling p ≡ true)
-        × (nat_le a.timing.max_retransmits (unanswered_count p.checks) ≡ true) × (option_map_or (λ silence. list_any (may_replace now a p.number silence) a.pairs) (silence_of p.checks) false ≡ true)
+        × (nat_le a.timing.max_retransmits (unanswered_count p.checks) ≡ true) × (is_silent_enough now a.timing p ≡ true)
+        × (option_map_or (λ silence. list_any (may_replace now a p.number silence) a.pairs) (silence_of p.checks) false ≡ true)
 
     parts : Parts
-    parts = all-six (is_modern a.timing) (not a.lite) (is_named_by a.selected_pair p) (is_eligible a.controlling p) (nat_le a.timing.max_retransmits (unanswered_count p.checks))
-        (option_map_or (λ silence. list_any (may_replace now a p.number silence) a.pairs) (silence_of p.checks) false) h
+    parts = all-seven (is_modern a.timing) (not a.lite) (is_named_by a.selected_pair p) (is_eligible a.controlling p) (nat_le a.timing.max_retransmits (unanswered_count p.checks))
+        (is_silent_enough now a.timing p) (option_map_or (λ silence. list_any (may_replace now a p.number silence) a.pairs) (silence_of p.checks) false) h
 
     from : Parts → GivesWay now a p
-    from (modern, full, selected, eligible, silent, another) =
+    from (modern, full, selected, eligible, silent, long, another) =
         let o = in-some (λ silence. list_any (may_replace now a p.number silence) a.pairs) (silence_of p.checks) another in
         let k = passes (may_replace now a p.number o.0) a.pairs o.2 in record {
           modern = modern;
@@ -117,6 +126,7 @@ module _ {H P : Type 0} where
           selected = selected;
           eligible = eligible;
           silent = le-from a.timing.max_retransmits (unanswered_count p.checks) silent;
+          long = long;
           silence = o.0;
           lasts = o.1;
           other = k.0;
@@ -130,20 +140,23 @@ module _ {H P : Type 0} where
   -- ---- when all pairs stay
 
   pub none-left : (now : ℕ) (a : AgentRecord H P) → ((p : PairRecord) → Has a.pairs p → gives_way now a p ≡ false) → path_left now a ≡ a
-  none-left now a none = ap (λ ps. record a { pairs = ps }) (filter-all (λ p. not (gives_way now a p)) a.pairs (λ p has. ap not (none p has)))
+  none-left now a none =
+      ap (λ b. record a { pairs = map (hastened (b && a.controlling) now) (silent_gone now a).pairs }) (none-any (gives_way now a) a.pairs none)
+      ∙ (ap (λ ps. record a { pairs = map (hastened false now) ps }) (filter-all (λ p. not (gives_way now a p)) a.pairs (λ p has. ap not (none p has)))
+      ∙ ap (λ ps. record a { pairs = ps }) (none-hastened now a.pairs))
 
   -- no pair is valid
   pub invalid-stays : (now : ℕ) (a : AgentRecord H P) (p : PairRecord) → is_valid p ≡ false → gives_way now a p ≡ false
   invalid-stays now a p invalid =
-      fourth-off (is_modern a.timing) (not a.lite) (is_named_by a.selected_pair p) (is_eligible a.controlling p) _ _ (invalid-off (is_valid p) (a.controlling || is_nominated p) invalid)
+      fourth-off (is_modern a.timing) (not a.lite) (is_named_by a.selected_pair p) (is_eligible a.controlling p) _ _ _ (invalid-off (is_valid p) (a.controlling || is_nominated p) invalid)
 
   pub none-valid-left : (now : ℕ) (a : AgentRecord H P) → ((p : PairRecord) → Has a.pairs p → is_valid p ≡ false) → path_left now a ≡ a
   none-valid-left now a none = none-left now a (λ p has. invalid-stays now a p (none p has))
 
   -- no pair is selected
   pub unselected-left : (now : ℕ) (a : AgentRecord H P) → a.selected_pair ≡ None → path_left now a ≡ a
-  unselected-left now a none = none-left now a (λ p has. third-off (is_modern a.timing) (not a.lite) (is_named_by a.selected_pair p) _ _ _ (ap (λ o. is_named_by o p) none))
+  unselected-left now a none = none-left now a (λ p has. third-off (is_modern a.timing) (not a.lite) (is_named_by a.selected_pair p) _ _ _ _ (ap (λ o. is_named_by o p) none))
 
   -- the profile is `Original`
   pub original-left : (now : ℕ) (a : AgentRecord H P) → is_modern a.timing ≡ false → path_left now a ≡ a
-  original-left now a off = none-left now a (λ p has. first-off (is_modern a.timing) _ _ _ _ _ off)
+  original-left now a off = none-left now a (λ p has. first-off (is_modern a.timing) _ _ _ _ _ _ off)

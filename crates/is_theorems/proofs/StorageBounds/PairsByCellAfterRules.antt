@@ -57,7 +57,8 @@ use Rattle.is_theorems.proofs.BasicLemmas.PairsInTurn.{sent-pairs, sent_at}
 use Rattle.is_stun.specs.declared.timing.StunTiming.{StunTiming}
 use Rattle.is_theorems.proofs.BasicLemmas.ServedPairs.{numbered-by}
 use Rattle.is_theorems.proofs.RuleEffects.NotedErrors.{coded, recoded, by_failure}
-use Rattle.is_rules.specs.Leaving.{path_left, gives_way}
+use Rattle.is_rules.specs.Leaving.{gives_way, hastened, path_left, silent_gone}
+use Rattle.is_theorems.proofs.RuleEffects.HastenedPairs.{by-hastened, Hastens}
 
 -- the local candidate at the index was not brought by a response
 abbrev pub own_at : List CandidateRecord → ℕ → Bool
@@ -208,6 +209,12 @@ module _ {H P : Type 0} where
       (on old (expired_gone now old) k.0 (extras-filter (own_at old.local) (λ p. not (is_expired now old p)) old.pairs) (nominates_fewer (expired_gone now old) k.0 path k.1)))
       (λ _ k. made-as old (settled true now old) new k.1 (unchanged old old refl))
 
+  leaves_fewer : (now : ℕ) (old : AgentRecord H P) → Fewer old (path_left now old)
+  leaves_fewer now old =
+      on old (silent_gone now old) (path_left now old) (extras-filter (own_at old.local) (λ p. not (gives_way now old p)) old.pairs)
+      (alike (silent_gone now old) (path_left now old) (recast (silent_gone now old) (path_left now old).pairs
+      (cells-map (hastened (Hastens now old) now) (λ p. by-hastened (λ x. cell_of x ≡ cell_of p) (Hastens now old) now p (λ at. refl) refl) (silent_gone now old).pairs)))
+
   -- ---- checks
 
   asked_cells : (now : ℕ) (old : AgentRecord H P) → grid_of (all_asked now old) ≡ grid_of old
@@ -234,7 +241,7 @@ module _ {H P : Type 0} where
   maintains_pairs_fewer : (mac : H → List ℕ → List ℕ → List ℕ) (now : ℕ) (old new : AgentRecord H P) (s t : Stream) (emitted : Emitted) → MaintainsPairs mac now old s emitted new t → Fewer old new
   maintains_pairs_fewer mac now old new s t emitted (first, second, issued, named, kept, nominating, giving, checking, is) =
       on old named new
-      (on old (path_left now (at_timeout now old)) named (extras-filter (own_at old.local) (λ p. not (gives_way now (at_timeout now old) p)) old.pairs)
+      (on old (path_left now (at_timeout now old)) named (leaves_fewer now (at_timeout now old))
       (nominates_fewer (path_left now (at_timeout now old)) named first nominating))
       (on named kept new (removes_expired_fewer now named kept second giving) (check_fewer mac now kept.remote_creds kept new s t issued checking))
 

@@ -4,7 +4,7 @@ use Rattle.std.specs.Prelude.{MatchOption, slice_get, slice_set, nat_lt}
 use Rattle.std.proofs.lemmas.Bool.Decides.{nat_tests}
 use Rattle.std.specs.List.{list_any}
 use Rattle.rand_core.specs.Stream.{Stream}
-use Rattle.is_proto.specs.Lists.{Has, same}
+use Rattle.is_proto.specs.Lists.{Has}
 use Rattle.is_proto.specs.Times.{counted}
 use Rattle.is_candidate.specs.Candidates.{candidate_at}
 use Rattle.is_pair.specs.Pairs.{PairRecord, is_nominated, with_request, validated, nominated, heard, heard_at}
@@ -45,7 +45,8 @@ use Rattle.is_theorems.proofs.RuleEffects.TriggeredPairs.{triggered_by, by_trigg
 use Rattle.is_theorems.proofs.BasicLemmas.PairsInTurn.{by-begins, sent-pairs, sent_at}
 use Rattle.is_theorems.proofs.BasicLemmas.ServedPairs.{numbered-by}
 use Rattle.is_theorems.proofs.RuleEffects.NotedErrors.{coded, recoded, by_failure}
-use Rattle.is_rules.specs.Leaving.{path_left, gives_way}
+use Rattle.is_rules.specs.Leaving.{gives_way, hastened, path_left}
+use Rattle.is_theorems.proofs.RuleEffects.HastenedPairs.{by-hastened, hastened-expires, left-has, Hastens}
 
 -- ---- lists
 
@@ -148,6 +149,9 @@ self-kept c l n p lite now t = apart (is_numbered n p) (not (is_nominated p) && 
   apart true false l = (follows-same p, refl)
   apart false b l = (follows-same p, refl)
 
+hastened-follows : (b : Bool) (now : ℕ) (p : PairRecord) → Follows p (hastened b now p)
+hastened-follows b now p = by-hastened (λ x. Follows p x) b now p (λ at. follows-same p) (follows-same p)
+
 or-true : (b : Bool) → (b || true) ≡ true
 or-true true = refl
 or-true false = refl
@@ -233,17 +237,17 @@ module _ {H P : Type 0} where
       moved ps o f (r, there, number, asked) = (r, there, number ∙ f.0, λ on. asked (f.1 on))
 
       base : agent_base named ≡ agent_base (at_timeout now old)
-      base = (names-thins 0 now (at_timeout now old) named first nominating).0
+      base = (names-thins now (at_timeout now old) named first nominating).0
 
       by : (b : Bool) → gives_way now old p ≡ b → Persists p.number (is_asked p) new.pairs ⊎ ((is_expired now old p || b) ≡ true)
       by true is_so = inr (or-true (is_expired now old p))
       by false is_so =
-          let n = nominates-leaves now (path_left now (at_timeout now old)) named first nominating p
-          (Has-kept (λ q. not (gives_way now (at_timeout now old) q)) old.pairs p has (ap not is_so)) in
+          let q : PairRecord = hastened (Hastens now old) now p in
+          let n = nominates-leaves now (path_left now (at_timeout now old)) named first nominating q (left-has now (at_timeout now old) p has is_so) in
           elim (gives-up-leaves now named kept second giving n.0 n.1) [
-            | inl k ↦ inl (keep-check now kept.remote_creds kept new s t issued checking p.number (is_asked p) (moved kept.pairs n.0 n.2 k))
+            | inl k ↦ inl (keep-check now kept.remote_creds kept new s t issued checking p.number (is_asked p) (moved kept.pairs n.0 (follows-on p q n.0 (hastened-follows (Hastens now old) now p) n.2) k))
             | inr gone ↦
-                inr (ap (λ e. e || false) (sym n.3 ∙ (sym (ap (λ (b : Base). due.is_pair_expired b.lite now b.timing n.0) base) ∙ gone)))
+                inr (ap (λ e. e || false) (sym (hastened-expires (Hastens now old) now p old.lite old.timing) ∙ sym n.3 ∙ (sym (ap (λ (b : Base). due.is_pair_expired b.lite now b.timing n.0) base) ∙ gone)))
           ]
 
     -- ---- requests

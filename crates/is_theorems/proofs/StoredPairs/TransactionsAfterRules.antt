@@ -51,7 +51,8 @@ use Rattle.is_theorems.proofs.RuleEffects.Reselection.{by-reselecting}
 use Rattle.is_theorems.proofs.RuleEffects.TriggeredPairs.{triggered_by, by_trigger}
 use Rattle.is_theorems.proofs.BasicLemmas.ServedPairs.{numbered-by}
 use Rattle.is_theorems.proofs.RuleEffects.NotedErrors.{coded, recoded, by_failure}
-use Rattle.is_rules.specs.Leaving.{path_left, gives_way}
+use Rattle.is_rules.specs.Leaving.{gives_way, hastened, path_left}
+use Rattle.is_theorems.proofs.RuleEffects.HastenedPairs.{by-hastened, hastened-expires, left-has, Hastens}
 
 -- ---- lists
 
@@ -145,6 +146,9 @@ self-due c l n p lite now t = apart (is_numbered n p) (not (is_nominated p) && (
   apart true true l = expired_nominated lite l now t p
   apart true false l = refl
   apart false b l = refl
+
+hastened-same : (b : Bool) (now : ℕ) (p : PairRecord) → Same p (hastened b now p)
+hastened-same b now p = by-hastened (λ x. Same p x) b now p (λ at. (refl, refl)) (refl, refl)
 
 -- the last checks, as they were sent
 pub sent-last : (kept : ℕ) (p : PairRecord) (c : Check) → as_sent c ≡ c → map as_sent (last_checks kept (p.checks ++ c ∷ [])) ≡ last_checks kept (sent_of p ++ c ∷ [])
@@ -303,7 +307,7 @@ module _ {H P : Type 0} where
         → Persists p new.pairs ⊎ (Sends old.timing.max_retransmits p emitted.issued new ⊎ ((is_expired now old p || gives_way now old p) ≡ true))
     maintains_pairs now old new s t emitted (first, second, issued, named, kept, nominating, giving, checking, is) p has = by (gives_way now old p) refl where
       base : agent_base named ≡ agent_base (at_timeout now old)
-      base = (names-thins 0 now (at_timeout now old) named first nominating).0
+      base = (names-thins now (at_timeout now old) named first nominating).0
 
       timing : kept.timing ≡ old.timing
       timing = ap (λ (b : Base). b.timing) (gives-up-thins 0 now named kept second giving).0 ∙ ap (λ (b : Base). b.timing) base
@@ -311,16 +315,17 @@ module _ {H P : Type 0} where
       by : (b : Bool) → gives_way now old p ≡ b → Persists p new.pairs ⊎ (Sends old.timing.max_retransmits p emitted.issued new ⊎ ((is_expired now old p || b) ≡ true))
       by true is_so = inr (inr (or-true (is_expired now old p)))
       by false is_so =
-          let n = nominates-leaves now (path_left now (at_timeout now old)) named first nominating p
-          (Has-kept (λ q. not (gives_way now (at_timeout now old) q)) old.pairs p has (ap not is_so)) in
+          let q : PairRecord = hastened (Hastens now old) now p in
+          let n = nominates-leaves now (path_left now (at_timeout now old)) named first nominating q (left-has now (at_timeout now old) p has is_so) in
+          let through : Same p n.0 = same-on p q n.0 (hastened-same (Hastens now old) now p) n.2 in
           elim (gives-up-leaves now named kept second giving n.0 n.1) [
             | inl k ↦
                 elim (checks now kept.remote_creds kept new s t issued checking k.0 k.1) [
-                  | inl l ↦ inl (l.0, l.1, same-on p k.0 l.0 (same-on p n.0 k.0 n.2 k.2) l.2)
-                  | inr l ↦ inr (inl (sends-on kept.timing.max_retransmits old.timing.max_retransmits p k.0 issued emitted.issued new (same-on p n.0 k.0 n.2 k.2) (ap (λ (x : StunTiming). x.max_retransmits) timing) (ap (λ (x : Emitted). x.issued) is) l))
+                  | inl l ↦ inl (l.0, l.1, same-on p k.0 l.0 (same-on p n.0 k.0 through k.2) l.2)
+                  | inr l ↦ inr (inl (sends-on kept.timing.max_retransmits old.timing.max_retransmits p k.0 issued emitted.issued new (same-on p n.0 k.0 through k.2) (ap (λ (x : StunTiming). x.max_retransmits) timing) (ap (λ (x : Emitted). x.issued) is) l))
                 ]
             | inr gone ↦
-                inr (inr (ap (λ e. e || false) (sym n.3 ∙ (sym (ap (λ (b : Base). due.is_pair_expired b.lite now b.timing n.0) base) ∙ gone))))
+                inr (inr (ap (λ e. e || false) (sym (hastened-expires (Hastens now old) now p old.lite old.timing) ∙ sym n.3 ∙ (sym (ap (λ (b : Base). due.is_pair_expired b.lite now b.timing n.0) base) ∙ gone))))
           ]
 
     -- ---- requests

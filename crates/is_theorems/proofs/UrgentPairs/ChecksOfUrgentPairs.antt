@@ -13,7 +13,7 @@ use Rattle.is_pair.specs.Pairs.{PairRecord}
 use Rattle.is_stun.specs.declared.header.Class.TheVariants as class
 use Rattle.is_stun.specs.Timing.{is_modern}
 use Rattle.is_rules.specs.Agent.{AgentRecord}
-use Rattle.is_rules.specs.Checking.{all_asked, are_kinds_in_turn, has_first, is_ahead_turn, precedence, ChecksTop, IsNextInTurn, IsNextToCheck, MayCheck}
+use Rattle.is_rules.specs.Checking.{all_asked, are_kinds_in_turn, has_first, is_ahead_turn, precedence, ChecksTop, GoesAhead, IsNextInTurn, IsNextToCheck, MayCheck}
 use Rattle.is_rules.specs.declared.credentials.IceCreds.{IceCreds}
 use Rattle.is_rules.specs.declared.emitted.Emitted.{Emitted}
 use Rattle.is_rules.specs.declared.emitted.Issued.{Issued}
@@ -26,16 +26,18 @@ use Rattle.is_rules.specs.Sending.{path_of}
 use Rattle.is_rules.specs.Timeouts.{at_timeout, expired_gone, is_expired, MaintainsPairs, RemovesExpired}
 use Rattle.is_rules.proofs.PairLists.ChosenPair.{found-in, none_pass}
 use Rattle.is_rules.proofs.PairLists.PairsByNumber.{has-any}
-use Rattle.is_theorems.proofs.BasicLemmas.PairsInTurn.{in-turn, next-has, none-is-due}
+use Rattle.is_theorems.proofs.BasicLemmas.PairsInTurn.{ahead-or-along, in-turn, next-has, none-is-due}
 use Rattle.is_theorems.proofs.CallEffects.ServedRequests.{Has-mapped}
-use Rattle.is_theorems.proofs.DuePairs.AfterNominationAndRemoval.{Distinct, Has-kept}
+use Rattle.is_theorems.proofs.DuePairs.AfterNominationAndRemoval.{Distinct, Has-kept, leaves-thins}
 use Rattle.is_theorems.proofs.DuePairs.FirstDuePair.{next-check}
 use Rattle.is_theorems.proofs.KindTurns.ChecksByKind.{path_by, precedence_by, view_of, Checks, TurnView}
 use Rattle.is_theorems.proofs.RuleEffects.ChangedPairs.{Has-map}
 use Rattle.is_theorems.proofs.RuleEffects.EarlierAndNewPairs.{Has-filter}
 use Rattle.is_theorems.proofs.RuleEffects.NominatedPairs.{selects_path, SelectsPath}
 use Rattle.is_theorems.proofs.RuleEffects.UnchangedSettings.{either}
-use Rattle.is_rules.specs.Leaving.{path_left, gives_way}
+use Rattle.is_theorems.proofs.RuleEffects.HastenedPairs.{left-has, left-was, only-due, Hastens}
+use Rattle.is_theorems.proofs.RuleEffects.UnhastenedPairs.{urgent-stays}
+use Rattle.is_rules.specs.Leaving.{gives_way, has_urgent, hastened, path_left}
 
 le-is : (n m : ℕ) → n ≤ m → nat_le n m ≡ true
 le-is n m h = grind (arith, nat_tests, h)
@@ -106,6 +108,13 @@ Precedes v now p o =
     (is_named_by v.selected_pair o ≡ true)
     ⊎ ((is_urgent o ≡ true) × TurnsBefore v.local v.remote (precedence_by v) v.next_kind now v.timing o p)
 
+-- a pair that is hastened comes before only if it came before
+precedes-as-was : (controlling : Bool) (v : TurnView) (now : ℕ) (p o : PairRecord) → Precedes v now p (hastened controlling now o) → Precedes v now p o
+precedes-as-was controlling v now p o (inl named) = inl (sym (ap (λ (x : PairRecord). is_named_by v.selected_pair x) (only-due controlling now o)) ∙ named)
+precedes-as-was controlling v now p o (inr (urgent, before)) =
+    let was : is_urgent o ≡ true = sym (ap (λ (x : PairRecord). is_urgent x) (only-due controlling now o)) ∙ urgent in
+    inr (was, subst (λ (x : PairRecord). TurnsBefore v.local v.remote (precedence_by v) v.next_kind now v.timing x p) (urgent-stays controlling now o was) before)
+
 module _ {H P : Type 0} where
   -- another pair o is checked, before p
   abbrev pub Overtakes : ℕ → AgentRecord H P → Option Issued → PairRecord → Type 0
@@ -149,12 +158,18 @@ module _ {H P : Type 0} where
             h,
           )
 
-          -- the next pair, if the check may go ahead
+          some_urgent : has_urgent now (all_asked now old) ≡ true
+          some_urgent = has-any (is_first_due (record { selected = None; urgent = true }) now old.timing) (map (asked now old.timing) old.pairs) (asked now old.timing p) in_asked
+              (and-is (is_due now old.timing (asked now old.timing p)) (is_urgent p) p_due urgent)
+
+          -- the next pair, if the check may go ahead: none is asked along
           ahead-next : (q : PairRecord) → IsNextInTurn now (all_asked now old) (Some q) → old.ahead_turn ≡ true
               → IsNextAhead old.local old.remote (precedence old) old.next_kind now old.timing (map (asked now old.timing) old.pairs) (Some q)
-          ahead-next q turn on =
-              subst (λ b. MatchBool b (IsNextAhead old.local old.remote (precedence old) old.next_kind now old.timing (map (asked now old.timing) old.pairs) (Some q)) (IsNextDue now old.timing (map (asked now old.timing) old.pairs) (Some q)))
-              (ahead ∙ on) turn
+          ahead-next q turn on = elim (ahead-or-along now (all_asked now old) q
+              (subst (λ b. MatchBool b (GoesAhead now (all_asked now old) (Some q)) (IsNextDue now old.timing (map (asked now old.timing) old.pairs) (Some q))) (ahead ∙ on) turn)) [
+                | inl next ↦ next
+                | inr along ↦ absurd (let no : true ≡ false = sym some_urgent ∙ along.no_urgent in cc)
+              ]
 
           precedes : (q o : PairRecord) → asked now old.timing o ≡ q → IsNextToCheck now (all_asked now old) (Some q) → old.ahead_turn ≡ true → (b : Bool) → nominates_at_once (all_asked now old) ≡ b
               → Precedes (view_of old) now p o
@@ -230,29 +245,30 @@ module _ {H P : Type 0} where
         let none = none-selected first second (sym (ap (λ (x : Emitted). is_some (last_of x.selected_paths)) is) ∙ quiet) in
         let same : named ≡ path_left now (at_timeout now old) = nominates-none (path_left now (at_timeout now old)) named first nominating none.0 in
         let further : Leaves (path_left now (at_timeout now old)) kept = removes-none (path_left now (at_timeout now old)) kept second (subst (λ (x : AgentRecord H P). RemovesExpired now x second kept) same giving) none.1 in
-        let left : (view_of kept ≡ view_of old) × ((q : PairRecord) → Has kept.pairs q → Has old.pairs q) × Has kept.pairs p = (
-          further.0,
-          (λ q there. Has-filter (λ x. not (gives_way now (at_timeout now old) x)) old.pairs q (further.1 q there)),
-          further.2 p (Has-kept (λ x. not (gives_way now (at_timeout now old) x)) old.pairs p has (ap not keeps)) stays,
-        ) in
-        let view : view_of kept ≡ view_of old = left.0 in
-        taken kept left.1 view (ap (λ (x : Emitted). x.issued) is)
+        let there : Has kept.pairs p =
+        further.2 p (subst (λ (x : PairRecord). Has (path_left now (at_timeout now old)).pairs x) (urgent-stays (Hastens now (at_timeout now old)) now p urgent) (left-has now (at_timeout now old) p has keeps)) stays in
+        let view : view_of kept ≡ view_of old = further.0 in
+        taken kept (λ q q_has. left-was now (at_timeout now old) q (further.1 q q_has)) view (ap (λ (x : Emitted). x.issued) is)
         (check-alternates kept new s u issued (ap (λ (v : TurnView). is_some v.remote_creds) view ∙ known) (ap (λ (v : TurnView). v.lite) view ∙ full)
-        (λ x y x_has y_has one. distinct x y (left.1 x x_has) (left.1 y y_has) one) (ap (λ (v : TurnView). is_modern v.timing) view ∙ rule) p left.2 urgent
+        (λ x y x_has y_has one. (leaves-thins now (at_timeout now old)).1.distinct distinct x y (further.1 x x_has) (further.1 y y_has) one) (ap (λ (v : TurnView). is_modern v.timing) view ∙ rule) p there urgent
         (subst (λ (v : TurnView). due_time_of now v.timing p ≤ now) (sym view) due) checking) where
           on-path : (kept : AgentRecord H P) (issued : Option Issued) → view_of kept ≡ view_of old → emitted.issued ≡ issued → (q : PairRecord) → Checks kept issued q → Checks old emitted.issued q
           on-path kept issued view issues q (id, out) = (id, issues ∙ (out ∙ ap (λ (v : TurnView). Some (issued_as (path_by v q) class.Request id)) view))
 
-          taken : (kept : AgentRecord H P) → ((q : PairRecord) → Has kept.pairs q → Has old.pairs q) → view_of kept ≡ view_of old → {issued : Option Issued} → emitted.issued ≡ issued
+          taken : (kept : AgentRecord H P) → ((q : PairRecord) → Has kept.pairs q → (o : PairRecord) × Has old.pairs o × (hastened (Hastens now (at_timeout now old)) now o ≡ q))
+              → view_of kept ≡ view_of old → {issued : Option Issued} → emitted.issued ≡ issued
               → Checks kept issued p ⊎ Alternates now kept issued new p → Checks old emitted.issued p ⊎ Alternates now old emitted.issued new p
           taken kept back view {issued = issued} issues (inl checks) = inl (on-path kept issued view issues p checks)
           taken kept back view {issued = issued} issues (inr t) = inr (record {
             alternates = t.alternates ∙ ap (λ (v : TurnView). not v.ahead_turn) view;
-            overtakes = λ on. (let (o, there, apart, sent, precedes) = t.overtakes (ap (λ (v : TurnView). v.ahead_turn) view ∙ on) in (
-              o,
-              back o there,
-              apart,
-              on-path kept issued view issues o sent,
-              subst (λ (v : TurnView). Precedes v now p o) view precedes,
-            ));
+            overtakes = λ on. (let (o, there, apart, (id, out), precedes) = t.overtakes (ap (λ (v : TurnView). v.ahead_turn) view ∙ on) in
+                let (was, was_there, is) = back o there in
+                let same : o ≡ record was { due = o.due } = sym is ∙ (only-due (Hastens now (at_timeout now old)) now was ∙ ap (λ (x : PairRecord). record was { due = x.due }) is) in (
+                  was,
+                  was_there,
+                  (λ one. apart (ap (λ (x : PairRecord). x.number) same ∙ one)),
+                  on-path kept issued view issues was (id, out ∙ ap (λ (x : PairRecord). Some (issued_as (path_of kept x) class.Request id)) same),
+                  subst (λ (v : TurnView). Precedes v now p was) view
+                      (precedes-as-was (Hastens now (at_timeout now old)) (view_of kept) now p was (subst (λ (x : PairRecord). Precedes (view_of kept) now p x) (sym is) precedes)),
+                ));
           })

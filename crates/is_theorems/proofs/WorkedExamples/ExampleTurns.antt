@@ -1,6 +1,6 @@
 -- Checks that go ahead, in a worked example: two pairs are due. Whose turn it is decides which one is checked; but an urgent pair comes
--- before all turns.
-use Rattle.std.proofs.Common.{◌≡◌, ℕ, ◌<◌, true, false, List, [], ◌∷◌, Some, None, inl, inr, refl, subst, arith}
+-- before all turns. While the selected pair is silent, the other one is asked along.
+use Rattle.std.proofs.Common.{◌≡◌, ℕ, ◌<◌, true, false, List, [], ◌∷◌, Some, None, inl, inr, refl, sym, subst, arith}
 use Rattle.std.specs.Prelude.{codes}
 use Rattle.is_proto.specs.Lists.{Has}
 use Rattle.is_proto.specs.declared.proto.Protocol.TheVariants.{Udp}
@@ -9,6 +9,9 @@ use Rattle.is_stun.specs.declared.timing.Profile.TheVariants.{Modern}
 use Rattle.is_candidate.specs.Candidates.{CandidateRecord}
 use Rattle.is_candidate.specs.Making.{signalled_candidate}
 use Rattle.is_candidate.specs.declared.candidate.kind.CandidateKind.TheVariants.{ServerReflexive}
+use Rattle.is_pair.specs.declared.pair.silence.Span.{Span}
+use Rattle.is_pair.specs.declared.pair.states.CheckState.TheVariants.{Succeeded}
+use Rattle.is_pair.specs.declared.pair.states.NominationState.TheVariants.{Success}
 use Rattle.is_pair.specs.Due.{asked, GoesBefore}
 use Rattle.is_pair.specs.Pairs.{PairRecord, new_pair}
 use Rattle.is_rules.specs.declared.event.IceConnectionState.TheVariants.{Connected, Disconnected}
@@ -16,6 +19,7 @@ use Rattle.is_rules.specs.declared.kinds.Precedence.{Precedence}
 use Rattle.is_rules.specs.Agent.{AgentRecord, default_timing}
 use Rattle.is_rules.specs.Checking.{all_asked, check_sent, IsNextToCheck}
 use Rattle.is_rules.specs.Kinds.{kind_of, TurnsBefore}
+use Rattle.is_rules.specs.Leaving.{is_asked_along}
 use Rattle.is_theorems.proofs.WorkedExamples.ExampleAgents.{address_3, creds_2, host_2, own_1, with_host}
 
 -- checks may go ahead
@@ -90,6 +94,40 @@ urgent_first q (inr (inl same)) =
     subst (λ x. TurnsBefore (own_1 ∷ []) remote_candidates urgent_ahead 4 0 modern_timing (asked 0 modern_timing urgent_pair) x) same (inr (refl, inr (refl, omega arith)))
 urgent_first q (inr (inr none)) = absurd none
 
+-- ---- a pair that is asked along
+
+-- The selected pair: its last check has no response, and the next one is due.
+abbrev late_pair : PairRecord
+late_pair = record host_pair {
+  state = Succeeded;
+  nomination = Success;
+  checks = record { id = []; sent = 0; answered = None; nominated = true; controlling = true } ∷ [];
+  due = Some 100;
+}
+
+-- Another valid pair, which is due later.
+abbrev valid_pair : PairRecord
+valid_pair = record reflexive_pair { state = Succeeded; due = Some 1000 }
+
+abbrev late_pairs : List PairRecord
+late_pairs = asked 100 modern_timing late_pair ∷ asked 100 modern_timing valid_pair ∷ []
+
+-- the silence of the selected pair
+abbrev silence : Span
+silence = record { from = record { 0 = 0 }; to = record { 0 = 100 } }
+
+valid_first : (q : PairRecord) → Has late_pairs q → is_asked_along 0 silence q ≡ true → GoesBefore 100 modern_timing (asked 100 modern_timing valid_pair) q
+valid_first q (inl same) along = absurd (let no : false ≡ true = subst (λ x. is_asked_along 0 silence x ≡ true) (sym same) along in cc)
+valid_first q (inr (inl same)) along = subst (λ x. GoesBefore 100 modern_timing (asked 100 modern_timing valid_pair) x) same (inr (refl, omega arith))
+valid_first q (inr (inr none)) along = absurd none
+
+late_first : (q : PairRecord) → Has late_pairs q → GoesBefore 100 modern_timing (asked 100 modern_timing late_pair) q
+late_first q (inl same) = subst (λ x. GoesBefore 100 modern_timing (asked 100 modern_timing late_pair) x) same (inr (refl, omega arith))
+late_first q (inr (inl same)) =
+    let earlier : 100 < 1000 = omega arith in
+    subst (λ x. GoesBefore 100 modern_timing (asked 100 modern_timing late_pair) x) same (inl earlier)
+late_first q (inr (inr none)) = absurd none
+
 module _ {H : Type 0} (P : Type 0) (mac : H → List ℕ → List ℕ → List ℕ) (provider : H) where
   -- a kind's turn
   abbrev with_turn : AgentRecord H P
@@ -102,7 +140,7 @@ module _ {H : Type 0} (P : Type 0) (mac : H → List ℕ → List ℕ → List �
   }
 
   checks_reflexive : IsNextToCheck 0 (all_asked 0 with_turn) (Some (asked 0 modern_timing reflexive_pair))
-  checks_reflexive = (inr (inl refl), refl, λ q has due. reflexive_first q has)
+  checks_reflexive = (None, refl, (inr (inl refl), refl, λ q has due. reflexive_first q has))
 
   abbrev after_turn : List ℕ → AgentRecord H P
   after_turn id = check_sent mac 0 creds_2 (asked 0 modern_timing reflexive_pair) id (all_asked 0 with_turn)
@@ -115,7 +153,7 @@ module _ {H : Type 0} (P : Type 0) (mac : H → List ℕ → List ℕ → List �
   checks_host = ((inl refl, λ q has. host_first q has), refl)
 
   checks_next_kind : IsNextToCheck 0 (all_asked 0 (record with_turn { next_kind = 4 })) (Some (asked 0 modern_timing host_pair))
-  checks_next_kind = (inl refl, refl, λ q has due. host_next q has)
+  checks_next_kind = (None, refl, (inl refl, refl, λ q has due. host_next q has))
 
   -- No kind has a turn while a path is selected, or with the profile `Original`.
   checks_host_if_connected : IsNextToCheck 0 (all_asked 0 (record with_turn { state = Connected })) (Some (asked 0 modern_timing host_pair))
@@ -126,7 +164,7 @@ module _ {H : Type 0} (P : Type 0) (mac : H → List ℕ → List ℕ → List �
 
   -- After the path is lost, kinds take turns again.
   checks_reflexive_if_disconnected : IsNextToCheck 0 (all_asked 0 (record with_turn { state = Disconnected })) (Some (asked 0 modern_timing reflexive_pair))
-  checks_reflexive_if_disconnected = (inr (inl refl), refl, λ q has due. reflexive_first q has)
+  checks_reflexive_if_disconnected = (None, refl, (inr (inl refl), refl, λ q has due. reflexive_first q has))
 
   -- ---- an urgent pair
 
@@ -135,10 +173,10 @@ module _ {H : Type 0} (P : Type 0) (mac : H → List ℕ → List ℕ → List �
 
   -- It goes ahead of the kind whose turn it is, and also while a path is selected, but not in each check.
   checks_urgent : IsNextToCheck 0 (all_asked 0 with_urgent) (Some (asked 0 modern_timing urgent_pair))
-  checks_urgent = (inr (inl refl), refl, λ q has due. urgent_first q has)
+  checks_urgent = (None, refl, (inr (inl refl), refl, λ q has due. urgent_first q has))
 
   checks_urgent_if_connected : IsNextToCheck 0 (all_asked 0 (record with_urgent { state = Connected })) (Some (asked 0 modern_timing urgent_pair))
-  checks_urgent_if_connected = (inr (inl refl), refl, λ q has due. urgent_first q has)
+  checks_urgent_if_connected = (None, refl, (inr (inl refl), refl, λ q has due. urgent_first q has))
 
   checks_host_after_urgent : IsNextToCheck 0 (all_asked 0 (record with_urgent { ahead_turn = false })) (Some (asked 0 modern_timing host_pair))
   checks_host_after_urgent = ((inl refl, λ q has. host_before q has), refl) where
@@ -147,3 +185,15 @@ module _ {H : Type 0} (P : Type 0) (mac : H → List ℕ → List ℕ → List �
     host_before q (inl same) = subst (λ x. GoesBefore 0 modern_timing (asked 0 modern_timing host_pair) x) same (inr (refl, omega arith))
     host_before q (inr (inl same)) = subst (λ x. GoesBefore 0 modern_timing (asked 0 modern_timing host_pair) x) same (inr (refl, omega arith))
     host_before q (inr (inr none)) = absurd none
+
+  -- ---- a pair that is asked along
+
+  abbrev with_late : AgentRecord H P
+  with_late = record with_turn { state = Connected; selected_pair = Some 0; pairs = late_pair ∷ valid_pair ∷ [] }
+
+  -- It goes before the selected pair, though it is not due, each second time.
+  checks_along : IsNextToCheck 100 (all_asked 100 with_late) (Some (asked 100 modern_timing valid_pair))
+  checks_along = (Some (asked 100 modern_timing valid_pair), (inr (inl refl), refl, λ q has along. valid_first q has along), refl)
+
+  checks_late : IsNextToCheck 100 (all_asked 100 (record with_late { ahead_turn = false })) (Some (asked 100 modern_timing late_pair))
+  checks_late = ((inl refl, λ q has. late_first q has), refl)

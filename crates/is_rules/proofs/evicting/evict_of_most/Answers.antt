@@ -10,6 +10,14 @@ use Rattle.is_rules.proofs.PairLists.PairsInLists.{placed-without}
 use Rattle.is_rules.proofs.PairLists.RemovedInTurn.{shorter}
 use Rattle.is_rules.proofs.evicting.evict_of_most.Goals as goal
 
+pub returns-then-len-limit-2-clause-evicted : goal.returns-then-len-limit-2-clause-evicted
+returns-then-len-limit-2-clause-evicted c =
+    let remote = c.args.remote.now in
+    let mid = multiset_of c.evict_many.new.pairs in
+    let some : EvictsSomeOfMost (kind_of c.args.local.now remote) c.args.limit (multiset_of c.args.pairs.now) mid =
+    subst (λ (l : List CandidateRecord). EvictsSomeOfMost (kind_of l remote) c.args.limit (multiset_of c.args.pairs.now) mid) c.new-kinds.ensures c.evict_many.ensures.evicted in
+    some mid ([], (omega (arith, c.if-len-limit-2.true, c.len-2.ensures), refl))
+
 pub loop-kinds-init : goal.loop-kinds-init
 loop-kinds-init c =
     let remote = c.args.remote.now in

@@ -149,10 +149,11 @@ fn a_response_to_a_later_check_ends_them_too(rt: HostRuntime) {
 // ---- nominations
 
 static NOMINATING: [u64; 10] = [
-    70100, 70200, 70300, 70400, 70500, 70600, 70700, 70800, 71300, 71800,
+    70080, 70160, 70240, 70320, 70400, 70480, 70560, 70640, 71140, 71640,
 ];
 
-/// Each 100 ms, after which a response would be late by 50 ms, until nine of them have none: then each half second.
+/// Each 80 ms, after which a response would be late by 30 ms, until nine of them have none: then each half second, since more than 7.5 s have
+/// passed after the check with a response.
 #[test]
 fn a_check_that_nominates_is_repeated_early(rt: HostRuntime) {
     let mut path = early_path(rt.alloc());
@@ -164,8 +165,8 @@ fn a_check_that_nominates_is_repeated_early(rt: HostRuntime) {
     );
 }
 
-/// The next check is due by the number of pending transactions, here two. The one after it is sent once the response is late: 50 ms after
-/// the last round trip, and at least 100 ms after the check.
+/// The next check is due by the number of pending transactions, here two. The one after it is sent once the response is late: 30 ms after
+/// the last round trip, and at least 80 ms after the check.
 #[test]
 fn the_response_to_a_nomination_ends_early_retransmissions(rt: HostRuntime) {
     let mut path = early_path(rt.alloc());
@@ -174,12 +175,12 @@ fn the_response_to_a_nomination_ends_early_retransmissions(rt: HostRuntime) {
             && path.is_nominated_now(false)
             && path.is_answered(1000, 1050)
             && path.due(at(1050)) == at(1500)
-            && next_after(&mut path, at(1500)) == Some(at(1600))
+            && next_after(&mut path, at(1500)) == Some(at(1580))
     );
 }
 
-/// The nominating checks are sent each 100 ms from 1 s on, the ninth at 1.8 s, and then each half second. So the first one that is stored is
-/// never a whole series old, and only consent ends the pair.
+/// The nominating checks are sent each 80 ms from 1 s until 7.5 s, and then each half second. So the first one that is stored is never a whole
+/// series old, and only consent ends the pair.
 #[test]
 fn checks_end_no_nominated_pair(rt: HostRuntime) {
     let mut path = early_path(rt.alloc());

@@ -17,4 +17,4 @@ returns g c =
 pub may_check-requires : goal.may_check-requires
 may_check-requires g c =
     let now = c.args.now.0 in
-    c.remove_expired.ensures.checks now (c.evaluate_nomination-first.ensures.checks now (c.leave_path.ensures.checks now c.requires.checks))
+    c.remove_expired.ensures.checks now (c.evaluate_nomination-first.ensures.checks now (c.leave_path.ensures.checks c.requires.checks))

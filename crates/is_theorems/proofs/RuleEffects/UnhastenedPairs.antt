@@ -1,0 +1,33 @@
+-- When a silent path is left, a pair that is not valid, or is urgent, stays as it is.
+use Rattle.std.proofs.Common.{◌≡◌, ℕ, ◌+◌, ◌&&◌, ◌||◌, Bool, true, false, not, nat_lt, refl, ap, if◌then◌else◌}
+use Rattle.is_pair.specs.Due.{is_urgent, moved_up}
+use Rattle.is_pair.specs.Pairs.{PairRecord, is_nominated, is_valid}
+use Rattle.is_pair.specs.States.{is_nominated_state, is_nominating}
+use Rattle.is_pair.specs.declared.pair.states.NominationState.{NominationState}
+use Rattle.is_pair.specs.declared.pair.states.NominationState.TheVariants.{None as Unnominated, Nominated, Attempt, Success}
+use Rattle.is_rules.specs.Due.{awaits_nomination}
+use Rattle.is_rules.specs.Leaving.{hastened}
+
+-- it awaits no nomination
+unless-awaits : (controlling : Bool) (now : ℕ) (p : PairRecord) → awaits_nomination controlling p ≡ false → hastened controlling now p ≡ p
+unless-awaits controlling now p off = ap (λ b. if b then moved_up (now + 1) p else p) off
+
+off-middle : (c v n : Bool) → v ≡ false → (c && v && n) ≡ false
+off-middle true true n is = absurd (let no : true ≡ false = is in cc)
+off-middle true false n is = refl
+off-middle false v n is = refl
+
+pub invalid-stays : (controlling : Bool) (now : ℕ) (p : PairRecord) → is_valid p ≡ false → hastened controlling now p ≡ p
+invalid-stays controlling now p invalid = unless-awaits controlling now p (off-middle controlling (is_valid p) (not (is_nominated p)) invalid)
+
+urgent-off : (c v r : Bool) (n : NominationState) → ((r && not v) || is_nominating n) ≡ true → (c && v && not (is_nominated_state n)) ≡ false
+urgent-off false v r n is = refl
+urgent-off true false r n is = refl
+urgent-off true true r Nominated is = refl
+urgent-off true true r Attempt is = refl
+urgent-off true true r Success is = refl
+urgent-off true true true Unnominated is = absurd (let no : false ≡ true = is in cc)
+urgent-off true true false Unnominated is = absurd (let no : false ≡ true = is in cc)
+
+pub urgent-stays : (controlling : Bool) (now : ℕ) (p : PairRecord) → is_urgent p ≡ true → hastened controlling now p ≡ p
+urgent-stays controlling now p urgent = unless-awaits controlling now p (urgent-off controlling (is_valid p) (nat_lt 0 p.requests) p.nomination urgent)
