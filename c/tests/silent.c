@@ -3,7 +3,7 @@
 #define _GNU_SOURCE
 #include "measuring.h"
 
-enum { MODERN_CHECKS = 18, ORIGINAL_CHECKS = 11, UDP_HEADERS = 28, SIGNALED = 100, MOST = 100000 };
+enum { CHECKS = 11, UDP_HEADERS = 28, SIGNALED = 100, MOST = 100000 };
 
 static const is_ice_address agent_at = {4, {10, 0, 0, 1}, 1000, 0, 0}, peer_at = {4, {10, 0, 0, 2}, 2000, 0, 0};
 static const char *const agent_password = "password of the agent", *const peer_password = "password of the peer";
@@ -26,7 +26,7 @@ static void begin(struct world *w, bool modern)
     w->random = 1;
     must("new", is_ice_agent_new(&w->agent, TEXT("agent"), TEXT(agent_password), 1), IS_ICE_OK);
     must("settings", is_ice_settings(&w->agent, &settings), IS_ICE_OK);
-    settings.modern = modern, settings.initial_rto = 250 * MS, settings.max_rto = 2900 * MS, settings.max_retransmits = ORIGINAL_CHECKS;
+    settings.modern = modern, settings.initial_rto = 250 * MS, settings.max_rto = 2900 * MS, settings.max_retransmits = CHECKS;
     must("settings", is_ice_set_settings(&w->agent, &settings), IS_ICE_OK);
     must("role", is_ice_set_controlling(&w->agent, true), IS_ICE_OK);
     must("host", is_ice_add_local(&w->agent, &host, &index), IS_ICE_OK);
@@ -117,7 +117,7 @@ static void replay(bool modern, bool connected, size_t sources)
 {
     static struct world w;
     struct message m;
-    size_t index, checks = modern ? MODERN_CHECKS : ORIGINAL_CHECKS;
+    size_t index;
     begin(&w, modern);
     if (connected) {
         w.answers = true;
@@ -135,7 +135,7 @@ static void replay(bool modern, bool connected, size_t sources)
     double factor = (double)w.bytes / (double)(sources * (m.length + UDP_HEADERS));
     printf("%s, %s a path, a request from each of %zu silent addresses: %zu checks, %.1f bytes for each byte, at most %zu checks in a second\n",
            profile(modern), connected ? "with" : "without", sources, w.checks, factor, busiest(&w));
-    if (w.checks == 0 || w.checks > sources * checks) fail("replay", "more checks than a pair without a response gets");
+    if (w.checks == 0 || w.checks > sources * CHECKS) fail("replay", "more checks than a pair without a response gets");
     if (w.packets != w.checks + sources) fail("replay", "each request has one response");
     is_ice_agent_free(&w.agent);
 }
@@ -145,7 +145,7 @@ static void list_strangers(bool modern)
 {
     static struct world w;
     char line[100];
-    size_t index, in_a_second = modern ? 200 : 20;
+    size_t index, in_a_second = modern ? 49 : 20;
     begin(&w, modern);
     for (size_t i = 0; i < SIGNALED; i++) {
         snprintf(line, sizeof line, "candidate:1 1 udp %zu 192.0.2.9 %zu typ host", 2130706431 - i, 3000 + i);
@@ -154,7 +154,7 @@ static void list_strangers(bool modern)
     start(&w);
     run_for(&w, 300 * SECOND);
     printf("%s, %d signaled candidates that never answer: %zu checks, at most %zu in a second\n", profile(modern), SIGNALED, w.checks, busiest(&w));
-    if (w.checks == 0 || w.checks > SIGNALED * ORIGINAL_CHECKS) fail("signal", "more checks than 11 for each candidate");
+    if (w.checks == 0 || w.checks > SIGNALED * CHECKS) fail("signal", "more checks than 11 for each candidate");
     if (busiest(&w) > in_a_second + 1) fail("signal", "more checks in a second");
     is_ice_agent_free(&w.agent);
 }

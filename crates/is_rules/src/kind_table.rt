@@ -6,7 +6,7 @@ ghost use Rattle.is_candidate.specs.Candidates.{CandidateRecord, candidate_at};
 ghost use Rattle.is_rules.specs.Kept.{is_placed};
 ghost use Rattle.is_rules.specs.Kinds.{is_reflexive, kind_of, side_of, KINDS};
 
-use crate::kinds::{is_reflexive, remote_rank, side_of};
+use crate::kinds::{is_reflexive, kind_by, side_of};
 use crate::places::candidate_at;
 use is_candidate::Candidate;
 use is_pair::pair::CandidatePair;
@@ -89,7 +89,7 @@ impl<'a> KindTable<'a> {
         pair.local_idx() < self.local.len() && pair.remote_idx() < remote.len()
     }
 
-    /// The kind of a pair, a number from 0 to 15.
+    /// The kind of a pair, a number from 0 to 8.
     #[inline(always)]
     pub(crate) fn kind_of(&self, remote: &[Candidate], pair: &CandidatePair) -> u8
         requires placed { is_placed self.now.local.now remote.now pair.now ≡ true }
@@ -97,6 +97,6 @@ impl<'a> KindTable<'a> {
         ensures within { result < KINDS }
     {
         let theirs = candidate_at(remote, pair.remote_idx());
-        self.side_at(pair.local_idx()) + remote_rank(theirs)
+        kind_by(self.side_at(pair.local_idx()), theirs)
     }
 }

@@ -1,7 +1,7 @@
 //! The pairs that go ahead of those that are due earlier: the selected pair, urgent pairs, and kinds of pairs, which take turns; the
 //! agent's part: `is_agent::next_check`.
 
-ghost use Rattle.std.specs.Prelude.{◌≡◌, ◌<◌, ◌≤◌, ◌*◌, ◌&&◌, true, false, List, ◌∷◌, length, IfSome};
+ghost use Rattle.std.specs.Prelude.{◌≡◌, ◌<◌, ◌≤◌, ◌*◌, ◌==◌, ◌&&◌, true, false, List, ◌∷◌, length, IfSome, if◌then◌else◌};
 ghost use Rattle.std.specs.List.{list_any};
 ghost use Rattle.std.specs.Option.{option_copied};
 ghost use Rattle.is_pair.specs.Pairs.{PairRecord};
@@ -9,7 +9,7 @@ ghost use Rattle.is_pair.specs.Due.{is_due};
 ghost use Rattle.is_pair.specs.Checklists.{multiset_of};
 ghost use Rattle.is_rules.specs.Kept.{is_placed, are_placed};
 ghost use Rattle.is_rules.specs.Kinds.{counted_kind, is_reflexive, is_reflexive_of, is_reflexive_like, reaches_out, is_outer, kind_rank, version_rank};
-ghost use Rattle.is_rules.specs.Kinds.{is_brought, kind_of, remote_rank, side_of, turn_of, turn_of_pair, goes_first, is_first_due, KINDS, TurnsBefore, IsNextAhead};
+ghost use Rattle.is_rules.specs.Kinds.{is_brought, kind_of, remote_rank, side_of, INNER, turn_of, turn_of_pair, goes_first, is_first_due, KINDS, TurnsBefore, IsNextAhead};
 
 use crate::kind_table::KindTable;
 use crate::nomination::is_named_by;
@@ -130,7 +130,16 @@ pub(crate) fn remote_rank(theirs: &Candidate) -> u8
     2 * kind_rank(counted_kind(theirs)) + version_rank(theirs.addr())
 }
 
-/// The kind of a pair, a number from 0 to 15.
+/// The kind of a pair, by the local candidate's part and the remote one. All pairs whose packets do not reach the outside are of one kind.
+#[inline(always)]
+pub(crate) fn kind_by(side: u8, theirs: &Candidate) -> u8
+    ensures kind { result ≡ (if side == 0 then remote_rank theirs.now else INNER) }
+    ensures within { result < KINDS }
+{
+    if side == 0 { remote_rank(theirs) } else { 8 }
+}
+
+/// The kind of a pair, a number from 0 to 8.
 pub fn kind_of(local: &[Candidate], remote: &[Candidate], pair: &CandidatePair) -> u8
     requires placed { is_placed local.now remote.now pair.now ≡ true }
     ensures kind { result ≡ kind_of local.now remote.now pair.now }
@@ -138,7 +147,7 @@ pub fn kind_of(local: &[Candidate], remote: &[Candidate], pair: &CandidatePair) 
 {
     let ours = candidate_at(local, pair.local_idx());
     let theirs = candidate_at(remote, pair.remote_idx());
-    side_of(local, ours) + remote_rank(theirs)
+    kind_by(side_of(local, ours), theirs)
 }
 
 // ---- turns

@@ -39,7 +39,7 @@ const ANOTHER: &str = "candidate:1 1 udp 900 10.0.0.4 2000 typ host";
 
 // ---- the pacing interval (RFC 8445, section 14.2). The default is 50 ms
 
-const PACED: [Story; 9] = [
+const PACED: [Story; 10] = [
     // since more than 60 s have passed, the nominated pair is due before all others
     Story(
         "checks_are_closer_until_the_path_is_nominated",
@@ -86,14 +86,27 @@ const PACED: [Story; 9] = [
             Does(Peers(1)),
             Does(CheckTo(0, FIRST, false)),
             Does(Timeout(10)),
-            Write(Message::Request(false, false), "nearpass"),
             Does(Timeout(499)),
             Emits(Sends),
             Does(Timeout(500)),
-            Takes(Served(505, FIRST)),
-            Shows(NextAt(550)),
             // a new candidate begins it again
             Does(Peers(2)),
+            Shows(NextAt(510)),
+        ],
+    ),
+    // the request makes the pair urgent, and due at once
+    Story(
+        "checks_are_closer_for_an_urgent_pair",
+        &[
+            Begin(Unpaired),
+            Set(Setting::Profile(Profile::Modern)),
+            Does(Peers(1)),
+            Does(CheckTo(0, FIRST, false)),
+            Does(CheckTo(499, FIRST, false)),
+            Does(Timeout(500)),
+            Shows(NextAt(599)),
+            Write(Message::Request(false, false), "nearpass"),
+            Takes(Served(505, FIRST)),
             Shows(NextAt(510)),
         ],
     ),
@@ -139,39 +152,59 @@ const PACED: [Story; 9] = [
             Shows(NextAt(3)),
         ],
     ),
-    // 10 ms for each of 50 pairs are half a second, and so are 5 ms for each of 100
+    // each check is charged with 25 ms: after the fifteenth the charges are 235 ms ahead of the clock, and the credit is 225 ms
     Story(
-        "many_pairs_are_checked_once_in_half_a_second",
+        "fifteen_checks_are_closer_and_then_each_is_charged",
         &[
-            Begin(Unpaired),
-            Set(Setting::Profile(Profile::Modern)),
-            Does(Peers(25)),
-            Does(CheckTo(0, FIRST, false)),
-            Shows(NextAt(10)),
-            Begin(Unpaired),
-            Set(Setting::Profile(Profile::Modern)),
-            Does(Peers(50)),
-            Does(CheckTo(0, FIRST, false)),
-            Shows(NextAt(10)),
             Begin(Unpaired),
             Set(Setting::Profile(Profile::Modern)),
             Does(Peers(100)),
             Does(CheckTo(0, FIRST, false)),
-            Shows(NextAt(5)),
-            Does(CheckTo(5, SECOND, false)),
             Shows(NextAt(10)),
+            Does(Check(10)),
+            Does(Check(20)),
+            Does(Check(30)),
+            Does(Check(40)),
+            Does(Check(50)),
+            Does(Check(60)),
+            Does(Check(70)),
+            Does(Check(80)),
+            Does(Check(90)),
+            Does(Check(100)),
+            Does(Check(110)),
+            Does(Check(120)),
+            Does(Check(130)),
+            Shows(NextAt(140)),
+            Does(Check(140)),
+            Shows(NextAt(165)),
+            Does(Check(165)),
+            Shows(NextAt(190)),
         ],
     ),
-    // which would be 2.5 ms each
+    // there is credit again after a pause of 225 ms, here for the pair of a new candidate
     Story(
-        "with_more_pairs_they_are_at_least_5_ms_apart",
+        "credit_grows_with_time",
         &[
             Begin(Unpaired),
             Set(Setting::Profile(Profile::Modern)),
-            Set(Setting::MaxPairs(200)),
-            Does(Peers(200)),
+            Does(Peers(100)),
             Does(CheckTo(0, FIRST, false)),
-            Shows(NextAt(5)),
+            Does(Check(10)),
+            Does(Check(20)),
+            Does(Check(30)),
+            Does(Check(40)),
+            Does(Check(50)),
+            Does(Check(60)),
+            Does(Check(70)),
+            Does(Check(80)),
+            Does(Check(90)),
+            Does(Check(100)),
+            Does(Check(110)),
+            Does(Check(120)),
+            Does(Check(130)),
+            Does(Check(140)),
+            Does(Check(400)),
+            Shows(NextAt(410)),
         ],
     ),
     // at once, as the state is
