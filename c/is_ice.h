@@ -956,7 +956,8 @@ IS_ICE_CALL int32_t is_ice_accepts_message(is_ice_agent *agent, const uint8_t *b
  * In three cases the time is at most 5 ms after the last is_ice_handle_timeout call. A packet was accepted, and the agent
  * has no path yet, or is controlling and has not nominated it. A candidate, credentials, another role or a restart came.
  * An early request was served. So a check that is due at once does not wait for a whole Ta. No checks may be sent more
- * often (RFC 8445, section 14.2). A call that fails leaves the time as it is, also if it has passed: repeat it later.
+ * often (RFC 8445, section 14.2). It is not so while many checks were sent lately: at most 49 leave in a second.
+ * A call that fails leaves the time as it is, also if it has passed: repeat it later.
  *
  * Without `modern` it polls the agent as the original does, and the order counts: call it before packets are polled, and
  * keep the earliest time since is_ice_handle_timeout. While a packet or an early request is queued, the time is one Ta

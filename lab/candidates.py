@@ -20,10 +20,12 @@ KINDS = {CandidateKind.HOST: "host", CandidateKind.SERVER_REFLEXIVE: "srflx", Ca
          CandidateKind.PEER_REFLEXIVE: "prflx"}
 # The least pacing interval Ta (RFC 8445, section 14.2).
 LEAST_ADVANCE = 5 * MILLISECOND
-# With `Modern`, the pacing interval Ta early on.
+# With `Modern`, the pacing interval Ta early on: with credit, and without. Each check is charged with the longer one, and the charges may
+# be so far ahead of the clock.
 EARLY_ADVANCE = 10 * MILLISECOND
-# With many pairs, the time in which each of them can be checked once.
-CYCLE = 500 * MILLISECOND
+CHARGE = 25 * MILLISECOND
+CREDIT = 7 * CHARGE
+URGENT_CREDIT = 9 * CHARGE  # if an urgent pair is due soon
 # How many candidates of each side packets may bring to an agent that the library makes.
 DISCOVERED_LIMIT = Settings.modern().max_discovered
 
@@ -57,6 +59,7 @@ class Candidates:
     numbers_seen: bool = False  # a nomination with a number was served since the last restart
     ahead_turn: bool = False  # the next check may go ahead of pairs that are due earlier
     next_kind: int = 0  # from which kind on kinds take turns
+    charged_until: int = 0  # the time up to which checks are charged
     state: IceConnectionState = NEW
     queue: tuple[Request, ...] = ()
     sources: tuple[SocketAddress, ...] = ()  # of accepted packets, as reported since the last restart
@@ -149,15 +152,24 @@ class Candidates:
 
     def is_early(self, last: int) -> bool:
         """Whether, with `Modern`, the agent is not settled, and a nomination is still to be sent, or it knows the peer and an early request
-        waits or a pair is at its beginning."""
-        has_begun = self.peer is not None and (self.queue != () or any(p.is_beginning(last) for p in self.pairs))
+        waits, a pair is at its beginning, or an urgent one is due soon."""
+        has_begun = self.peer is not None and (self.queue != () or any(p.is_beginning(last) for p in self.pairs) or self.is_urged(last))
         return self.modern and not self.is_settled and (self.state.is_connected() or has_begun)
+
+    def is_urged(self, last: int) -> bool:
+        """Whether an urgent pair is due by the end of a short interval."""
+        return any(p.is_urgent and p.due_at(last, self.timing) <= last + EARLY_ADVANCE for p in self.pairs)
+
+    def has_credit(self, last: int) -> bool:
+        """Whether the charges are at most the credit ahead of the last call. With `Original` there is always credit."""
+        ahead = self.charged_until - last
+        return not self.modern or ahead <= CREDIT or ahead <= URGENT_CREDIT and self.is_urged(last)
 
     def pacing(self, last: int) -> int:
         """The pacing interval Ta: early on it is shorter (`pacing_of`)."""
         if not self.is_early(last):
             return self.advance
-        return min(self.advance, max(LEAST_ADVANCE, min(EARLY_ADVANCE, CYCLE // max(1, len(self.pairs)))))
+        return min(self.advance, EARLY_ADVANCE if self.has_credit(last) else CHARGE)
 
     def chosen(self) -> Pair | None:
         """Returns the pair to be selected: of an agent that follows its peer the followed pair, or the one that was selected last; else an

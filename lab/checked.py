@@ -19,7 +19,9 @@ from .session import Session
 CLAUSES: dict[str, Callable[[Execution], Verdict]] = {
     "timeouts_check": check_rate.timeouts_check, "checks_are_paced": check_rate.checks_are_paced,
     "seconds": check_rate.seconds_have_few, "seconds, late": check_rate.late_seconds_have_few,
-    "silent_pairs_get_few": silent_pairs.silent_pairs_get_few, "silences": silent_pairs.silences_have_few}
+    "seconds, frugal": check_rate.frugal_seconds_have_few,
+    "silent_pairs_get_few": silent_pairs.silent_pairs_get_few, "silences": silent_pairs.silences_have_few,
+    "asked": silent_pairs.asked_pairs_get_few}
 
 
 @dataclass(frozen=True)
@@ -67,7 +69,7 @@ def closest(verdicts: Iterable[Verdict]) -> str:
 
 
 # Of which clauses the table has the greatest number: those whose bound is that of the theorem, and not of a session.
-NUMBERED = ("seconds", "seconds, late", "silent_pairs_get_few", "silences")
+NUMBERED = ("seconds", "seconds, late", "seconds, frugal", "silent_pairs_get_few", "silences", "asked")
 
 
 def table(names: Sequence[str], found: Iterable[Checked]) -> str:

@@ -12,7 +12,9 @@ from is_ice import SocketAddress
 from .pairs import Pair, Place
 
 # How many kinds of pairs there are.
-COUNT = 16
+COUNT = 9
+# The kind of pairs whose packets do not reach the outside.
+INNER_KIND = 8
 # Peer-reflexive candidates come first, since the peer sent a packet from there. Host candidates come last.
 RANKS = {"prflx": 0, "srflx": 1, "relay": 2, "host": 3}
 # The IPv4 addresses that are not public: private (RFC 1918), shared (RFC 6598), loopback and link-local ones.
@@ -47,12 +49,13 @@ def is_outer(local: Sequence[Place], candidate: Place) -> bool:
 
 
 def kind_between(local: Sequence[Place], own: Place, other: Place) -> int:
-    """Returns the kind of a pair of two candidates: outer or not, the kind that the remote one counts as, and the IP version."""
-    return (0 if is_outer(local, own) else 8) + 2 * RANKS[counted_kind(other)] + (1 if other.address.version == 4 else 0)
+    """Returns the kind of a pair of two candidates: the kind that the remote one counts as, and the IP version. All pairs whose packets
+    do not reach the outside are of one kind."""
+    return 2 * RANKS[counted_kind(other)] + (1 if other.address.version == 4 else 0) if is_outer(local, own) else INNER_KIND
 
 
 def kind_of(local: Sequence[Place], remote: Sequence[Place], pair: Pair) -> int:
-    """Returns the kind of a pair, a number from 0 to 15."""
+    """Returns the kind of a pair, a number from 0 to 8."""
     return kind_between(local, local[pair.local], remote[pair.remote])
 
 

@@ -10,7 +10,7 @@ from dataclasses import dataclass, replace
 from is_ice import SocketAddress
 from is_ice.stun import StunMessage
 
-from .candidates import LEAST_ADVANCE, Candidates, put
+from .candidates import CHARGE, LEAST_ADVANCE, Candidates, put
 from .clock import SECOND
 from .kinds import is_brought, kind_of, turn_of
 from .numbers import LAST_NUMBER, as_taken
@@ -216,7 +216,9 @@ class Agent(Candidates):
         checked = begun._changed(pair.number, lambda p: p.checked(now, self.timing, self.controlling, id))
         following = kind_of(self.local, self.remote, pair) + 1 if is_ahead else self.next_kind
         due = self.nomination_due and pair.number != self.selected
-        return replace(checked, ahead_turn=not is_ahead, next_kind=following, nomination_due=due), Issued("request", new.path(pair), id)
+        charged = max(now, self.charged_until) + CHARGE
+        after = replace(checked, ahead_turn=not is_ahead, next_kind=following, charged_until=charged, nomination_due=due)
+        return after, Issued("request", new.path(pair), id)
 
     def _first_to_check(self, now: int, is_ahead: bool) -> list[Pair]:
         """Returns the pairs of which one is checked: the selected one, if its nomination is to be sent, else those that come first."""
@@ -257,7 +259,7 @@ class Agent(Candidates):
         if not self.modern:
             return self
         at = self.next_call()
-        if at is not None and self.last is not None and soon:
+        if at is not None and self.last is not None and soon and self.has_credit(self.last):
             at = min(at, self.last + LEAST_ADVANCE)
         if at is not None and self.deadline is not None and not self.is_settled:
             at = min(at, self.deadline)

@@ -16,8 +16,10 @@ EARLY_RETRANSMITS = 2
 EARLY_INTERVAL = 100 * MILLISECOND
 EARLY_CAP = 350 * MILLISECOND
 
-# How long checks without a response are repeated early at most, and how long a pair is at its beginning after its first check.
+# How long checks without a response are repeated early at most, also on a pair whose first check followed a request, and how long a pair
+# is at its beginning after its first check.
 EARLY_TIME = 2500 * MILLISECOND
+ASKED_TIME = 1200 * MILLISECOND
 BEGINNING = 500 * MILLISECOND
 
 # How much later than the one before a response may come, how long a silent nominated pair is checked quickly, after the longest RTO since
@@ -236,8 +238,13 @@ class Pair:
 
     def is_early_on(self, now: int, timing: Timing) -> bool:
         """Whether less than that has passed since its first check, or since the first one after a request of the peer."""
-        span = min(EARLY_TIME, timing.timeout())
+        span = min(ASKED_TIME if self.is_asked_first else EARLY_TIME, timing.timeout())
         return any(since is not None and now < since + span for since in (self.first_sent, self.first_after_request))
+
+    @property
+    def is_asked_first(self) -> bool:
+        """Whether its first check followed a request of the peer: so it is with each pair that a request brings."""
+        return self.first_sent is not None and self.first_sent == self.first_after_request
 
     def is_beginning(self, now: int) -> bool:
         """Whether its first check was sent less than half a second ago, or is still to be sent."""
@@ -287,7 +294,7 @@ class Pair:
         if not timing.modern:
             return False
         if self.answers == 0:
-            return self.is_young(now, timing)
+            return not self.is_asked_first and self.is_young(now, timing)
         silent = unanswered(self.checks)
         return silent > 0 and now < self.checks[-silent].sent + timing.timeout()
 

@@ -3,7 +3,8 @@
 #define _GNU_SOURCE
 #include "measuring.h"
 
-enum { MODERN_CHECKS = 18, ORIGINAL_CHECKS = 11, UDP_HEADERS = 28, SIGNALED = 100, MOST = 100000 };
+enum { CHECKS = 11, SERIES = 18, UDP_HEADERS = 28, SIGNALED = 100, MODERN_RATE = 49, ORIGINAL_RATE = 21, MOST = 100000 };
+static const double most_bytes = 11.85; /* for each byte of a replayed request: 11.8 */
 
 static const is_ice_address agent_at = {4, {10, 0, 0, 1}, 1000, 0, 0}, peer_at = {4, {10, 0, 0, 2}, 2000, 0, 0};
 static const char *const agent_password = "password of the agent", *const peer_password = "password of the peer";
@@ -26,7 +27,7 @@ static void begin(struct world *w, bool modern)
     w->random = 1;
     must("new", is_ice_agent_new(&w->agent, TEXT("agent"), TEXT(agent_password), 1), IS_ICE_OK);
     must("settings", is_ice_settings(&w->agent, &settings), IS_ICE_OK);
-    settings.modern = modern, settings.initial_rto = 250 * MS, settings.max_rto = 2900 * MS, settings.max_retransmits = ORIGINAL_CHECKS;
+    settings.modern = modern, settings.initial_rto = 250 * MS, settings.max_rto = 2900 * MS, settings.max_retransmits = CHECKS;
     must("settings", is_ice_set_settings(&w->agent, &settings), IS_ICE_OK);
     must("role", is_ice_set_controlling(&w->agent, true), IS_ICE_OK);
     must("host", is_ice_add_local(&w->agent, &host, &index), IS_ICE_OK);
@@ -117,7 +118,7 @@ static void replay(bool modern, bool connected, size_t sources)
 {
     static struct world w;
     struct message m;
-    size_t index, checks = modern ? MODERN_CHECKS : ORIGINAL_CHECKS;
+    size_t index;
     begin(&w, modern);
     if (connected) {
         w.answers = true;
@@ -135,38 +136,43 @@ static void replay(bool modern, bool connected, size_t sources)
     double factor = (double)w.bytes / (double)(sources * (m.length + UDP_HEADERS));
     printf("%s, %s a path, a request from each of %zu silent addresses: %zu checks, %.1f bytes for each byte, at most %zu checks in a second\n",
            profile(modern), connected ? "with" : "without", sources, w.checks, factor, busiest(&w));
-    if (w.checks == 0 || w.checks > sources * checks) fail("replay", "more checks than a pair without a response gets");
+    if (sources == 1 && w.checks != CHECKS) fail("replay", "not 11 checks");
+    if (w.checks == 0 || w.checks > sources * CHECKS) fail("replay", "more checks than a pair without a response gets");
+    if (factor > most_bytes) fail("replay", "more than 11.8 bytes for each byte");
     if (w.packets != w.checks + sources) fail("replay", "each request has one response");
     is_ice_agent_free(&w.agent);
 }
 
-/* A peer signals a hundred candidates that never answer. */
-static void list_strangers(bool modern)
+/* A peer signals a hundred candidates that never answer, so many milliseconds apart. */
+static void list_strangers(bool modern, unsigned apart)
 {
     static struct world w;
     char line[100];
-    size_t index, in_a_second = modern ? 200 : 20;
+    size_t index, most = modern ? MODERN_RATE : ORIGINAL_RATE;
     begin(&w, modern);
     for (size_t i = 0; i < SIGNALED; i++) {
         snprintf(line, sizeof line, "candidate:1 1 udp %zu 192.0.2.9 %zu typ host", 2130706431 - i, 3000 + i);
         must("remote", is_ice_add_remote(&w.agent, TEXT(line), &index), IS_ICE_OK);
+        if (i == 0) start(&w);
+        run_for(&w, apart * MS);
     }
-    start(&w);
     run_for(&w, 300 * SECOND);
-    printf("%s, %d signaled candidates that never answer: %zu checks, at most %zu in a second\n", profile(modern), SIGNALED, w.checks, busiest(&w));
-    if (w.checks == 0 || w.checks > SIGNALED * ORIGINAL_CHECKS) fail("signal", "more checks than 11 for each candidate");
-    if (busiest(&w) > in_a_second + 1) fail("signal", "more checks in a second");
+    printf("%s, %d signaled candidates that never answer, %u ms apart: %zu checks, at most %zu in a second\n",
+           profile(modern), SIGNALED, apart, w.checks, busiest(&w));
+    if (w.checks == 0 || w.checks > SIGNALED * (apart == 0 ? CHECKS : SERIES)) fail("signal", "more checks than 11 for each candidate, or 18");
+    if (busiest(&w) > most) fail("signal", "more checks in a second");
     is_ice_agent_free(&w.agent);
 }
 
 int main(void)
 {
+    static const unsigned gaps[] = {0, 10, 20, 100};
     for (int modern = 0; modern < 2; modern++) {
         for (int connected = 0; connected < 2; connected++) {
             replay(modern, connected, 1);
             replay(modern, connected, 31);
         }
-        list_strangers(modern);
+        for (size_t i = 0; i < sizeof gaps / sizeof *gaps; i++) list_strangers(modern, gaps[i]);
     }
     return 0;
 }

@@ -10,7 +10,7 @@ from bisect import bisect_left
 from collections.abc import Iterator
 from dataclasses import dataclass
 
-from ..candidates import LEAST_ADVANCE
+from ..candidates import CHARGE, LEAST_ADVANCE, URGENT_CREDIT
 from ..clock import MILLISECOND, SECOND
 from ..model import Agent
 from ..replay import comes_soon
@@ -20,9 +20,9 @@ from .execution import MAX, Execution, Lacks, lacks
 from .fair import is_new_agent
 from .verdict import Verdict, closest_of_all, counted
 
-# The default pacing interval, and how many checks a second has at most with the least one and with the default.
+# The default pacing interval, and how many checks a second has at most with the least one, with the default, and of a frugal caller.
 DEFAULT_ADVANCE = 50 * MILLISECOND
-MOST, MOST_LATE = 200, 20
+MOST, MOST_LATE, MOST_FRUGAL = 200, 20, 49
 
 
 # ---- what is counted
@@ -99,6 +99,7 @@ class Caller:
         self.is_new = is_new_agent(x.state(0, side))
         self._calls = [x.now(at) for at in self.timeouts]
         self._gaps = Least([MAX, *(self._gap(before, at, x) for before, at in zip(self.timeouts, self.timeouts[1:]))])
+        self._frugal = Least([True, *(self._is_frugal(before, at, x) for before, at in zip(self.timeouts, self.timeouts[1:]))])
         timed = sorted((p for p in self.polls if p.agent.last is not None), key=lambda p: p.agent.last or 0)
         self._lasts = [p.agent.last or 0 for p in timed]
         self._paces = Least([p.pace for p in timed])
@@ -112,9 +113,18 @@ class Caller:
         between = self.polls[first:bisect_left(self.polls, at, key=lambda p: p.at)]
         return MAX if any(lets_call(now, p) for p in between) else now - x.now(before)
 
+    def _is_frugal(self, before: int, at: int, x: Execution) -> bool:
+        """Whether a poll lets this `handle_timeout` call come, or it comes 25 ms after the one before, or the charges for checks are at
+        most 225 ms ahead of it (`IsFrugalAt`)."""
+        return self._gap(before, at, x) >= CHARGE or x.state(at, self.side).charged_until <= x.now(at) + URGENT_CREDIT
+
     def patience(self, start: int, end: int) -> int:
         """Returns the greatest gap with which the caller is patient in the span (`IsPatient`): the first call in it is free."""
         return self._gaps.of(bisect_left(self._calls, start) + 1, bisect_left(self._calls, end))
+
+    def is_frugal(self, start: int, end: int) -> bool:
+        """Whether the caller is frugal in the span (`IsFrugal`): the first call in it is free."""
+        return self._frugal.of(bisect_left(self._calls, start) + 1, bisect_left(self._calls, end)) > 0
 
     def _polls_in(self, start: int, end: int) -> tuple[int, int]:
         """Returns the places of the polls after a `handle_timeout` in the span."""
@@ -202,11 +212,18 @@ def checks_are_paced(x: Execution) -> Verdict:
 
 
 def lacking_few(c: Choice, gap: int, late: bool) -> Lacks:
-    """Returns the preconditions of one half of `SecondsHaveFewChecks` that do not hold in the second from the time on."""
+    """Returns the preconditions of the part of `SecondsHaveFewChecks` on patient callers that do not hold in the second from then on."""
     caller, start, end = c.caller, c.start, c.start + SECOND
     is_slow, is_patient = DEFAULT_ADVANCE <= caller.least_advance(start, end), gap <= caller.patience(start, end)
     is_late = not late or caller.is_late(start, end)
     return lacks(IsNewlyCreated=caller.is_new, IsSlowAt=is_slow, IsPatient=is_patient, IsLateAt=is_late)
+
+
+def lacking_frugal(c: Choice) -> Lacks:
+    """Returns the preconditions of the part on frugal ones that do not hold."""
+    caller, start, end = c.caller, c.start, c.start + SECOND
+    is_slow, is_frugal = DEFAULT_ADVANCE <= caller.least_advance(start, end), caller.is_frugal(start, end)
+    return lacks(IsNewlyCreated=caller.is_new, IsSlowAt=is_slow, IsFrugal=is_frugal)
 
 
 def in_second(c: Choice, limit: int) -> Verdict:
@@ -224,3 +241,8 @@ def seconds_have_few(x: Execution) -> Verdict:
 def late_seconds_have_few(x: Execution) -> Verdict:
     """Returns that in which it is patient with 50 ms, and the agent is not early: it has at most 20 (`SecondsHaveFewChecks`)."""
     return closest_of_all(choices(x), lambda c: lacking_few(c, DEFAULT_ADVANCE, True), lambda c: in_second(c, MOST_LATE), "check")
+
+
+def frugal_seconds_have_few(x: Execution) -> Verdict:
+    """Returns that in which it is frugal, whether the agent is early or not: it has at most 49 (`SecondsHaveFewChecks`)."""
+    return closest_of_all(choices(x), lacking_frugal, lambda c: in_second(c, MOST_FRUGAL), "check")

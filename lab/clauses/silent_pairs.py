@@ -1,5 +1,5 @@
-"""The theorem `silent_pairs_get_few` (`SilentPairsGetFew`, `SilencesHaveFewChecks`, `NumbersOfChecks`): how many checks a pair gets from
-which nothing arrives.
+"""The theorem `silent_pairs_get_few` (`SilentPairsGetFew`, `SilencesHaveFewChecks`, `AskedPairsGetFew`, `NumbersOfChecks`): how many
+checks a pair gets from which nothing arrives.
 
 Checks are counted as they are polled, by their path. The model says which pair is on the path, and whether it is valid or had a request."""
 
@@ -12,7 +12,7 @@ from functools import lru_cache
 
 from ..clock import SECOND
 from ..model import Agent
-from ..pairs import EARLY_TIME, Pair, Timing, early_delay
+from ..pairs import ASKED_TIME, EARLY_TIME, Pair, Timing, early_delay
 from ..replay import Step
 from ..scenario import SIDES
 from ..stun import message_of
@@ -27,10 +27,10 @@ TRIED = 1000
 
 # ---- the earliest times of checks
 
-def least_delay(t: Timing, after: int, n: int) -> int:
+def least_delay(t: Timing, span: int, after: int, n: int) -> int:
     """Returns how long the next check comes after the n-th one at least, if that is sent so long after the first (`least_delay`)."""
     usual = t.delay(min(n, t.retransmits))
-    is_early = t.modern and after < early_time(t)
+    is_early = t.modern and after < span
     return min(early_delay(n), usual) if is_early else usual
 
 
@@ -39,30 +39,49 @@ def early_time(t: Timing) -> int:
     return min(EARLY_TIME, t.timeout())
 
 
+def asked_time(t: Timing) -> int:
+    """Returns the same for pairs whose first check followed a request (`asked_time`)."""
+    return min(ASKED_TIME, early_time(t))
+
+
 @lru_cache(maxsize=65536)
-def check_time(t: Timing, n: int) -> int:
+def check_time(t: Timing, span: int, n: int) -> int:
     """Returns how long the n-th check comes after the first at least (`check_time`)."""
     if n < 2:
         return 0
-    before = check_time(t, n - 1)
-    return before + least_delay(t, before, n - 1)
+    before = check_time(t, span, n - 1)
+    return before + least_delay(t, span, before, n - 1)
 
 
 def ends_with(t: Timing, n: int) -> Lacks:
     """No check follows the n-th one (`EndsWith`)."""
-    return lacks(counted=t.retransmits <= n, over=not t.modern or t.timeout() <= check_time(t, n + 1),
-                 rare=not t.modern or early_time(t) <= check_time(t, n))
+    span = early_time(t)
+    return lacks(counted=t.retransmits <= n, over=not t.modern or t.timeout() <= check_time(t, span, n + 1),
+                 rare=not t.modern or span <= check_time(t, span, n))
 
 
 def is_past_requests(t: Timing, n: int) -> bool:
     """Whether none does if a check of the peer arrived before the first of them (`IsPastRequests`)."""
-    return 15 * SECOND <= check_time(t, n + 1)
+    return 15 * SECOND <= check_time(t, early_time(t), n + 1)
+
+
+def ends_asked(t: Timing, n: int) -> Lacks:
+    """No check follows the n-th one of a pair whose first check followed a request (`EndsAsked`)."""
+    span = asked_time(t)
+    return lacks(enough=t.retransmits <= n, past=15 * SECOND <= check_time(t, span, n + 1),
+                 rare=not t.modern or span <= check_time(t, span, n))
 
 
 @lru_cache(maxsize=1024)
 def least_number(t: Timing, heard: bool) -> int | None:
     """Returns the least n with which that is so; `heard`: if a check of the peer arrived, too."""
     return next((n for n in range(TRIED) if not ends_with(t, n) and (not heard or is_past_requests(t, n))), None)
+
+
+@lru_cache(maxsize=1024)
+def least_asked(t: Timing) -> int | None:
+    """Returns the least n with which no check follows the n-th one of such a pair."""
+    return next((n for n in range(TRIED) if not ends_asked(t, n)), None)
 
 
 # ---- executions with one timing
@@ -111,16 +130,25 @@ def is_silent(p: Pair) -> Lacks:
     return lacks(unanswered=not p.is_valid, unheard=p.requests == 0)
 
 
-def is_silent_since(c: Choice) -> Lacks:
-    """It is the same pair as before, no response was recorded on it, and no request since (`IsSilentSince`)."""
+def stays_silent(c: Choice) -> Lacks:
+    """It is the same pair as before, no response was recorded on it, and no request since (`StaysSilent`)."""
     return lacks(number=c.after.number == c.before.number, unanswered=not c.after.is_valid, unheard=c.after.requests == c.before.requests,
-                 counted=c.before.requests < MAX, kept=c.before.requests == 0 or (c.n is not None and is_past_requests(c.own.timing, c.n)))
+                 counted=c.before.requests < MAX)
+
+
+def is_silent_since(c: Choice) -> Lacks:
+    """So it is, and requests before keep it no longer than n checks take (`IsSilentSince`)."""
+    return lacks(silent=stays_silent(c), kept=c.before.requests == 0 or (c.n is not None and is_past_requests(c.own.timing, c.n)))
+
+
+def lacking_all(c: Choice) -> Lacks:
+    """Returns the preconditions of all three theorems that do not hold."""
+    return lacks(IsNewlyCreated=c.own.is_new, AreInOrder=c.own.disordered > c.at, IsTimedBy=is_timed_by(c))
 
 
 def lacking_both(c: Choice) -> Lacks:
-    """Returns the preconditions of both theorems that do not hold."""
-    end = c.n is not None and ends_with(c.own.timing, c.n)
-    return lacks(EndsWith=end, IsNewlyCreated=c.own.is_new, AreInOrder=c.own.disordered > c.at, IsTimedBy=is_timed_by(c))
+    """Returns the preconditions of the first two theorems that do not hold."""
+    return lacks(EndsWith=c.n is not None and ends_with(c.own.timing, c.n)) + lacking_all(c)
 
 
 def lacking(c: Choice) -> Lacks:
@@ -131,6 +159,12 @@ def lacking(c: Choice) -> Lacks:
 def lacking_since(c: Choice) -> Lacks:
     """Returns the preconditions of `SilencesHaveFewChecks` that do not hold."""
     return lacking_both(c) + lacks(IsSilentSince=is_silent_since(c))
+
+
+def lacking_asked(c: Choice) -> Lacks:
+    """Returns the preconditions of `AskedPairsGetFew` that do not hold."""
+    return lacks(EndsAsked=c.n is not None and ends_asked(c.own.timing, c.n)) + lacking_all(c) + lacks(
+        StaysSilent=stays_silent(c), is_asked_first=c.after.is_asked_first)
 
 
 # ---- the search
@@ -186,3 +220,9 @@ def silent_pairs_get_few(x: Execution) -> Verdict:
 def silences_have_few(x: Execution) -> Verdict:
     """Returns the pair without a response that got the most checks since its last request (`SilencesHaveFewChecks`)."""
     return closest_of_all(choices(x), lacking_since, lambda c: verdict_of(x, c), "check")
+
+
+def asked_pairs_get_few(x: Execution) -> Verdict:
+    """Returns the pair whose first check followed a request that got the most checks since its last request (`AskedPairsGetFew`)."""
+    found = (replace(c, n=least_asked(c.own.timing)) for c in choices(x))
+    return closest_of_all(found, lacking_asked, lambda c: verdict_of(x, c), "check")

@@ -6,7 +6,7 @@ from __future__ import annotations
 
 from is_ice import Settings
 
-from ..candidates import LEAST_ADVANCE
+from ..candidates import CHARGE, CREDIT, LEAST_ADVANCE
 from ..log import Entry, Log
 from ..replay import FOLLOWED, replay
 from ..view import Called
@@ -23,30 +23,37 @@ def is_one_use(c: Called) -> bool:
     return c.entry.call not in MAY_FOLLOW or not c.is_ok or not c.before.is_modern
 
 
-def moves_as_fixed(c: Called, last: int | None) -> bool:
-    """Whether the deadline is one to which `FixTimes` moves it: none, or it moved up, and is soon if the call makes it so. `last`: the time
-    of the last `handle_timeout` that served no early request. An agent that is not connected is not settled: the deadline of a settled one
-    moves back, too."""
+def moves_as_fixed(c: Called, last: int | None, has_credit: bool) -> bool:
+    """Whether the deadline is one to which `FixTimes` moves it: none, or it moved up, and is soon if the call makes it so and there is
+    credit. Otherwise it may be that of before, or a charge after the last call. `last`: the time of the last `handle_timeout` that
+    served no early request. An agent that is not connected is not settled: the deadline of a settled one moves back, too."""
     due, old, call, is_settled = c.after.due, c.before.due, c.entry.call, c.after.is_connected
     is_soon = call in SOON or call == "handle_packet" and not is_settled
     if due is None:
         return True
-    is_in_time = not is_soon or last is None or due <= last + LEAST_ADVANCE
+    is_paced = not has_credit and last is not None and (due == old or due >= last + CHARGE)
+    is_in_time = not is_soon or last is None or due <= last + LEAST_ADVANCE or is_paced
     return is_in_time and (call == "handle_timeout" or is_settled or old is None or due <= old)
 
 
 def followed_are_uses(record: Record) -> Found:
-    """`FollowedAreUses`: one use leaves the deadline, except `handle_timeout`, which ends it; two move it as `FixTimes` does."""
+    """`FollowedAreUses`: one use leaves the deadline, except `handle_timeout`, which ends it; two move it as `FixTimes` does. There is
+    credit for certain if there would be with a check in each `handle_timeout`."""
     found = Found()
     last: int | None = None
+    charged = 0
     for c in record.witness.calls:
         if c.entry.call == "handle_timeout" and c.is_ok and not (c.before.early and c.before.peer is not None):
             last = c.entry.given[0]
+            assert last is not None
+            charged = max(charged, last) + CHARGE
         if is_one_use(c):
             is_seen = c.before.is_modern and c.after.is_modern
             found.add(c.after.due == c.before.due or not is_seen, f"call {c.at}: {c.entry.call} changed the deadline")
         elif c.after.is_modern:
-            found.add(moves_as_fixed(c, last), f"call {c.at}: {c.entry.call} moved the deadline otherwise than the use after it")
+            has_credit = last is None or charged <= last + CREDIT
+            is_moved = moves_as_fixed(c, last, has_credit)
+            found.add(is_moved, f"call {c.at}: {c.entry.call} moved the deadline otherwise than the use after it")
     return found
 
 

@@ -48,7 +48,7 @@ class Numbers(unittest.TestCase):
         local = (place("host", A), place("srflx", MAPPED, A), place("host", SECOND_A), place("relay", MAPPED), place("host", V6))
         outer = [kinds.is_outer(local, candidate) for candidate in local]
         self.assertEqual(outer, [True, True, False, True, True])  # no base of IPv6 has a candidate that counts as server-reflexive
-        self.assertEqual(kind_between(local, local[2], place("host", B)), 15)
+        self.assertEqual([kind_between(local, local[2], place(kind, B)) for kind in ("prflx", "host")], [8, 8])
 
     def test_a_discarded_candidate_does_not_count(self) -> None:
         for candidate in (place("srflx", MAPPED, A), place("host", OWN)):
@@ -56,8 +56,8 @@ class Numbers(unittest.TestCase):
             self.assertTrue(all(kinds.is_outer(local, candidate) for candidate in local))
 
     def test_the_round_of_the_kinds(self) -> None:
-        self.assertEqual(sorted(range(16), key=lambda kind: turn_of(5, kind)), [*range(5, 16), *range(5)])
-        self.assertEqual(sorted(range(16), key=lambda kind: turn_of(16, kind)), [*range(16)])
+        self.assertEqual(sorted(range(9), key=lambda kind: turn_of(5, kind)), [*range(5, 9), *range(5)])
+        self.assertEqual(sorted(range(9), key=lambda kind: turn_of(9, kind)), [*range(9)])
 
 
 class Public(unittest.TestCase):
@@ -75,7 +75,7 @@ class Public(unittest.TestCase):
     def test_a_public_base_reaches_out_and_a_private_one_does_not(self) -> None:
         local = (place("host", A), place("host", OWN), place("host", SECOND_A))
         self.assertEqual([reaches_out(local, c.base) for c in local], [False, True, False])
-        self.assertEqual([kind_between(local, c, place("host", B)) for c in local], [15, 7, 15])
+        self.assertEqual([kind_between(local, c, place("host", B)) for c in local], [8, 7, 8])
 
     def test_so_does_a_private_one_with_a_server_reflexive_candidate(self) -> None:
         local = (place("host", A), place("srflx", MAPPED, A), place("host", OWN), place("host", SECOND_A))
@@ -113,7 +113,7 @@ class Public(unittest.TestCase):
         note()
         story.invalidate("a", Candidate.host(OWN))
         note()
-        self.assertEqual(found, [[7], [15, 7], [7]])
+        self.assertEqual(found, [[7], [8, 7], [7]])
 
 
 class Library(unittest.TestCase):
@@ -313,7 +313,7 @@ class Bounds(unittest.TestCase):
             self.assertEqual(checks_for(agent.modern, 1), min(n for n in range(12) if are_open_enough(agent, more, n)) - open_rounds)
 
     def test_rivals_at_the_limit(self) -> None:
-        for (settings, ranked, most), kind in product(((ORIGINAL, 2, 2), (MODERN, 1, 16)), ("srflx", "host")):
+        for (settings, ranked, most), kind in product(((ORIGINAL, 2, 2), (MODERN, 1, 9)), ("srflx", "host")):
             story = Story(settings=settings)
             story.remote("a", LINE.format(200 << 24, OUTSIDE.ip, OUTSIDE.port, kind))  # a greater priority, and another kind
             agent = story.agents["a"]

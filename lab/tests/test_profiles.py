@@ -270,9 +270,17 @@ class Pacing(unittest.TestCase):
         self.assertEqual([self.after(), self.after(checks=1), self.after(checks=2)], [[10, 10], [10, 10], [50, 50]])
         self.assertEqual([self.after(side="b"), self.after(is_modern=False)], [[10, 10], [50, 50]])
 
-    def test_each_pair_once_in_half_a_second(self) -> None:
-        found = [self.after(hosts=(10, count), limit=125) for count in (5, 8, 10, 12)]
-        self.assertEqual(found, [[10, 10], [6.25, 6.25], [5, 5], [5, 5]])
+    def test_it_is_the_same_with_many_pairs(self) -> None:
+        self.assertEqual([self.after(hosts=(10, count), limit=125) for count in (5, 12)], [[10, 10]] * 2)
+
+    def test_twelve_checks_come_closer(self) -> None:
+        story = Story(hosts=(5, 5), settings=MODERN)
+        gaps, time = list[int](), 0
+        for _ in range(14):
+            story.timeout("a", time)
+            gaps.append(story.agents["a"].pacing(at(time)) // MILLISECOND)
+            time += gaps[-1]
+        self.assertEqual(gaps, [10] * 11 + [25] * 3)
 
     def test_not_longer_than_what_is_set(self) -> None:
         self.assertEqual([self.after(advance=8), self.after(advance=3)], [[8, 8], [3, 3]])

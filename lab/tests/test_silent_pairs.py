@@ -2,12 +2,14 @@
 more checks than there may be."""
 
 import unittest
+from collections.abc import Iterable
 from dataclasses import replace
 
 from is_ice import IceAgent, IceCreds
 from lab.clauses import silent_pairs
 from lab.clauses.execution import MAX, Execution, Lacks
-from lab.clauses.silent_pairs import Choice, check_time, ends_with, is_past_requests, least_number
+from lab.clauses.silent_pairs import (Choice, asked_time, check_time, early_time, ends_asked, ends_with, is_past_requests, least_asked,
+                                      least_number)
 from lab.clock import MILLISECOND
 from lab.model import Agent
 from lab.pairs import Timing
@@ -25,20 +27,32 @@ def own_timing() -> Timing:
     return Agent(creds, 1).with_settings(IceAgent(creds, 1).settings).timing
 
 
+def times(t: Timing, numbers: Iterable[int]) -> list[int]:
+    """When these checks come after the first at least, in ms."""
+    return [check_time(t, early_time(t), n) // MILLISECOND for n in numbers]
+
+
 class Numbers(unittest.TestCase):
     def test_the_numbers_of_both_settings(self) -> None:
         original, modern = Timing(), own_timing()
         self.assertTrue(modern.modern)
         self.assertEqual([least_number(t, heard) for t in (original, modern) for heard in (False, True)], [9, 9, 18, 18])
+        self.assertEqual([least_asked(t) for t in (original, modern)], [9, 11])
 
     def test_the_least_times(self) -> None:
-        self.assertEqual([check_time(Timing(), n) // MILLISECOND for n in range(11)], [0, *ALL, 18750])
-        self.assertEqual([check_time(own_timing(), n) // MILLISECOND for n in range(6)], [0, 0, 100, 200, 400, 750])
+        self.assertEqual(times(Timing(), range(11)), [0, *ALL, 18750])
+        self.assertEqual(times(own_timing(), range(6)), [0, 0, 100, 200, 400, 750])
+        modern = own_timing()
+        self.assertEqual([check_time(modern, asked_time(modern), n) // MILLISECOND for n in range(6, 13)],
+                         [1100, 1450, 4350, 7250, 10150, 13050, 15950])
 
     def test_each_part(self) -> None:
         self.assertEqual(ends_with(Timing(), 8), ["counted"])
         self.assertEqual(ends_with(own_timing(), 17), ["over"])
         self.assertEqual(ends_with(Timing(modern=True, retransmits=1), 3), ["rare"])
+        self.assertEqual(ends_asked(own_timing(), 8), ["enough", "past"])
+        self.assertEqual(ends_asked(own_timing(), 10), ["enough", "past"])
+        self.assertEqual(ends_asked(Timing(modern=True, retransmits=9), 9), ["past"])
 
     def test_none_if_checks_have_no_distance(self) -> None:
         self.assertIsNone(least_number(Timing(modern=True, initial=0), True))
@@ -47,7 +61,7 @@ class Numbers(unittest.TestCase):
         brief = Timing(retransmits=3)
         self.assertEqual([least_number(brief, heard) for heard in (False, True)], [3, 17])
         self.assertEqual([is_past_requests(brief, n) for n in (16, 17)], [False, True])
-        self.assertEqual([check_time(brief, n) // MILLISECOND for n in (17, 18)], [14750, 15750])
+        self.assertEqual(times(brief, (17, 18)), [14750, 15750])
 
 
 class Silent(unittest.TestCase):
@@ -78,7 +92,7 @@ class Silent(unittest.TestCase):
         story = Story()
         story.exchange("a", 0)
         story.passes("a", 250)
-        self.assertEqual(self.both(story.network().x, 1), (["IsSilent.unanswered"], ["IsSilentSince.unanswered"]))
+        self.assertEqual(self.both(story.network().x, 1), (["IsSilent.unanswered"], ["IsSilentSince.silent.unanswered"]))
 
     def test_after_a_request_they_are_counted_again(self) -> None:
         story = Story()
@@ -92,13 +106,26 @@ class Silent(unittest.TestCase):
         self.assertFalse(silent_pairs.silences_have_few(more_checks(story, 2)).is_broken)
         self.assertTrue(silent_pairs.silences_have_few(more_checks(story, 3)).is_broken)
 
+    def test_a_pair_that_a_request_brought(self) -> None:
+        story = Story(settings=MODERN)
+        story.deliver(story.timeout("b", 0), "a", 5)
+        story.passes("a", 10, 110)
+        c = self.choices(story.network().x)[1]
+        c = replace(c, n=least_asked(c.own.timing))
+        self.assertEqual(silent_pairs.lacking_asked(c), [])
+        self.assertEqual(silent_pairs.lacking_asked(replace(c, n=10)), ["EndsAsked.past"])
+        self.assertEqual(silent_pairs.lacking_asked(replace(c, after=replace(c.after, first_sent=0))), ["is_asked_first"])
+        self.assertEqual(silent_pairs.lacking_asked(replace(c, after=replace(c.after, requests=2))), ["StaysSilent.unheard"])
+        found = silent_pairs.asked_pairs_get_few(story.network().x)
+        self.assertEqual((found.is_broken, found.count, found.limit), (False, 2, 11))
+
     def test_each_part_of_silence_since(self) -> None:
         story = Story()
         story.passes("a", 0)
         c = self.choices(story.network().x)[0]
-        for lacking, other in (("number", replace(c, before=replace(c.before, number=7))),
-                               ("unheard", replace(c, after=replace(c.after, requests=1))),
-                               ("counted", replace(c, before=replace(c.before, requests=MAX), after=replace(c.after, requests=MAX))),
+        for lacking, other in (("silent.number", replace(c, before=replace(c.before, number=7))),
+                               ("silent.unheard", replace(c, after=replace(c.after, requests=1))),
+                               ("silent.counted", replace(c, before=replace(c.before, requests=MAX), after=replace(c.after, requests=MAX))),
                                ("kept", replace(c, before=replace(c.before, requests=1), after=replace(c.after, requests=1), n=1))):
             self.assertEqual(silent_pairs.is_silent_since(other), [lacking])
 

@@ -63,13 +63,14 @@ pub enum Profile {
     ///   check may go to such a pair, to one whose nomination has no response yet, or to the selected pair, before pairs that are due
     ///   earlier.
     /// - As long as no response arrived on a pair, its first two retransmissions come 100 ms apart, and each later delay is twice the one
-    ///   before, up to 350 ms. This goes on for [`IceAgent::ice_timeout`] after the pair's first check; then the RTO counts. The checks
-    ///   that nominate a pair which had a response come so, too. The number of checks ends no pair sooner.
+    ///   before, up to 350 ms. This goes on for 2.5 s after the pair's first check, 1.2 s if a request came before it; then the RTO counts.
+    ///   The checks that nominate a pair which had a response come so, too. The number of checks ends no pair sooner, unless a request
+    ///   came before its first check.
     /// - A controlled agent selects a pair in the [`IceAgent::handle_packet`] call of the request that nominates it, if the pair was valid
     ///   before (RFC 8445, section 7.3.1.5).
     /// - A pair is removed at the end of its [`Consent`], however many pairs there are.
-    /// - Until the agent has a path, and if it is controlling has sent the check that nominates it, the pacing interval Ta is at most 10
-    ///   ms, and so short that each pair can be checked once in half a second; but at least 5 ms (RFC 8445, section 14.2). A shorter
+    /// - Until the agent has a path, and if it is controlling has sent the check that nominates it, the pacing interval Ta is at most 25 ms
+    ///   for half a second after the first check of the newest pair, and 10 ms after a pause: at most 49 checks come in a second. A shorter
     ///   [`IceAgent::set_timing_advance`] stays.
     /// - [`IceAgent::poll_timeout`] returns a time after each [`IceAgent::handle_timeout`] call.
     /// - A lite agent keeps its role, since only full agents repair roles (RFC 8445, sections 6.1.1 and 7.3.1.1). It sends a 487 to each

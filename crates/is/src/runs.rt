@@ -18,7 +18,7 @@ ghost use Rattle.is.specs.Accepted.{PacketsAreSettled};
 ghost use Rattle.is.specs.Queues.{OthersIssueNone, QueuesAreKept};
 ghost use Rattle.is.specs.Floods.{QueuesStayShort, DiscoveriesAreFew};
 ghost use Rattle.is.specs.Headline.{StaysPlain, Headline};
-ghost use Rattle.is.specs.CheckBounds.{ChecksStayPaced, SecondsStayShort, SilentPairsStayFew};
+ghost use Rattle.is.specs.CheckBounds.{AskedPairsStayFew, ChecksStayPaced, SecondsStayShort, SilentPairsStayFew};
 ghost use Rattle.is.specs.Reported.{QueuedAreSelected, PolledAreSelected, PolledAreAnswered, PolledAreNominatedByPeer, SettingsAreThoseSet};
 
 use crate::calls::{AgentCall, Entry};
@@ -247,7 +247,7 @@ pub fn run<H: Sha1HmacProvider + Drop, P: LocalPreference, R: Rng>(
         → DiscoveriesAreFew H.mac P.answers (record_of agent.old) (R.stream rng.old) (log_of calls.items result) }
 
     // Up to each call: in any span of time in which `handle_timeout` was called no sooner than the time that `poll_timeout` returned, at most as
-    // many checks were sent as pacing intervals begin in it, whatever was received. With the default interval that is 20 in a second, and 200
+    // many checks were sent as pacing intervals begin in it, whatever was received. With the default interval that is 20 in a second, and 49
     // early on.
     ensures paced { IsFresh (record_of agent.old)
         → ChecksStayPaced H.mac P.answers (record_of agent.old) (R.stream rng.old) (log_of calls.items result) }
@@ -258,6 +258,11 @@ pub fn run<H: Sha1HmacProvider + Drop, P: LocalPreference, R: Rng>(
     // those of `Original`, 18 with those of `Modern`. Precondition: they stay, and time does not run back.
     ensures silent { IsFresh (record_of agent.old)
         → SilentPairsStayFew H.mac P.answers (record_of agent.old) (R.stream rng.old) (log_of calls.items result) }
+
+    // Along each part of the log, a pair whose first check followed a request gets at most n checks while no further request and no response
+    // arrives on it: 11 with the settings of `Modern`. So an address to which a captured request is replayed gets few. Precondition: as before.
+    ensures asked { IsFresh (record_of agent.old)
+        → AskedPairsStayFew H.mac P.answers (record_of agent.old) (R.stream rng.old) (log_of calls.items result) }
 
     // Packets and events are polled in the order in which they were issued, and an ICE restart empties both queues before its own
     // events. With `Modern`, `recreate_candidate_pairs` removes each `NominatedSend` that waits; with `Original` it removes nothing.

@@ -36,6 +36,7 @@ record_of a = record {
   numbers_seen = a.numbers_seen;
   ahead_turn = a.ahead_turn;
   next_kind = a.next_kind;
+  charged_until = a.charged_until.0;
   queue = map waiting_view a.queue.items;
   state = a.state;
   last_time = option_map (λ at. at.0) a.last_time;

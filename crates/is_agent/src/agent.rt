@@ -104,6 +104,8 @@ pub struct Agent<H, P> {
     pub(crate) ahead_turn: bool,
     /// The kind from which on the kinds of pairs take turns.
     pub(crate) next_kind: u8,
+    /// The time up to which checks are charged.
+    pub(crate) charged_until: Instant,
     /// The early requests: received before the remote credentials.
     pub(crate) queue: VecDeque<Waiting>,
     pub(crate) state: IceConnectionState,
@@ -216,6 +218,7 @@ impl<H: Sha1HmacProvider + Drop, P: LocalPreference> Agent<H, P> {
             numbers_seen: false,
             ahead_turn: false,
             next_kind: 0,
+            charged_until: Instant(0),
             queue: VecDeque::new(alloc),
             state: IceConnectionState::New,
             last_time: None,

@@ -3,7 +3,7 @@
 //! There is a function for each rule, in the order in which they apply. Each ends in a call of the next one. Choices are made
 //! and capacity is reserved before anything changes; what follows can't fail.
 
-ghost use Rattle.std.specs.Prelude.{◌≡◌, ◌<◌, ◌&&◌, Some, None, true, false, not, length, IfOk, IfErr, IfSome, OnOk, IsOkUnless};
+ghost use Rattle.std.specs.Prelude.{◌≡◌, ◌<◌, ◌&&◌, Some, None, true, false, not, length, slice_set, IfOk, IfErr, IfSome, OnOk, IsOkUnless};
 ghost use Rattle.is_candidate.specs.Candidates.{candidate_at};
 ghost use Rattle.is_proto.specs.Times.{MAX};
 ghost use Rattle.is_proto.specs.declared.error.IceError.TheVariants as errors;
@@ -43,6 +43,14 @@ use is_rules::serving::{Places, Supplies, is_admitted, is_misled, needs_pair_at}
 use is_rules::sides::Sides;
 use is_stun::stun::Class;
 use std::alloc::AllocError;
+
+/// Puts a candidate in the place of another one.
+fn put(list: &mut Vec<Candidate>, place: usize, candidate: Candidate)
+    requires { place < length list.old.items }
+    ensures { list.new.items ≡ slice_set list.old.items place candidate }
+{
+    list[place] = candidate;
+}
 
 // ---- the choices
 
@@ -398,7 +406,7 @@ impl<H: Sha1HmacProvider + Drop, P: LocalPreference> Agent<H, P> {
                 self.find_or_add_pair(request, at.local, r, at.pair, reply)
             }
             (RemotePlace::Vacant(r), Some(sender)) => {
-                self.remote[r] = sender;
+                put(&mut self.remote, r, sender);
                 self.pairs.forget_removed(r);
                 self.find_or_add_pair(request, at.local, r, at.pair, reply)
             }

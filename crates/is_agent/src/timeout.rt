@@ -102,6 +102,7 @@ impl<H: Sha1HmacProvider + Drop, P: LocalPreference> Agent<H, P> {
     {
         self.next_kind = self.next_kind_after(number, ahead);
         self.ahead_turn = !ahead;
+        self.charged_until = self.charged_after(now);
         let begins = self.nominates_at_once();
         self.nomination_due = self.nomination_due && !self.is_selected_number(number);
         begin_nomination(&mut self.pairs, number, begins);

@@ -14,7 +14,7 @@ use crate::codes;
 use crate::home::Home;
 use is_proto::Instant;
 
-/// When the agent has something to do next; soon: 5 ms after its last call at the latest.
+/// When the agent has something to do next; soon: with credit 5 ms after its last call at the latest.
 fn time_to_call(home: &Home, soon: bool) -> Option<Instant>
     ensures { option_map (λ at. at.0) result ≡ time_to_call soon (record_of home.now.agent) }
 {

@@ -1,13 +1,13 @@
 -- The deadline that a slot keeps with the profile `Modern`: the time at which `is_ice_handle_timeout` is to be called.
 use Rattle.std.specs.Prelude.{◌≡◌, ℕ, Bool, min, Option, Some, None, ℤ, if◌then◌else◌}
 use Rattle.is_rules.specs.Polls.{is_settled, PollsTimeout}
-use Rattle.is_agent.specs.Polls.{sooner, next_call}
+use Rattle.is_agent.specs.Polls.{next_call, next_call_soon}
 use Rattle.is_c_calls.specs.Codes.{OK}
 use Rattle.is_c_calls.specs.Held.{Held, HomeRecord}
 
--- when the agent has something to do next; soon: 5 ms after its last call at the latest
+-- when the agent has something to do next; soon: with credit 5 ms after its last call at the latest
 abbrev pub time_to_call : Bool → Held → Option ℕ
-time_to_call soon a = if soon then sooner a.last_time (next_call a) else next_call a
+time_to_call soon a = if soon then next_call_soon a else next_call a
 
 -- the earlier one of the deadline and a new time; without one there is nothing to do
 abbrev pub earlier : Option ℕ → Option ℕ → Option ℕ

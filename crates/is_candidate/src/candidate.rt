@@ -18,9 +18,11 @@ pub mod making;
 pub mod priority;
 pub mod round_trip;
 pub mod sdp;
+pub mod source;
 
 use is_proto::{IceError, Protocol, TcpType, Text};
 use kind::CandidateKind;
+use source::{Source, signaled_local};
 use std::alloc::Global;
 use std::marker::Model;
 use std::net::SocketAddr;
@@ -29,17 +31,16 @@ use std::net::SocketAddr;
 #[derive(Debug, PartialEq, Eq, Hash, Drop)]
 pub struct Candidate {
     foundation: Option<Text>,
-    component: u16,
-    proto: Protocol,
-    given_priority: Option<u32>,
-    addr: SocketAddr,
-    given_base: Option<SocketAddr>,
-    kind: CandidateKind,
-    raddr: Option<SocketAddr>,
-    tcptype: Option<TcpType>,
     ufrag: Option<Text>,
-    local: SocketAddr,
+    addr: SocketAddr,
+    other: SocketAddr,
+    priority: u32,
     local_preference: Option<u16>,
+    component: u16,
+    source: Source,
+    kind: CandidateKind,
+    proto: Protocol,
+    tcptype: Option<TcpType>,
     discarded: bool,
 }
 
@@ -48,42 +49,58 @@ impl Model for Candidate {
 
     ghost Value = { CandidateRecord };
 
-    ghost use Rattle.std.specs.Prelude.{◌≡◌, IsTrue, unwrap_or};
-    ghost use Rattle.is_candidate.specs.Kinds.{is_direct};
+    ghost use Rattle.std.specs.Prelude.{unwrap_or};
+    ghost use Rattle.is_candidate.specs.Stored.{base_from, related_from, local_from, priority_from, FillsOther, FillsPriority};
+    ghost use Rattle.is_candidate.specs.Stored.{source_of, other_of};
+    ghost use Rattle.is_candidate.specs.Stored.{same_source, same_other, same_priority};
 
     ghost view = { λ c. record {
       foundation = c.foundation;
       component = c.component;
       proto = c.proto;
-      given_priority = c.given_priority;
+      given_priority = priority_from c.source c.kind c.priority;
       addr = c.addr;
-      given_base = c.given_base;
+      given_base = base_from c.source c.kind c.addr c.other;
       kind = c.kind;
-      raddr = c.raddr;
+      raddr = related_from c.source c.kind c.addr c.other;
       tcptype = c.tcptype;
       ufrag = c.ufrag;
-      local = c.local;
+      local = local_from c.source c.kind c.addr c.other;
       local_preference = c.local_preference;
       discarded = c.discarded;
     } };
+
+    ghost invariant = { λ c. FillsOther c.source c.addr c.other × FillsPriority c.source c.kind c.priority };
 
     ghost inverse = { λ c. record {
       foundation = c.foundation;
-      component = c.component;
-      proto = c.proto;
-      given_priority = c.given_priority;
-      addr = c.addr;
-      given_base = c.given_base;
-      kind = c.kind;
-      raddr = c.raddr;
-      tcptype = c.tcptype;
       ufrag = c.ufrag;
-      local = c.local;
+      addr = c.addr;
+      other = other_of c.given_base c.raddr c.local c.addr;
+      priority = unwrap_or c.given_priority 0;
       local_preference = c.local_preference;
+      component = c.component;
+      source = source_of c.given_base c.raddr;
+      kind = c.kind;
+      proto = c.proto;
+      tcptype = c.tcptype;
       discarded = c.discarded;
     } };
 
-    ghost invariant = { λ c. IsTrue (is_direct c.kind) → unwrap_or c.given_base c.addr ≡ c.addr };
+    ghost inverse_ok = { λ c fills i. record {
+      foundation = c.foundation;
+      ufrag = c.ufrag;
+      addr = c.addr;
+      other = same_other c.source c.kind c.addr c.other fills.0 i;
+      priority = same_priority c.source c.kind c.priority fills.1 i;
+      local_preference = c.local_preference;
+      component = c.component;
+      source = same_source c.source c.kind c.addr c.other i;
+      kind = c.kind;
+      proto = c.proto;
+      tcptype = c.tcptype;
+      discarded = c.discarded;
+    } };
 }
 
 impl Candidate {
@@ -100,7 +117,10 @@ impl Candidate {
     pub fn local(&self) -> SocketAddr
         ensures { result ≡ self.now.local }
     {
-        self.local
+        match self.source {
+            Source::Found => self.other,
+            Source::Signaled | Source::Related => signaled_local(self.kind, self.addr),
+        }
     }
 
     /// Returns the transport protocol.

@@ -57,9 +57,20 @@ early_time t = min EARLY_TIME (timeout_of t)
 abbrev pub is_within : ℕ → ℕ → Option ℕ → Bool
 is_within span now since = option_map_or (λ at. nat_lt now (later at span)) since false
 
+-- the same for a pair whose first check followed a request, since whoever sees a request can replay it from any address
+abbrev pub ASKED_TIME : ℕ
+ASKED_TIME = 1200 * MILLISECOND
+
+-- Its first check followed a request of the peer: so it is with each pair that a request brings.
+abbrev pub is_asked_first : PairRecord → Bool
+is_asked_first p = option_map_or (λ first. option_map_or (λ again. nat_le again first) p.first_after_request false) p.first_sent false
+
+abbrev pub early_span : StunTiming → PairRecord → ℕ
+early_span t p = if is_asked_first p then min ASKED_TIME (early_time t) else early_time t
+
 -- Less than that has passed since the first check, or since the first one after a request of the peer.
 abbrev pub is_early_on : ℕ → StunTiming → PairRecord → Bool
-is_early_on now t p = is_within (early_time t) now p.first_sent || is_within (early_time t) now p.first_after_request
+is_early_on now t p = is_within (early_span t p) now p.first_sent || is_within (early_span t p) now p.first_after_request
 
 -- With the profile `Modern`, checks are repeated early for that time while no response arrived on the pair; and those that nominate a pair
 -- with a response, until `max_retransmits` checks have none.
@@ -143,6 +154,10 @@ triggered modern at p = if modern && is_triggered p then moved_up at p else p
 abbrev pub is_urgent : PairRecord → Bool
 is_urgent p = (nat_lt 0 p.requests && not (is_valid p)) || is_nominating p.nomination
 
+-- It is urgent, and its due time, computed now if it is not fixed, is at most `by`.
+abbrev pub is_urgent_by : ℕ → ℕ → StunTiming → PairRecord → Bool
+is_urgent_by now by t p = is_urgent p && nat_le (due_time_of now t p) by
+
 -- ---- when it fails
 
 -- a check from the peer arrived less than 15 s ago
@@ -157,10 +172,10 @@ is_in_time now t checks = option_map_or (λ c. nat_lt now (later c.sent (last_re
 abbrev pub is_early_silence : ℕ → StunTiming → List Check → Bool
 is_early_silence now t checks = option_map_or (λ c. nat_lt now (later c.sent (timeout_of t))) (first_unanswered checks) false
 
--- less time has passed than a whole series of checks takes: since the first check if there was no response, otherwise since the first
--- one without
+-- less time has passed than a whole series of checks takes: since the first check if there was no response, unless that followed a request;
+-- otherwise since the first one without
 abbrev pub is_within_series : ℕ → StunTiming → PairRecord → Bool
-is_within_series now t p = if p.answers == 0 then is_young now t p else is_early_silence now t p.checks
+is_within_series now t p = if p.answers == 0 then not (is_asked_first p) && is_young now t p else is_early_silence now t p.checks
 
 -- While checks are repeated early, time counts and not their number: so no pair ends sooner.
 abbrev pub has_early_checks : ℕ → StunTiming → PairRecord → Bool

@@ -25,7 +25,7 @@ mod removed;
 mod rule;
 
 use crate::pair::{BindingAttempt, CandidatePair};
-pub use beginning::Beginning;
+pub use beginning::{Beginning, UrgentBy};
 use entries::{Kept, Rank};
 pub use expired::Expired;
 use is_proto::reserve_few;

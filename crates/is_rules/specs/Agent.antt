@@ -56,6 +56,8 @@ pub record AgentRecord (H P : Type 0) : Type 0 where
   -- whether the next check may go ahead of pairs that are due earlier, and from which kind on the kinds take turns (`Checking`, `Kinds`)
   pub ahead_turn : Bool
   pub next_kind : ℕ
+  -- the time up to which checks are charged (`Charging`)
+  pub charged_until : ℕ
   -- the early requests: received before the remote credentials
   pub queue : List RequestRecord
   pub state : IceConnectionState
@@ -117,6 +119,7 @@ module _ {H P : Type 0} where
     numbers_seen = false;
     ahead_turn = false;
     next_kind = 0;
+    charged_until = 0;
     queue = [];
     state = New;
     last_time = None;

@@ -21,6 +21,7 @@ use Rattle.is_rules.specs.Emitted.{issued_as}
 use Rattle.is_pair.specs.Multiset.{change_pair}
 use Rattle.is_rules.specs.Agent.{AgentRecord}
 use Rattle.is_rules.specs.Connecting.{is_connected}
+use Rattle.is_rules.specs.Charging.{charged_after}
 use Rattle.is_rules.specs.Kinds.{is_first_due, kind_of, IsNextAhead}
 use Rattle.is_rules.specs.Leaving.{IsAskedAlong}
 use Rattle.is_rules.specs.Nominating.{nominates_at_once, nomination_of, pair_selected, stays_nominated}
@@ -100,6 +101,7 @@ module _ {H P : Type 0} where
           pairs = change_pair p.number (checked now a.timing a.controlling id) (nomination_begun p.number a).pairs;
           ahead_turn = not (is_ahead_turn now a);
           next_kind = next_kind_after now p a;
+          charged_until = charged_after now a;
           stats = record a.stats { bind_request_sent = counted a.stats.bind_request_sent };
         })
 

@@ -1,6 +1,6 @@
 -- Which pair is checked ahead of those that are due earlier: the selected one, then urgent pairs, and else those of the next kind, since
 -- kinds of pairs take turns (RFC 8445, section 6.1.4.2; RFC 8421, section 4).
-use Rattle.std.specs.Prelude.{◌≡◌, ℕ, ◌+◌, ◌*◌, ◌<◌, ◌&&◌, ◌||◌, ◌⊎◌, Bool, true, not, nat_le, List, Option, Some, None, if◌then◌else◌}
+use Rattle.std.specs.Prelude.{◌≡◌, ℕ, ◌+◌, ◌*◌, ◌==◌, ◌<◌, ◌&&◌, ◌||◌, ◌⊎◌, Bool, true, not, nat_le, List, Option, Some, None, if◌then◌else◌}
 use Rattle.std.specs.List.{list_any}
 use Rattle.std.specs.Net.Socket.{socket_ip}
 use Rattle.std.specs.declared.net.socket_addr.SocketAddr.{SocketAddr}
@@ -54,25 +54,30 @@ kind_rank Host = 3
 abbrev pub version_rank : SocketAddr → ℕ
 version_rank addr = if is_v4 addr then 1 else 0
 
+-- All pairs whose packets do not reach the outside are of one kind, so that they take few turns.
+abbrev pub INNER : ℕ
+INNER = 8
+
 -- the local candidate's part: whether it is an outer one
 abbrev pub side_of : List CandidateRecord → CandidateRecord → ℕ
-side_of local l = if is_outer local l then 0 else 8
+side_of local l = if is_outer local l then 0 else INNER
 
 -- the remote candidate's part: the kind that it counts as, and the IP version
 abbrev pub remote_rank : CandidateRecord → ℕ
 remote_rank r = 2 * kind_rank (counted_kind r) + version_rank r.addr
 
 abbrev pub kind_between : List CandidateRecord → CandidateRecord → CandidateRecord → ℕ
-kind_between local l r = side_of local l + remote_rank r
+kind_between local l r = if side_of local l == 0 then remote_rank r else INNER
 
--- the kind of a pair, a number from 0 to 15
+-- the kind of a pair, a number from 0 to 8
 abbrev pub kind_of : List CandidateRecord → List CandidateRecord → PairRecord → ℕ
 kind_of local remote p = kind_between local (candidate_at local p.local) (candidate_at remote p.remote)
 
 -- ---- turns
 
+-- how many there are: one for each rank of a remote candidate, and the inner one
 abbrev pub KINDS : ℕ
-KINDS = 16
+KINDS = 9
 
 -- The place of a kind in the round that begins with `next`: the kinds from `next` on come before the others.
 abbrev pub turn_of : ℕ → ℕ → ℕ

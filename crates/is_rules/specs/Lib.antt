@@ -32,6 +32,7 @@ pub mod Answers
 pub mod Restarting
 pub mod States
 pub mod Settling
+pub mod Charging
 pub mod Checking
 pub mod Due
 pub mod TimeoutStart

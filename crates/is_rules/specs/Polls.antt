@@ -1,5 +1,5 @@
 -- What the polls return.
-use Rattle.std.specs.Prelude.{◌≡◌, ℕ, ◌*◌, ◌/◌, min, max, ◌&&◌, ◌||◌, not, Bool, List, [], ◌∷◌, map, fold, length, Option, Some, None, is_some, MatchBool, IsSomeAnd, if◌then◌else◌}
+use Rattle.std.specs.Prelude.{◌≡◌, ℕ, ◌*◌, min, max, ◌&&◌, ◌||◌, not, Bool, List, [], ◌∷◌, map, fold, Option, Some, None, is_some, MatchBool, IsSomeAnd, if◌then◌else◌}
 use Rattle.std.specs.List.{list_any}
 use Rattle.is_proto.specs.Lists.{is_empty}
 use Rattle.is_proto.specs.Times.{MAX, MILLISECOND, SECOND, later}
@@ -9,6 +9,7 @@ use Rattle.is_stun.specs.Timing.{is_modern}
 use Rattle.is_rules.specs.declared.event.IceAgentEvent.{IceAgentEvent}
 use Rattle.is_rules.specs.Agent.{AgentRecord}
 use Rattle.is_rules.specs.Nominating.{is_pressing}
+use Rattle.is_rules.specs.Charging.{CHARGE, EARLY_TA, has_credit, is_urged}
 use Rattle.is_rules.specs.Connecting.{is_connected}
 
 -- A poll removes the first element of a queue and returns it.
@@ -19,18 +20,6 @@ IsPolled old (Some x) new = old ≡ x ∷ new
 -- the least pacing interval Ta (RFC 8445, section 14.2)
 abbrev pub LEAST_TA : ℕ
 LEAST_TA = 5 * MILLISECOND
-
--- with many pairs, the time in which each of them can be checked once
-abbrev pub CYCLE : ℕ
-CYCLE = 500 * MILLISECOND
-
--- early on, the pacing interval of few pairs
-abbrev pub EARLY_TA : ℕ
-EARLY_TA = 10 * MILLISECOND
-
--- the pacing interval early on, with so many pairs: each can be checked once in a cycle. A shorter interval that is set stays.
-abbrev pub early_advance : ℕ → ℕ → ℕ
-early_advance count advance = min advance (max LEAST_TA (min EARLY_TA (CYCLE / max 1 count)))
 
 module _ {H P : Type 0} where
   -- `poll_transmit`
@@ -49,17 +38,21 @@ module _ {H P : Type 0} where
   abbrev pub is_settled : AgentRecord H P → Bool
   is_settled a = is_connected a.state && not (a.controlling && a.nomination_due)
 
-  -- It knows the peer, and an early request waits, or a pair is at its beginning.
+  -- It knows the peer, and an early request waits, a pair is at its beginning, or an urgent one is due soon.
   abbrev pub has_begun : ℕ → AgentRecord H P → Bool
-  has_begun last a = is_some a.remote_creds && (not (is_empty a.queue) || list_any (is_beginning last) a.pairs)
+  has_begun last a = is_some a.remote_creds && (not (is_empty a.queue) || list_any (is_beginning last) a.pairs || is_urged last a)
 
   -- It is early, for an agent with `Modern` that is not settled: it has begun so, or only a nomination is still to be sent.
   abbrev pub is_early : ℕ → AgentRecord H P → Bool
   is_early last a = is_modern a.timing && not (is_settled a) && (is_connected a.state || has_begun last a)
 
-  -- the pacing interval Ta; early on it is shorter
+  -- the pacing interval early on: short with credit
+  abbrev pub early_ta : ℕ → AgentRecord H P → ℕ
+  early_ta last a = if has_credit last a then EARLY_TA else CHARGE
+
+  -- the pacing interval Ta; early on it is shorter, unless a shorter one is set
   abbrev pub pacing_of : ℕ → AgentRecord H P → ℕ
-  pacing_of last a = if is_early last a then early_advance (length a.pairs) a.timing_advance else a.timing_advance
+  pacing_of last a = if is_early last a then min a.timing_advance (early_ta last a) else a.timing_advance
 
   -- one pacing interval after the last call
   abbrev pub soon : AgentRecord H P → ℕ → ℕ

@@ -21,28 +21,24 @@ use is_pair::checklist::{Checklist, PairTest, Removal};
 use is_pair::pair::CandidatePair;
 
 /// How many pairs each kind has.
-pub(crate) fn kind_counts(
-    pairs: &Checklist,
-    kinds: &KindTable<'_>,
-    remote: &[Candidate],
-) -> [usize; 16]
-    requires placed { are_placed kinds.now.local.now remote.now (multiset_of pairs.now) ≡ true }
-    ensures { AreCounted (kind_of kinds.now.local.now remote.now) (multiset_of pairs.now) result }
+pub(crate) fn kind_counts(pairs: &Checklist, kinds: &KindTable<'_>) -> [usize; 9]
+    requires placed { are_placed kinds.now.local.now kinds.now.remote.now (multiset_of pairs.now) ≡ true }
+    ensures { AreCounted (kind_of kinds.now.local.now kinds.now.remote.now) (multiset_of pairs.now) result }
 {
-    let mut counts = [0; 16];
+    let mut counts = [0; 9];
     for pair in pairs.as_slice() {
-        counts[kinds.kind_of(remote, pair) as usize] += 1;
+        counts[kinds.kind_of(pair) as usize] += 1;
     }
     counts
 }
 
 /// The kind with the most pairs.
-pub(crate) fn most_numerous(counts: &[usize; 16]) -> u8
+pub(crate) fn most_numerous(counts: &[usize; 9]) -> u8
     ensures within { result < KINDS }
     ensures most { (kind : ℕ) → kind < KINDS → slice_index counts.now kind ≤ slice_index counts.now result }
 {
     let mut most = 0;
-    for kind in 1..16u8 {
+    for kind in 1..9u8 {
         if counts[kind as usize] > counts[most as usize] {
             most = kind;
         }
@@ -54,17 +50,16 @@ pub(crate) fn most_numerous(counts: &[usize; 16]) -> u8
 #[derive(Clone, Copy)]
 struct OfKind<'a> {
     kinds: &'a KindTable<'a>,
-    remote: &'a [Candidate],
     kind: u8,
 }
 
 impl PairTest for OfKind<'_> {
     ghost use Rattle.is_rules.specs.Evicting.{is_placed_of_kind};
 
-    ghost passes = { λ t p. is_placed_of_kind t.kinds.now.local.now t.remote.now t.kind p };
+    ghost passes = { λ t p. is_placed_of_kind t.kinds.now.local.now t.kinds.now.remote.now t.kind p };
 
     fn passes(&self, pair: &CandidatePair) -> bool {
-        self.kinds.has(self.remote, pair) && self.kinds.kind_of(self.remote, pair) == self.kind
+        self.kinds.has(pair) && self.kinds.kind_of(pair) == self.kind
     }
 }
 
@@ -72,37 +67,27 @@ impl PairTest for OfKind<'_> {
 fn least_of_kind<'a>(
     pairs: &'a Checklist,
     kinds: &KindTable<'_>,
-    remote: &[Candidate],
     kind: u8,
 ) -> Option<&'a CandidatePair>
-    requires placed { are_placed kinds.now.local.now remote.now (multiset_of pairs.now) ≡ true }
-    ensures { IsLeastOfKind (kind_of kinds.now.local.now remote.now) kind (multiset_of pairs.now) (option_copied result) }
+    requires placed { are_placed kinds.now.local.now kinds.now.remote.now (multiset_of pairs.now) ≡ true }
+    ensures { IsLeastOfKind (kind_of kinds.now.local.now kinds.now.remote.now) kind (multiset_of pairs.now) (option_copied result) }
 {
-    pairs.least_passing(&OfKind {
-        kinds,
-        remote,
-        kind,
-    })
+    pairs.least_passing(&OfKind { kinds, kind })
 }
 
 /// Removes a pair of lowest priority of the kind with the most pairs, and counts it off. Returns whether there was a pair.
-fn evict_one(
-    pairs: &mut Checklist,
-    counts: &mut [usize; 16],
-    kinds: &KindTable<'_>,
-    remote: &[Candidate],
-) -> bool
-    requires placed { are_placed kinds.now.local.now remote.now (multiset_of pairs.old) ≡ true }
-    requires counted { AreCounted (kind_of kinds.now.local.now remote.now) (multiset_of pairs.old) counts.old }
-    ensures one { result ≡ true → (p : PairRecord) × IsLeastOfMost (kind_of kinds.now.local.now remote.now) (multiset_of pairs.old) p
+fn evict_one(pairs: &mut Checklist, counts: &mut [usize; 9], kinds: &KindTable<'_>) -> bool
+    requires placed { are_placed kinds.now.local.now kinds.now.remote.now (multiset_of pairs.old) ≡ true }
+    requires counted { AreCounted (kind_of kinds.now.local.now kinds.now.remote.now) (multiset_of pairs.old) counts.old }
+    ensures one { result ≡ true → (p : PairRecord) × IsLeastOfMost (kind_of kinds.now.local.now kinds.now.remote.now) (multiset_of pairs.old) p
         × (multiset_of pairs.new ≡ without (is_numbered p.number) (multiset_of pairs.old)) }
     ensures none { result ≡ false → (multiset_of pairs.old ≡ []) × (multiset_of pairs.new ≡ []) }
-    ensures counted { AreCounted (kind_of kinds.now.local.now remote.now) (multiset_of pairs.new) counts.new }
+    ensures counted { AreCounted (kind_of kinds.now.local.now kinds.now.remote.now) (multiset_of pairs.new) counts.new }
     ensures below { (n : ℕ) → are_below n (multiset_of pairs.old) ≡ true → are_below n (multiset_of pairs.new) ≡ true }
 {
     pairs.numbers_rise();
     let kind = most_numerous(counts);
-    match least_of_kind(pairs, kinds, remote, kind) {
+    match least_of_kind(pairs, kinds, kind) {
         None => false,
         Some(least) => {
             let number = least.id().0;
@@ -114,6 +99,24 @@ fn evict_one(
 }
 
 /// Removes pairs of the kind with the most pairs until there are no more than the limit.
+fn evict_by_kind(pairs: &mut Checklist, limit: usize, kinds: &KindTable<'_>)
+    requires placed { are_placed kinds.now.local.now kinds.now.remote.now (multiset_of pairs.old) ≡ true }
+    ensures evicted { EvictsOfMost (kind_of kinds.now.local.now kinds.now.remote.now) limit (multiset_of pairs.old) (multiset_of pairs.new) }
+    ensures below { (n : ℕ) → are_below n (multiset_of pairs.old) ≡ true → are_below n (multiset_of pairs.new) ≡ true }
+{
+    evict_many(pairs, limit, kinds);
+    if pairs.len() <= limit {
+        return;
+    }
+    let mut counts = kind_counts(pairs, kinds);
+    while pairs.len() > limit {
+        if !evict_one(pairs, &mut counts, kinds) {
+            return;
+        }
+    }
+}
+
+/// The same with a table of the kinds, if there are more pairs.
 fn evict_of_most(pairs: &mut Checklist, limit: usize, local: &[Candidate], remote: &[Candidate])
     requires placed { are_placed local.now remote.now (multiset_of pairs.old) ≡ true }
     ensures evicted { EvictsOfMost (kind_of local.now remote.now) limit (multiset_of pairs.old) (multiset_of pairs.new) }
@@ -122,17 +125,8 @@ fn evict_of_most(pairs: &mut Checklist, limit: usize, local: &[Candidate], remot
     if pairs.len() <= limit {
         return;
     }
-    let kinds = KindTable::new(local);
-    evict_many(pairs, limit, &kinds, remote);
-    if pairs.len() <= limit {
-        return;
-    }
-    let mut counts = kind_counts(pairs, &kinds, remote);
-    while pairs.len() > limit {
-        if !evict_one(pairs, &mut counts, &kinds, remote) {
-            return;
-        }
-    }
+    let kinds = KindTable::new(local, remote, pairs.len());
+    evict_by_kind(pairs, limit, &kinds);
 }
 
 /// Removes pairs until there are no more than the limit: those of lowest priority, with kinds in turn those of the kind with the

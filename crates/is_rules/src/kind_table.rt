@@ -1,25 +1,32 @@
-//! The kinds of many pairs: whether a local candidate reaches the outside is decided once, and not for each pair.
+//! The kinds of many pairs: what a candidate contributes is decided once, and not for each pair.
 
-ghost use Rattle.std.specs.Prelude.{◌≡◌, ◌<◌, ℕ, true, false, length, slice_index};
+ghost use Rattle.std.specs.Prelude.{◌≡◌, ◌<◌, ◌≤◌, ℕ, true, false, length, slice_index};
 ghost use Rattle.std.specs.List.{list_any};
 ghost use Rattle.is_candidate.specs.Candidates.{CandidateRecord, candidate_at};
 ghost use Rattle.is_rules.specs.Kept.{is_placed};
-ghost use Rattle.is_rules.specs.Kinds.{is_reflexive, kind_of, side_of, KINDS};
+ghost use Rattle.is_rules.specs.Kinds.{is_reflexive, kind_of, remote_rank, side_of, KINDS};
 
-use crate::kinds::{is_reflexive, remote_rank, side_of};
+use crate::kinds::{INNER_KIND, is_reflexive, remote_rank, side_of};
 use crate::places::candidate_at;
 use is_candidate::Candidate;
 use is_pair::pair::CandidatePair;
 
-/// The parts of the local candidates in the kinds of their pairs, those of the first 64 candidates in a table.
+/// The parts of the candidates in the kinds of their pairs, in tables: those of the first 64 local candidates, and of remote ones if these are
+/// no more than the pairs.
 #[derive(Drop)]
 pub(crate) struct KindTable<'a> {
-    local: &'a [Candidate],
+    pub(crate) local: &'a [Candidate],
+    pub(crate) remote: &'a [Candidate],
     /// Packets of every local candidate reach the outside.
     all_outer: bool,
     sides: [u8; 64],
+    /// So many remote candidates have their ranks in the table, the first ones.
+    ranked: usize,
+    ranks: [u8; 128],
     ghost outer: { all_outer ≡ true → (c : CandidateRecord) → side_of local.now c ≡ 0 },
     ghost right: { all_outer ≡ false → (place : ℕ) → place < 64 → place < length local.now → slice_index sides place ≡ side_of local.now (candidate_at local.now place) },
+    ghost few: { ranked ≤ 128 },
+    ghost known: { (place : ℕ) → place < ranked → slice_index ranks place ≡ remote_rank (candidate_at remote.now place) },
 }
 
 /// A live candidate counts as server-reflexive.
@@ -47,26 +54,61 @@ fn sides_of(local: &[Candidate]) -> [u8; 64]
     sides
 }
 
+/// The same, unless all are outer ones.
+fn sides_unless(all_outer: bool, local: &[Candidate]) -> [u8; 64]
+    ensures { all_outer ≡ false → (place : ℕ) → place < 64 → place < length local.now → slice_index result place ≡ side_of local.now (candidate_at local.now place) }
+{
+    if all_outer { [0; 64] } else { sides_of(local) }
+}
+
+/// How many ranks are computed first: none if there are more remote candidates than pairs, since that would cost more than it saves.
+fn ranked_first(remote: &[Candidate], pairs: usize) -> usize
+    ensures few { result ≤ 128 }
+    ensures there { result ≤ length remote.now }
+{
+    if remote.len() <= pairs {
+        remote.len().min(128)
+    } else {
+        0
+    }
+}
+
+/// The ranks of so many candidates.
+fn ranks_of(remote: &[Candidate], many: usize) -> [u8; 128]
+    requires few { many ≤ 128 }
+    requires there { many ≤ length remote.now }
+    ensures { (place : ℕ) → place < many → slice_index result place ≡ remote_rank (candidate_at remote.now place) }
+{
+    let mut ranks = [0; 128];
+    for place in 0..many {
+        ranks[place] = remote_rank(candidate_at(remote, place));
+    }
+    ranks
+}
+
 impl<'a> KindTable<'a> {
-    pub(crate) fn new(local: &'a [Candidate]) -> KindTable<'a>
-        ensures { result.local.now ≡ local.now }
+    /// The table for a caller that needs the kinds of so many pairs, or of more.
+    pub(crate) fn new(
+        local: &'a [Candidate],
+        remote: &'a [Candidate],
+        pairs: usize,
+    ) -> KindTable<'a>
+        ensures local { result.local.now ≡ local.now }
+        ensures remote { result.remote.now ≡ remote.now }
     {
-        if are_all_outer(local) {
-            KindTable {
-                local,
-                all_outer: true,
-                sides: [0; 64],
-            }
-        } else {
-            KindTable {
-                local,
-                all_outer: false,
-                sides: sides_of(local),
-            }
+        let all_outer = are_all_outer(local);
+        let ranked = ranked_first(remote, pairs);
+        KindTable {
+            local,
+            remote,
+            all_outer,
+            sides: sides_unless(all_outer, local),
+            ranked,
+            ranks: ranks_of(remote, ranked),
         }
     }
 
-    /// The part of the candidate at this place.
+    /// The part of the local candidate at this place.
     #[inline(always)]
     fn side_at(&self, place: usize) -> u8
         requires { place < length self.now.local.now }
@@ -81,22 +123,38 @@ impl<'a> KindTable<'a> {
         }
     }
 
-    /// The places of the pair are in the lists.
+    /// The rank of the remote candidate at this place.
     #[inline(always)]
-    pub(crate) fn has(&self, remote: &[Candidate], pair: &CandidatePair) -> bool
-        ensures { result ≡ is_placed self.now.local.now remote.now pair.now }
+    fn rank_at(&self, place: usize) -> u8
+        requires { place < length self.now.remote.now }
+        ensures { result ≡ remote_rank (candidate_at self.now.remote.now place) }
     {
-        pair.local_idx() < self.local.len() && pair.remote_idx() < remote.len()
+        if place < self.ranked {
+            self.ranks[place]
+        } else {
+            remote_rank(candidate_at(self.remote, place))
+        }
     }
 
-    /// The kind of a pair, a number from 0 to 15.
+    /// The places of the pair are in the lists.
     #[inline(always)]
-    pub(crate) fn kind_of(&self, remote: &[Candidate], pair: &CandidatePair) -> u8
-        requires placed { is_placed self.now.local.now remote.now pair.now ≡ true }
-        ensures kind { result ≡ kind_of self.now.local.now remote.now pair.now }
+    pub(crate) fn has(&self, pair: &CandidatePair) -> bool
+        ensures { result ≡ is_placed self.now.local.now self.now.remote.now pair.now }
+    {
+        pair.local_idx() < self.local.len() && pair.remote_idx() < self.remote.len()
+    }
+
+    /// The kind of a pair, a number from 0 to 8.
+    #[inline(always)]
+    pub(crate) fn kind_of(&self, pair: &CandidatePair) -> u8
+        requires placed { is_placed self.now.local.now self.now.remote.now pair.now ≡ true }
+        ensures kind { result ≡ kind_of self.now.local.now self.now.remote.now pair.now }
         ensures within { result < KINDS }
     {
-        let theirs = candidate_at(remote, pair.remote_idx());
-        self.side_at(pair.local_idx()) + remote_rank(theirs)
+        if self.side_at(pair.local_idx()) == 0 {
+            self.rank_at(pair.remote_idx())
+        } else {
+            INNER_KIND
+        }
     }
 }

@@ -113,12 +113,15 @@ fn version_rank(address: SocketAddr) -> u8
     if address.is_ipv4() { 1 } else { 0 }
 }
 
+/// The kind of all pairs whose packets do not reach the outside.
+pub(crate) const INNER_KIND: u8 = 8;
+
 /// The local candidate's part of a kind: whether its packets reach the outside.
 pub(crate) fn side_of(local: &[Candidate], ours: &Candidate) -> u8
     ensures side { result ≡ side_of local.now ours.now }
     ensures within { result ≤ 8 }
 {
-    if is_outer(local, ours) { 0 } else { 8 }
+    if is_outer(local, ours) { 0 } else { INNER_KIND }
 }
 
 /// The remote candidate's part of a kind: the kind that it counts as, and the IP version.
@@ -130,7 +133,7 @@ pub(crate) fn remote_rank(theirs: &Candidate) -> u8
     2 * kind_rank(counted_kind(theirs)) + version_rank(theirs.addr())
 }
 
-/// The kind of a pair, a number from 0 to 15.
+/// The kind of a pair, a number from 0 to 8.
 pub fn kind_of(local: &[Candidate], remote: &[Candidate], pair: &CandidatePair) -> u8
     requires placed { is_placed local.now remote.now pair.now ≡ true }
     ensures kind { result ≡ kind_of local.now remote.now pair.now }
@@ -138,7 +141,11 @@ pub fn kind_of(local: &[Candidate], remote: &[Candidate], pair: &CandidatePair) 
 {
     let ours = candidate_at(local, pair.local_idx());
     let theirs = candidate_at(remote, pair.remote_idx());
-    side_of(local, ours) + remote_rank(theirs)
+    if side_of(local, ours) == 0 {
+        remote_rank(theirs)
+    } else {
+        INNER_KIND
+    }
 }
 
 // ---- turns
@@ -149,7 +156,7 @@ fn turn_of(next: u8, kind: u8) -> u8
     ensures turn { result ≡ turn_of next kind }
     ensures within { result < 2 * KINDS }
 {
-    if next <= kind { kind } else { kind + 16 }
+    if next <= kind { kind } else { kind + 9 }
 }
 
 /// Which pairs come before all kinds.
@@ -161,11 +168,10 @@ pub struct Precedence {
     pub urgent: bool,
 }
 
-/// The kinds and the remote candidates of the pairs, which pairs come first, the kind whose turn is next, and what the due time of a pair depends on.
+/// The kinds of the pairs, which pairs come first, the kind whose turn is next, and what the due time of a pair depends on.
 #[derive(Clone, Copy)]
 struct Round<'a> {
     kinds: &'a KindTable<'a>,
-    remote: &'a [Candidate],
     precedence: Precedence,
     next: u8,
     time: Instant,
@@ -183,15 +189,19 @@ fn is_brought(remote: &[Candidate], pair: &CandidatePair) -> bool
 
 /// The turn of the pair in the round.
 fn turn_of_pair(round: &Round<'_>, pair: &CandidatePair) -> u8
-    requires placed { is_placed round.now.kinds.now.local.now round.now.remote.now pair.now ≡ true }
-    ensures { result ≡ turn_of_pair round.now.kinds.now.local.now round.now.remote.now round.now.precedence round.now.next round.now.time.0 round.now.timing.now pair.now }
+    requires placed { is_placed round.now.kinds.now.local.now round.now.kinds.now.remote.now pair.now ≡ true }
+    ensures { result ≡ turn_of_pair round.now.kinds.now.local.now round.now.kinds.now.remote.now round.now.precedence round.now.next round.now.time.0 round.now.timing.now pair.now }
 {
     if is_named_by(round.precedence.selected, pair) {
         0
     } else if round.precedence.urgent && is_urgent(pair) {
-        if is_brought(round.remote, pair) { 2 } else { 1 }
+        if is_brought(round.kinds.remote, pair) {
+            2
+        } else {
+            1
+        }
     } else {
-        3 + turn_of(round.next, round.kinds.kind_of(round.remote, pair))
+        3 + turn_of(round.next, round.kinds.kind_of(pair))
     }
 }
 
@@ -203,10 +213,10 @@ fn is_due(pair: &CandidatePair, round: &Round<'_>) -> bool
 
 /// Whether the turn of a pair comes earlier, or is the same and the pair is due earlier.
 fn turns_before(p: &CandidatePair, q: &CandidatePair, round: &Round<'_>) -> bool
-    requires first { is_placed round.now.kinds.now.local.now round.now.remote.now p.now ≡ true }
-    requires second { is_placed round.now.kinds.now.local.now round.now.remote.now q.now ≡ true }
-    ensures before { result ≡ true → TurnsBefore round.now.kinds.now.local.now round.now.remote.now round.now.precedence round.now.next round.now.time.0 round.now.timing.now p.now q.now }
-    ensures following { result ≡ false → TurnsBefore round.now.kinds.now.local.now round.now.remote.now round.now.precedence round.now.next round.now.time.0 round.now.timing.now q.now p.now }
+    requires first { is_placed round.now.kinds.now.local.now round.now.kinds.now.remote.now p.now ≡ true }
+    requires second { is_placed round.now.kinds.now.local.now round.now.kinds.now.remote.now q.now ≡ true }
+    ensures before { result ≡ true → TurnsBefore round.now.kinds.now.local.now round.now.kinds.now.remote.now round.now.precedence round.now.next round.now.time.0 round.now.timing.now p.now q.now }
+    ensures following { result ≡ false → TurnsBefore round.now.kinds.now.local.now round.now.kinds.now.remote.now round.now.precedence round.now.next round.now.time.0 round.now.timing.now q.now p.now }
 {
     let ours = turn_of_pair(round, p);
     let theirs = turn_of_pair(round, q);
@@ -219,10 +229,10 @@ fn earlier<'a>(
     pair: &'a CandidatePair,
     round: &Round<'_>,
 ) -> Option<&'a CandidatePair>
-    requires first { IfSome (option_copied first) (λ p. is_placed round.now.kinds.now.local.now round.now.remote.now p ≡ true) }
-    requires placed { is_placed round.now.kinds.now.local.now round.now.remote.now pair.now ≡ true }
-    ensures { (done : List PairRecord) → IsNextAhead round.now.kinds.now.local.now round.now.remote.now round.now.precedence round.now.next round.now.time.0 round.now.timing.now done (option_copied first.entry)
-        → IsNextAhead round.now.kinds.now.local.now round.now.remote.now round.now.precedence round.now.next round.now.time.0 round.now.timing.now (pair.now ∷ done) (option_copied result) }
+    requires first { IfSome (option_copied first) (λ p. is_placed round.now.kinds.now.local.now round.now.kinds.now.remote.now p ≡ true) }
+    requires placed { is_placed round.now.kinds.now.local.now round.now.kinds.now.remote.now pair.now ≡ true }
+    ensures { (done : List PairRecord) → IsNextAhead round.now.kinds.now.local.now round.now.kinds.now.remote.now round.now.precedence round.now.next round.now.time.0 round.now.timing.now done (option_copied first.entry)
+        → IsNextAhead round.now.kinds.now.local.now round.now.kinds.now.remote.now round.now.precedence round.now.next round.now.time.0 round.now.timing.now (pair.now ∷ done) (option_copied result) }
 {
     if !is_due(pair, round) {
         return first;
@@ -270,7 +280,21 @@ pub fn next_ahead<'a>(
     }
 }
 
-/// The same by looking at all pairs. It is a separate function, so that calls that find no pair due do not pay for the table of kinds.
+/// Of the pairs that are due, the one that comes first in the round.
+fn first_in_round<'a>(pairs: &'a Checklist, round: &Round<'_>) -> Option<&'a CandidatePair>
+    requires placed { are_placed round.now.kinds.now.local.now round.now.kinds.now.remote.now (multiset_of pairs.now) ≡ true }
+    ensures { IsNextAhead round.now.kinds.now.local.now round.now.kinds.now.remote.now round.now.precedence round.now.next round.now.time.0 round.now.timing.now
+        (multiset_of pairs.now) (option_copied result) }
+{
+    let mut first = None;
+    for pair in pairs.as_slice() {
+        first = earlier(first, pair, round);
+    }
+    first
+}
+
+/// The same by looking at all pairs. It is a separate function, so that calls that find no pair due do not pay for the table of kinds. Often few
+/// pairs are due, and so no rank is computed first.
 #[inline(never)]
 fn next_by_turns<'a>(
     pairs: &'a Checklist,
@@ -284,20 +308,15 @@ fn next_by_turns<'a>(
     requires placed { are_placed local.now remote.now (multiset_of pairs.now) ≡ true }
     ensures { IsNextAhead local.now remote.now precedence next now.0 timing.now (multiset_of pairs.now) (option_copied result) }
 {
-    let kinds = KindTable::new(local);
+    let kinds = KindTable::new(local, remote, 0);
     let round = Round {
         kinds: &kinds,
-        remote,
         precedence,
         next,
         time: now,
         timing,
     };
-    let mut first = None;
-    for pair in pairs.as_slice() {
-        first = earlier(first, pair, &round);
-    }
-    first
+    first_in_round(pairs, &round)
 }
 
 /// Whether the pair comes before all kinds.

@@ -14,7 +14,6 @@ ghost use Rattle.is_rules.specs.Shares.{is_low_of_kind, AreSums, EvictsSomeOfMos
 
 use crate::evicting::{kind_counts, most_numerous};
 use crate::kind_table::KindTable;
-use is_candidate::Candidate;
 use is_pair::checklist::{Checklist, PairRemoval, PairTest, Removal};
 use is_pair::pair::CandidatePair;
 
@@ -24,26 +23,24 @@ const FEW: usize = 3;
 /// The last pair of each kind that goes.
 #[derive(Clone, Copy)]
 struct Last {
-    priorities: [u64; 16],
-    numbers: [u64; 16],
+    priorities: [u64; 9],
+    numbers: [u64; 9],
 }
 
 /// A test for the pairs that go: of each kind, those up to the last one.
 #[derive(Clone, Copy)]
 struct Going<'a> {
     kinds: &'a KindTable<'a>,
-    remote: &'a [Candidate],
     last: &'a Last,
 }
 
 impl PairTest for Going<'_> {
     ghost use Rattle.is_rules.specs.Shares.{is_low_of_kind};
 
-    ghost passes = { λ t p. is_low_of_kind t.kinds.now.local.now t.remote.now t.last.now.priorities t.last.now.numbers p };
+    ghost passes = { λ t p. is_low_of_kind t.kinds.now.local.now t.kinds.now.remote.now t.last.now.priorities t.last.now.numbers p };
 
     fn passes(&self, pair: &CandidatePair) -> bool {
-        self.kinds.has(self.remote, pair)
-            && is_up_to(self.last, self.kinds.kind_of(self.remote, pair), pair)
+        self.kinds.has(pair) && is_up_to(self.last, self.kinds.kind_of(pair), pair)
     }
 }
 
@@ -68,7 +65,7 @@ fn is_up_to(last: &Last, kind: u8, pair: &CandidatePair) -> bool
 }
 
 /// How many pairs of each kind stay: one is taken from the greatest count, until there are no more than the limit.
-fn counts_that_stay(counts: &[usize; 16], pairs: usize, limit: usize) -> [usize; 16]
+fn counts_that_stay(counts: &[usize; 9], pairs: usize, limit: usize) -> [usize; 9]
     ensures { Takes limit pairs counts.now result }
 {
     let mut stays = *counts;
@@ -88,24 +85,23 @@ fn counts_that_stay(counts: &[usize; 16], pairs: usize, limit: usize) -> [usize;
 fn last_of_each(
     pairs: &Checklist,
     kinds: &KindTable<'_>,
-    remote: &[Candidate],
-    counts: &[usize; 16],
-    stays: &[usize; 16],
+    counts: &[usize; 9],
+    stays: &[usize; 9],
     many: usize,
 ) -> Last {
     let mut left = *counts;
     let mut going = 0usize;
     let mut last = Last {
-        priorities: [0; 16],
-        numbers: [0; 16],
+        priorities: [0; 9],
+        numbers: [0; 9],
     };
     for place in 0..pairs.len() {
         if going >= many {
             return last;
         }
         if let Some(pair) = pairs.ranked(place) {
-            if kinds.has(remote, pair) {
-                let kind = kinds.kind_of(remote, pair);
+            if kinds.has(pair) {
+                let kind = kinds.kind_of(pair);
                 going += go_on(&mut last, &mut left, stays, kind, pair);
             }
         }
@@ -116,8 +112,8 @@ fn last_of_each(
 /// The pair is the next one of its kind: it is the last one to go so far, if more are left than stay. Returns how many go: 1 or 0.
 fn go_on(
     last: &mut Last,
-    left: &mut [usize; 16],
-    stays: &[usize; 16],
+    left: &mut [usize; 9],
+    stays: &[usize; 9],
     kind: u8,
     pair: &CandidatePair,
 ) -> usize
@@ -135,25 +131,25 @@ fn go_on(
 }
 
 /// How many pairs of each kind pass the test.
-fn going_counts(pairs: &Checklist, going: &Going<'_>) -> [usize; 16]
-    requires placed { are_placed going.now.kinds.now.local.now going.now.remote.now (multiset_of pairs.now) ≡ true }
-    ensures { AreCounted (kind_of going.now.kinds.now.local.now going.now.remote.now)
-        (filter (is_low_of_kind going.now.kinds.now.local.now going.now.remote.now going.now.last.now.priorities going.now.last.now.numbers) (multiset_of pairs.now)) result }
+fn going_counts(pairs: &Checklist, going: &Going<'_>) -> [usize; 9]
+    requires placed { are_placed going.now.kinds.now.local.now going.now.kinds.now.remote.now (multiset_of pairs.now) ≡ true }
+    ensures { AreCounted (kind_of going.now.kinds.now.local.now going.now.kinds.now.remote.now)
+        (filter (is_low_of_kind going.now.kinds.now.local.now going.now.kinds.now.remote.now going.now.last.now.priorities going.now.last.now.numbers) (multiset_of pairs.now)) result }
 {
-    let mut counts = [0; 16];
+    let mut counts = [0; 9];
     for pair in pairs.as_slice() {
         if going.passes(pair) {
-            counts[going.kinds.kind_of(going.remote, pair) as usize] += 1;
+            counts[going.kinds.kind_of(pair) as usize] += 1;
         }
     }
     counts
 }
 
 /// Those that go and those that stay are all.
-fn are_sums(gone: &[usize; 16], stays: &[usize; 16], counts: &[usize; 16]) -> bool
+fn are_sums(gone: &[usize; 9], stays: &[usize; 9], counts: &[usize; 9]) -> bool
     ensures { result ≡ true → AreSums gone.now stays.now counts.now }
 {
-    for kind in 0..16 {
+    for kind in 0..9 {
         if stays[kind] > counts[kind] || gone[kind] != counts[kind] - stays[kind] {
             return false;
         }
@@ -162,28 +158,18 @@ fn are_sums(gone: &[usize; 16], stays: &[usize; 16], counts: &[usize; 16]) -> bo
 }
 
 /// Removes the lowest pairs of each kind at once, no more than the limit removes.
-fn evict_together(
-    pairs: &mut Checklist,
-    counts: &[usize; 16],
-    limit: usize,
-    kinds: &KindTable<'_>,
-    remote: &[Candidate],
-)
-    requires placed { are_placed kinds.now.local.now remote.now (multiset_of pairs.old) ≡ true }
-    requires counted { AreCounted (kind_of kinds.now.local.now remote.now) (multiset_of pairs.old) counts.now }
-    ensures evicted { EvictsSomeOfMost (kind_of kinds.now.local.now remote.now) limit (multiset_of pairs.old) (multiset_of pairs.new) }
-    ensures placed { are_placed kinds.now.local.now remote.now (multiset_of pairs.new) ≡ true }
+fn evict_together(pairs: &mut Checklist, counts: &[usize; 9], limit: usize, kinds: &KindTable<'_>)
+    requires placed { are_placed kinds.now.local.now kinds.now.remote.now (multiset_of pairs.old) ≡ true }
+    requires counted { AreCounted (kind_of kinds.now.local.now kinds.now.remote.now) (multiset_of pairs.old) counts.now }
+    ensures evicted { EvictsSomeOfMost (kind_of kinds.now.local.now kinds.now.remote.now) limit (multiset_of pairs.old) (multiset_of pairs.new) }
+    ensures placed { are_placed kinds.now.local.now kinds.now.remote.now (multiset_of pairs.new) ≡ true }
     ensures below { (n : ℕ) → are_below n (multiset_of pairs.old) ≡ true → are_below n (multiset_of pairs.new) ≡ true }
 {
     pairs.numbers_rise();
     let stays = counts_that_stay(counts, pairs.len(), limit);
     let many = pairs.len().saturating_sub(limit);
-    let last = last_of_each(pairs, kinds, remote, counts, &stays, many);
-    let going = Going {
-        kinds,
-        remote,
-        last: &last,
-    };
+    let last = last_of_each(pairs, kinds, counts, &stays, many);
+    let going = Going { kinds, last: &last };
     let gone = going_counts(pairs, &going);
     if !are_sums(&gone, &stays, counts) {
         return;
@@ -192,20 +178,15 @@ fn evict_together(
 }
 
 /// Removes the pairs that go at once, if they are many: then no more than a few are left to go.
-pub(crate) fn evict_many(
-    pairs: &mut Checklist,
-    limit: usize,
-    kinds: &KindTable<'_>,
-    remote: &[Candidate],
-)
-    requires placed { are_placed kinds.now.local.now remote.now (multiset_of pairs.old) ≡ true }
-    ensures evicted { EvictsSomeOfMost (kind_of kinds.now.local.now remote.now) limit (multiset_of pairs.old) (multiset_of pairs.new) }
-    ensures placed { are_placed kinds.now.local.now remote.now (multiset_of pairs.new) ≡ true }
+pub(crate) fn evict_many(pairs: &mut Checklist, limit: usize, kinds: &KindTable<'_>)
+    requires placed { are_placed kinds.now.local.now kinds.now.remote.now (multiset_of pairs.old) ≡ true }
+    ensures evicted { EvictsSomeOfMost (kind_of kinds.now.local.now kinds.now.remote.now) limit (multiset_of pairs.old) (multiset_of pairs.new) }
+    ensures placed { are_placed kinds.now.local.now kinds.now.remote.now (multiset_of pairs.new) ≡ true }
     ensures below { (n : ℕ) → are_below n (multiset_of pairs.old) ≡ true → are_below n (multiset_of pairs.new) ≡ true }
 {
     if pairs.len().saturating_sub(limit) < FEW {
         return;
     }
-    let counts = kind_counts(pairs, kinds, remote);
-    evict_together(pairs, &counts, limit, kinds, remote);
+    let counts = kind_counts(pairs, kinds);
+    evict_together(pairs, &counts, limit, kinds);
 }

@@ -2,11 +2,16 @@
 pub mod IssuedChecks
 pub mod LastTimes
 pub mod PacedChecks
+pub mod ChargedChecks
+pub mod ChecksInSecond
 pub mod CheckTimes
+pub mod Bounds
 pub mod KeptPairs
 pub mod SentChecks
+pub mod PastTimes
 pub mod OnSchedule
 pub mod FollowedPairs
 pub mod SilentTimeouts
 pub mod SilentPairs
+pub mod FewChecks
 pub mod NumbersOfChecks

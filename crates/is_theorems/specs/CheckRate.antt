@@ -78,11 +78,23 @@ module _ {H P : Type 0} where
   IsSlowAt from a x =
       x.call ≡ PollTimeout → (last : ℕ) → a.last_time ≡ Some last → from ≤ last → last < from + SECOND → 50 * MILLISECOND ≤ a.timing_advance
 
-  -- It is not early in this second: the profile is `Original`, the agent is settled, or no pair is at its beginning.
+  -- In the second that begins then, the call is the first one; or it comes no sooner than the time that `poll_timeout` returned, or 25 ms after
+  -- the one before; or the charges for checks are at most 225 ms ahead of it, as when `poll_timeout_soon` of `Modern` brings it forward.
+  abbrev pub IsFrugalAt : ℕ → List (Logged P) → AgentRecord H P → Logged P → Type 0
+  IsFrugalAt from before a x =
+      (now : ℕ) → x.call ≡ HandleTimeout now → now < from + SECOND → HasCalled from before
+      → MayCallAt (25 * MILLISECOND) now before ⊎ ((from ≤ now) × (a.charged_until ≤ now + 225 * MILLISECOND))
+
+  -- It is not early in this second: the profile is `Original`, the agent is settled, or no pair is at its beginning, and no urgent one is due.
   abbrev pub IsLateAt : ℕ → AgentRecord H P → Logged P → Type 0
   IsLateAt from a x = x.call ≡ PollTimeout → (last : ℕ) → a.last_time ≡ Some last → from ≤ last → last < from + SECOND → is_early last a ≡ false
 
   module _ (mac : H → List ℕ → List ℕ → List ℕ) (answers : P → CandidateRecord → ℕ → ℕ → Type 0) where
+    -- The caller is frugal in this second: at each call.
+    abbrev pub IsFrugal : ℕ → (first : AgentRecord H P) (log : List (Logged P)) (last : AgentRecord H P) → SharedRun mac answers first log last → Type 0
+    IsFrugal from first [] last run = Unit {0}
+    IsFrugal from first (x ∷ before) last run = IsFrugalAt from before run.0 x × IsFrugal from first before run.0 run.3
+
     -- ---- the theorems
 
     -- Any caller: only `handle_timeout` sends checks, and each call at most one.
@@ -98,7 +110,8 @@ module _ {H P : Type 0} where
         → checks_in_span from long log ≤ begun_in long pace
 
     -- With the default pacing interval, in any second: at most 200 checks with either profile, also of a caller whose calls in it are only
-    -- 5 ms apart; and 20 of one that goes by `poll_timeout` in it, if the agent is not early then.
+    -- 5 ms apart; 20 of one that goes by `poll_timeout` in it, if the agent is not early then; and 49 of a frugal one, early or not. This
+    -- last bound needs some time before the end of the clock, since charges do not grow past it.
     abbrev pub SecondsHaveFewChecks : Type 0
     SecondsHaveFewChecks =
         (first last : AgentRecord H P) (log : List (Logged P)) (from : ℕ) → IsNewlyCreated first → (run : SharedRun mac answers first log last)
@@ -106,3 +119,4 @@ module _ {H P : Type 0} where
         → (IsPatient from SECOND LEAST_TA log → checks_in_span from SECOND log ≤ 200)
         × (IsPatient from SECOND (50 * MILLISECOND) log → BeforeEach mac answers (IsLateAt from) first log last run
         → checks_in_span from SECOND log ≤ 20)
+        × (IsFrugal from first log last run → from + 2 * SECOND ≤ MAX → checks_in_span from SECOND log ≤ 49)

@@ -1,6 +1,6 @@
 -- How often the pairs of one kind delay each other while kinds take turns and urgent pairs go first: each of them that exists when the rounds
 -- begin delays a pair of the kind at most once, and none that is formed later does.
-use Rattle.std.specs.Prelude.{◌≡◌, ◌≢◌, ℕ, ◌+◌, ◌*◌, ◌<◌, ◌≤◌, ◌⊎◌, true, List, length, is_some}
+use Rattle.std.specs.Prelude.{◌≡◌, ◌≢◌, ℕ, ◌+◌, ◌*◌, ◌<◌, ◌≤◌, ◌⊎◌, true, List, length}
 use Rattle.rand_core.specs.Stream.{Stream}
 use Rattle.is_proto.specs.Lists.{Has}
 use Rattle.is_stun.specs.Timing.{is_modern}

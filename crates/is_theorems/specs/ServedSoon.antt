@@ -1,6 +1,6 @@
 -- How soon a request triggers a check, with the profile `Modern` (RFC 8445, section 7.3.1.4): the pair on which it was served is urgent
 -- until it is valid, so it is checked in two rounds, however many pairs there are.
-use Rattle.std.specs.Prelude.{◌≡◌, ℕ, suc, ◌+◌, ◌*◌, ◌≤◌, ◌⊎◌, true, false, nat_lt, List, [], ◌∷◌, length, is_some}
+use Rattle.std.specs.Prelude.{◌≡◌, ℕ, suc, ◌+◌, ◌*◌, ◌≤◌, ◌⊎◌, true, false, nat_lt, List, [], ◌∷◌, length}
 use Rattle.rand_core.specs.Stream.{Stream}
 use Rattle.is_proto.specs.Lists.{Has}
 use Rattle.is_stun.specs.Timing.{is_modern}

@@ -5,7 +5,7 @@ use Rattle.is_proto.specs.Times.{MAX, SECOND}
 use Rattle.is_candidate.specs.Candidates.{CandidateRecord}
 use Rattle.is_stun.specs.declared.timing.StunTiming.{StunTiming}
 use Rattle.is_stun.specs.Timing.{early_delay, is_modern, resend_delay, timeout_of}
-use Rattle.is_pair.specs.Due.{early_time}
+use Rattle.is_pair.specs.Due.{ASKED_TIME, early_time, is_asked_first}
 use Rattle.is_pair.specs.Pairs.{PairRecord, is_valid}
 use Rattle.is_rules.specs.Agent.{AgentRecord}
 use Rattle.is_rules.specs.declared.settings.Settings.{Settings}
@@ -21,26 +21,37 @@ abbrev pub rto_after : StunTiming → ℕ → ℕ
 rto_after t n = resend_delay t (min n t.max_retransmits)
 
 -- How long the next check comes after the n-th one at least, if that is sent so long after the first. With the profile `Modern` checks
--- are repeated early for some time.
-abbrev pub least_delay : StunTiming → (after n : ℕ) → ℕ
-least_delay t after n = if is_modern t && nat_lt after (early_time t) then min (early_delay n) (rto_after t n) else rto_after t n
+-- are repeated early within this span after the first one.
+abbrev pub least_delay : StunTiming → (span after n : ℕ) → ℕ
+least_delay t span after n = if is_modern t && nat_lt after span then min (early_delay n) (rto_after t n) else rto_after t n
 
 -- how long the n-th check comes after the first at least
-unfoldable pub check_time : StunTiming → ℕ → ℕ
-check_time t zero = 0
-check_time t (suc zero) = 0
-check_time t (suc (suc n)) = check_time t (suc n) + least_delay t (check_time t (suc n)) (suc n)
+unfoldable pub check_time : StunTiming → (span : ℕ) → ℕ → ℕ
+check_time t span zero = 0
+check_time t span (suc zero) = 0
+check_time t span (suc (suc n)) = check_time t span (suc n) + least_delay t span (check_time t span (suc n)) (suc n)
 
 -- No check follows the n-th one: these are as many as the limit, and with the profile `Modern` the time of a series of checks is over when the
 -- next one would come, and early repetition ends before the n-th one.
 pub record EndsWith (t : StunTiming) (n : ℕ) : Type 0 where
   pub counted : t.max_retransmits ≤ n
-  pub over : is_modern t ≡ true → timeout_of t ≤ check_time t (suc n)
-  pub rare : is_modern t ≡ true → early_time t ≤ check_time t n
+  pub over : is_modern t ≡ true → timeout_of t ≤ check_time t (early_time t) (suc n)
+  pub rare : is_modern t ≡ true → early_time t ≤ check_time t (early_time t) n
 
 -- Nor does one if a check of the peer arrived before the first of them: such a check keeps a pair for 15 s.
 abbrev pub IsPastRequests : StunTiming → ℕ → Type 0
-IsPastRequests t n = 15 * SECOND ≤ check_time t (suc n)
+IsPastRequests t n = 15 * SECOND ≤ check_time t (early_time t) (suc n)
+
+-- how long a pair is checked early whose first check followed a request
+abbrev pub asked_time : StunTiming → ℕ
+asked_time t = min ASKED_TIME (early_time t)
+
+-- No check of such a pair follows the n-th one: these are as many as the limit, the request is too old to keep the pair when the next one would
+-- come, and early repetition ends before the n-th one.
+pub record EndsAsked (t : StunTiming) (n : ℕ) : Type 0 where
+  pub enough : t.max_retransmits ≤ n
+  pub past : 15 * SECOND ≤ check_time t (asked_time t) (suc n)
+  pub rare : is_modern t ≡ true → asked_time t ≤ check_time t (asked_time t) n
 
 -- the timing of these settings
 abbrev pub timing_of : Settings → StunTiming
@@ -78,12 +89,16 @@ pub record IsSilent (p : PairRecord) : Type 0 where
   pub unanswered : is_valid p ≡ false
   pub unheard : p.requests ≡ 0
 
--- It is the same pair as before, no response was recorded on it, and no request since. Requests before that may keep it longer.
-pub record IsSilentSince (t : StunTiming) (n : ℕ) (before after : PairRecord) : Type 0 where
+-- It is the same pair as before, no response was recorded on it, and no request since.
+pub record StaysSilent (before after : PairRecord) : Type 0 where
   pub number : after.number ≡ before.number
   pub unanswered : is_valid after ≡ false
   pub unheard : after.requests ≡ before.requests
   pub counted : before.requests < MAX
+
+-- Requests before that may keep it longer.
+pub record IsSilentSince (t : StunTiming) (n : ℕ) (before after : PairRecord) : Type 0 where
+  pub silent : StaysSilent before after
   pub kept : (before.requests ≡ 0) ⊎ IsPastRequests t n
 
 module _ {H P : Type 0} where
@@ -111,10 +126,20 @@ module _ {H P : Type 0} where
         → (run : SharedRun mac answers start part last) → AreInOrder (time_of 0 before) part → BeforeEach mac answers (IsTimedBy t) start part last run
         → (p q : PairRecord) → Has start.pairs p → Has last.pairs q → IsSilentSince t n p q → q.checks_sent ≤ p.checks_sent + n
 
+    -- If its first check followed a request, it gets at most so many as suffice for such pairs. So with k requests, the first of which brought
+    -- it, it gets at most k times n.
+    abbrev pub AskedPairsGetFew : Type 0
+    AskedPairsGetFew =
+        (t : StunTiming) (n : ℕ) (first start last : AgentRecord H P) (before part : List (Logged P)) → EndsAsked t n → IsNewlyCreated first
+        → (earlier : SharedRun mac answers first before start) → AreInOrder 0 before → BeforeEach mac answers (IsTimedBy t) first before start earlier
+        → (run : SharedRun mac answers start part last) → AreInOrder (time_of 0 before) part → BeforeEach mac answers (IsTimedBy t) start part last run
+        → (p q : PairRecord) → Has start.pairs p → Has last.pairs q → StaysSilent p q → is_asked_first q ≡ true → q.checks_sent ≤ p.checks_sent + n
+
 -- With `Original` n is the number of retransmits for pairs without a request, whatever the other settings. By default it is 9 for all pairs.
--- With the settings of `Modern` it is 18.
+-- With the settings of `Modern` it is 18, and 11 for pairs whose first check followed a request.
 abbrev pub NumbersOfChecks : Type 0
 NumbersOfChecks =
     ((t : StunTiming) → is_modern t ≡ false → EndsWith t t.max_retransmits)
     × (EndsWith (timing_of original_settings) 9 × IsPastRequests (timing_of original_settings) 9)
     × (EndsWith (timing_of modern_settings) 18 × IsPastRequests (timing_of modern_settings) 18)
+    × EndsAsked (timing_of modern_settings) 11

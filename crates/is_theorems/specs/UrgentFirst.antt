@@ -1,6 +1,6 @@
 -- How soon an urgent pair is checked, with the profile `Modern` (RFC 8445, section 7.3.1.4): however many pairs there are, and whatever the
 -- agent receives and adds, it waits only for the selected pair, and for urgent pairs whose turn comes before.
-use Rattle.std.specs.Prelude.{◌≡◌, ◌≢◌, ℕ, suc, ◌*◌, ◌≤◌, ◌⊎◌, true, false, List, [], ◌∷◌, length, is_some}
+use Rattle.std.specs.Prelude.{◌≡◌, ◌≢◌, ℕ, suc, ◌*◌, ◌≤◌, ◌⊎◌, true, false, List, [], ◌∷◌, length}
 use Rattle.rand_core.specs.Stream.{Stream}
 use Rattle.is_proto.specs.Lists.{Has}
 use Rattle.is_stun.specs.Timing.{is_modern}

@@ -1,31 +1,15 @@
 -- What the right response to an Allocate request does: a challenge makes another attempt, a success response the allocation.
 use Rattle.std.proofs.Common.{◌≡◌, ℕ, ◌≤◌, ◌==◌, Bool, true, false, List, length, Option, Some, None, bytes_eq, nat_lt, not, arith, refl, sym, ap, subst}
-use Rattle.std.proofs.lemmas.Bool.Decides.{nat_tests}
+use Rattle.is_turn_progress.proofs.Common.{Allocate, Allocation, another, answered_in, Attempt, challenge_taken, code_of, code_or_success, Credentials, Instant, is_last_sent, is_unknown}
+use Rattle.is_turn_progress.proofs.Common.{IsAllocateSuccess, IsAnswered, IsChallengedBy, IsFirstChallenge, IsSignedFor, key_in, lasts, long_term_key, Message, nat_tests, on_challenge, on_code}
+use Rattle.is_turn_progress.proofs.Common.{on_success, Operation, outcome_by, outcome_or, OutcomeApplies, Receipt, relays, Request, Session, SocketAddr, takes_challenge, Verdict, verdict_of}
+use Rattle.is_turn_progress.proofs.Common.{without_pace}
 use Rattle.std.proofs.lemmas.Slice.Eq.{bytes_eq-Decides}
-use Rattle.std.specs.declared.net.socket_addr.SocketAddr.{SocketAddr}
-use Rattle.is_proto.specs.declared.proto.Instant.{Instant}
 use Rattle.is_stun.specs.declared.header.Method.TheVariants as methods
 use Rattle.is_stun.specs.declared.requested.AddressFamily.{AddressFamily}
 use Rattle.is_stun.specs.Integrity.{IsSignedBy}
-use Rattle.is_stun.specs.Message.{Message}
-use Rattle.is_turn.specs.declared.attempts.Attempt.{Attempt}
-use Rattle.is_turn.specs.declared.operation.Operation.{Operation}
-use Rattle.is_turn.specs.declared.requests.Request.{Request}
-use Rattle.is_turn.specs.declared.requests.Request.TheVariants.{Allocate}
-use Rattle.is_turn.specs.declared.session.Allocation.{Allocation}
 use Rattle.is_turn.specs.declared.session.Phase.TheVariants as phases
-use Rattle.is_turn.specs.declared.session.Session.{Session}
-use Rattle.is_turn.specs.declared.verdict.Verdict.{Verdict}
 use Rattle.is_turn.specs.declared.verdict.Verdict.TheVariants as verdicts
-use Rattle.is_turn.specs.Credentials.{Credentials, long_term_key}
-use Rattle.is_turn.specs.Operations.{another, takes_challenge}
-use Rattle.is_turn.specs.Outcome.{answered_in, key_in, is_last_sent, is_unknown, code_or_success, on_challenge, on_code, on_success, relays, lasts, outcome_by, outcome_or}
-use Rattle.is_turn.specs.Receipts.{Receipt}
-use Rattle.is_turn.specs.Receiving.{IsAnswered}
-use Rattle.is_turn.specs.Session.{without_pace}
-use Rattle.is_turn.specs.Turn.{challenge_taken, IsChallengedBy, OutcomeApplies}
-use Rattle.is_turn.specs.Verdict.{IsSignedFor, code_of, verdict_of}
-use Rattle.is_turn_progress.specs.Reaching.{IsFirstChallenge, IsAllocateSuccess}
 use Rattle.is_turn_progress.proofs.Asking.{asks}
 use Rattle.is_turn_progress.proofs.Steps.{by_cond}
 

@@ -1,26 +1,12 @@
 -- A client that requests an allocation: what calls and the clock leave of its request.
 use Rattle.std.proofs.Common.{◌≡◌, ◌⊎◌, ℕ, ◌+◌, ◌*◌, ◌<◌, ◌≤◌, ◌==◌, max, Bool, true, false, cond, List, Option, Some, None, nat_lt, nat_le, arith, refl, sym, ap, subst, ◌∙◌, inl, inr}
-use Rattle.std.proofs.lemmas.Bool.Decides.{nat_tests}
-use Rattle.rand_core.specs.Stream.{Stream, fill_bytes}
+use Rattle.is_turn_progress.proofs.Common.{after_step, Allocate, at_time, Attempt, attempted, Challenge, ClientTiming, Credentials, fill_bytes, Instant, is_exhausted, key_now, Lease, nat_tests}
+use Rattle.is_turn_progress.proofs.Common.{next_client_time, Operation, PACE, sending, sent_once_more, Session, step_of, Stream, time_after, waiting}
 use Rattle.is_proto.specs.Times.{MAX, later}
-use Rattle.is_proto.specs.declared.proto.Instant.{Instant}
 use Rattle.is_stun.specs.declared.requested.AddressFamily.{AddressFamily}
-use Rattle.is_turn.specs.declared.attempts.Attempt.{Attempt}
 use Rattle.is_turn.specs.declared.attempts.Attempts.{Attempts}
-use Rattle.is_turn.specs.declared.lease.Lease.{Lease}
-use Rattle.is_turn.specs.declared.operation.Operation.{Operation}
-use Rattle.is_turn.specs.declared.requests.Request.TheVariants.{Allocate}
 use Rattle.is_turn.specs.declared.session.Phase.TheVariants as phases
-use Rattle.is_turn.specs.declared.session.Session.{Session}
-use Rattle.is_turn.specs.declared.timing.ClientTiming.{ClientTiming}
-use Rattle.is_turn.specs.Client.{at_time, time_after}
-use Rattle.is_turn.specs.Credentials.{Credentials, Challenge}
-use Rattle.is_turn.specs.Operations.{attempted, sent_once_more, is_exhausted}
-use Rattle.is_turn.specs.Relaying.{next_client_time}
-use Rattle.is_turn.specs.Session.{PACE, sending, step_of}
 use Rattle.is_turn.specs.Timing.{wait_after}
-use Rattle.is_turn.specs.Turn.{key_now, after_step}
-use Rattle.is_turn_progress.specs.Reaching.{waiting}
 use Rattle.is_turn_progress.proofs.HeldRequests.{held, Held, held_as}
 use Rattle.is_turn_progress.proofs.Steps.{by_cond}
 

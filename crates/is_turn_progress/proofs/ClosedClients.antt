@@ -1,22 +1,11 @@
 -- A client with an allocation that is closed sends two requests at most, and then it ends.
 use Rattle.std.proofs.Common.{◌≡◌, ◌⊎◌, ℕ, ◌+◌, ◌*◌, ◌≤◌, ◌==◌, max, min, Bool, true, false, cond, List, [], ◌∷◌, Option, None, nat_lt, nat_le, arith, refl, sym, ap, subst, ◌∙◌, inl, inr}
-use Rattle.std.proofs.lemmas.Bool.Decides.{nat_tests}
-use Rattle.rand_core.specs.Stream.{Stream, fill_bytes}
-use Rattle.is_proto.specs.declared.proto.Instant.{Instant}
-use Rattle.is_turn.specs.declared.operation.Operation.{Operation}
-use Rattle.is_turn.specs.declared.requests.Request.TheVariants.{Refresh}
-use Rattle.is_turn.specs.declared.session.Phase.{Phase}
+use Rattle.is_turn_progress.proofs.Common.{after_poll, after_route, after_step, at_time, attempted, Call, client_packet, ClientTiming, close, closed_in, Effect, fill_bytes, handle_timeout, Instant}
+use Rattle.is_turn_progress.proofs.Common.{is_exhausted, key_now, lose, nat_tests, new_operation, next_client_time, Operation, PACE, permit, Phase, poll_event, poll_transmit, probe, probed, receive}
+use Rattle.is_turn_progress.proofs.Common.{Refresh, routed, send, sending, sent_once_more, Session, session_after_event, start, State, step_of, Stream, time_after, TimesOut, turn_closed, turn_lost}
+use Rattle.is_turn_progress.proofs.Common.{turn_started}
 use Rattle.is_turn.specs.declared.session.Phase.TheVariants as phases
-use Rattle.is_turn.specs.declared.session.Session.{Session}
-use Rattle.is_turn.specs.declared.timing.ClientTiming.{ClientTiming}
-use Rattle.is_turn.specs.Client.{at_time, time_after}
-use Rattle.is_turn.specs.Operations.{new_operation, attempted, sent_once_more, is_exhausted}
-use Rattle.is_turn.specs.Relaying.{TimesOut, next_client_time, client_packet, after_poll, routed, after_route, session_after_event}
-use Rattle.is_turn.specs.Session.{PACE, turn_started, turn_closed, turn_lost, closed_in, probed, step_of, sending}
 use Rattle.is_turn.specs.Timing.{wait_after}
-use Rattle.is_turn.specs.Turn.{key_now, after_step}
-use Rattle.is_turn.specs.Worlds.{Call, start, close, lose, permit, send, probe, handle_timeout, poll_transmit, poll_event, receive}
-use Rattle.is_turn_progress.specs.States.{State, Effect}
 use Rattle.is_turn_progress.specs.Closing.{CLOSING, IsClosed, IsFinal, IsUnchallenged, Passes, IsPunctualExecution, HasEnded, IsEndedBy}
 use Rattle.is_turn_progress.proofs.HeldRequests.{held, Held, held_as, held_poll, held_event}
 use Rattle.is_turn_progress.proofs.Steps.{by_cond}

@@ -1,33 +1,14 @@
 -- Each call keeps no more secrets than are needed, so it is so in each execution.
 use Rattle.std.proofs.Common.{◌≡◌, ℕ, ◌&&◌, Bool, true, false, cond, List, [], ◌∷◌, set, position, nat_lt, nat_le, arith, Option, Some, None, is_some, is_none, Result, Ok, Err, refl, sym, ap, subst, ◌∙◌}
-use Rattle.std.proofs.lemmas.List.{set_past}
-use Rattle.std.specs.declared.net.socket_addr.SocketAddr.{SocketAddr}
-use Rattle.rand_core.specs.Stream.{Stream, fill_bytes}
-use Rattle.is_proto.specs.declared.error.StunError.{StunError}
-use Rattle.is_proto.specs.declared.proto.Instant.{Instant}
-use Rattle.is_stun.specs.declared.trans_id.TransId.{TransId}
-use Rattle.is_turn.specs.declared.attempts.Attempt.{Attempt}
-use Rattle.is_turn.specs.declared.lease.Lease.{Lease}
-use Rattle.is_turn.specs.declared.operation.Operation.{Operation}
-use Rattle.is_turn.specs.declared.requests.Request.TheVariants.{Refresh}
-use Rattle.is_turn.specs.declared.session.Allocation.{Allocation}
-use Rattle.is_turn.specs.declared.session.Phase.{Phase}
+use Rattle.is_turn_progress.proofs.Common.{advanced_in, after_event, after_poll, after_route, after_step, alive_or_nothing, Allocation, alternate_in, AlwaysForgets, asking, at_place, at_time, Attempt}
+use Rattle.is_turn_progress.proofs.Common.{attempted, bound_channel, Call, changed_by, client_packet, ClientTiming, close, closed, closed_early, closed_in, Credentials, datagram_of, driven, due_or}
+use Rattle.is_turn_progress.proofs.Common.{due_place, Effect, failed_in, fill_bytes, Forgets, handle_timeout, HasBecome, Instant, is_exhausted, is_new, is_ready, is_reported, IsExecution, IsForgotten}
+use Rattle.is_turn_progress.proofs.Common.{IsNewClient, keep_alive_due, kept_credentials, kept_in, kept_leases, key_now, Lease, lease_due, lease_polled, lease_polled_in, leases_after_event}
+use Rattle.is_turn_progress.proofs.Common.{leases_after_poll, leases_in, left, lose, lost_in, may_be_made, Operation, packet_polled, password_of, permit, permits_peer, Phase, plain, poll_event}
+use Rattle.is_turn_progress.proofs.Common.{poll_transmit, polled, probe, probed, receive, Refresh, repeated_by, reported, reported_at, reported_by, request_timing, route_of, routed, routed_if, send}
+use Rattle.is_turn_progress.proofs.Common.{sending, sending_for, sent_once_more, Session, session_after_event, set_past, SocketAddr, start, State, step_at, step_for, step_of, Stream, StunError}
+use Rattle.is_turn_progress.proofs.Common.{takes_permissions, TimesOut, TimesOutBy, TransId, tried_by, turn_started, unsent, with_media, with_renewal, with_request, without_report}
 use Rattle.is_turn.specs.declared.session.Phase.TheVariants as phases
-use Rattle.is_turn.specs.declared.session.Session.{Session}
-use Rattle.is_turn.specs.declared.timing.ClientTiming.{ClientTiming}
-use Rattle.is_turn.specs.Alternate.{alternate_in}
-use Rattle.is_turn.specs.Client.{at_time}
-use Rattle.is_turn.specs.Credentials.{Credentials}
-use Rattle.is_turn.specs.Incoming.{datagram_of}
-use Rattle.is_turn.specs.Leases.{is_reported, lease_polled, plain, step_for, without_report}
-use Rattle.is_turn.specs.Operations.{polled, attempted, sent_once_more, is_exhausted}
-use Rattle.is_turn.specs.Places.{at_place, bound_channel, due_place}
-use Rattle.is_turn.specs.Relaying.{kept_in as leases_in, kept_leases, permits_peer, with_media, route_of, routed_if, routed, after_route, advanced_in, lease_due, sending_for, step_at, driven, TimesOut, TimesOutBy, client_packet, after_poll, leases_after_poll, lease_polled_in, reported_at, reported, session_after_event, leases_after_event}
-use Rattle.is_turn.specs.Session.{is_new, is_ready, asking, turn_started, closed, may_be_made, unsent, left, closed_early, closed_in, lost_in, failed_in, probed, takes_permissions, with_request, with_renewal, sending, changed_by, request_timing, tried_by, repeated_by, step_of, due_or, keep_alive_due}
-use Rattle.is_turn.specs.Turn.{kept_in, kept_credentials, key_now, alive_or_nothing, after_step, packet_polled, reported_by, after_event}
-use Rattle.is_turn.specs.Worlds.{Call, start, close, lose, permit, send, probe, handle_timeout, poll_transmit, poll_event, receive}
-use Rattle.is_turn_progress.specs.States.{State, HasBecome, Effect, IsExecution}
-use Rattle.is_turn_progress.specs.Secrets.{password_of, IsForgotten, Forgets, IsNewClient, AlwaysForgets}
 use Rattle.is_turn_progress.proofs.ForgottenSecrets.{Safe, Kept, kept_cond, safe_cond, kept_safe, safe_changed, received_after}
 use Rattle.is_turn_progress.proofs.Packets.{packet_case}
 use Rattle.is_turn_progress.proofs.Steps.{by_cond}

@@ -1,35 +1,16 @@
 -- A client keeps its password only until the server has answered, and nothing after the end.
 use Rattle.std.proofs.Common.{◌≡◌, ℕ, ◌==◌, ◌&&◌, ◌||◌, Bool, true, false, cond, not, List, [], length, position, nat_lt, arith, Option, Some, None, option_map, is_some, is_none, refl, sym, ap, subst, ◌∙◌, inl, inr}
-use Rattle.std.proofs.lemmas.List.{get_or_past}
-use Rattle.std.specs.declared.net.socket_addr.SocketAddr.{SocketAddr}
-use Rattle.is_proto.specs.declared.proto.Instant.{Instant}
-use Rattle.is_stun.specs.Message.{Message}
-use Rattle.is_turn.specs.declared.attempts.Attempt.{Attempt}
-use Rattle.is_turn.specs.declared.lease.Lease.{Lease}
-use Rattle.is_turn.specs.declared.operation.Operation.{Operation}
+use Rattle.is_turn_progress.proofs.Common.{allocated_in, Allocation, another, at_place, Attempt, Challenge, challenge_by, challenge_taken, challenged, changed_by, channel_data, channel_peer, code_of}
+use Rattle.is_turn_progress.proofs.Common.{code_or_success, Credentials, Datagram, doubted, dropped, extended, failed_in, Follows, forgotten, get_or_past, has_failed, hinted, Instant, is_allocated}
+use Rattle.is_turn_progress.proofs.Common.{is_answered_by, is_gone, is_ready, is_refreshed, is_unknown, IsAnswered, IsForgotten, IsReceivedAs, IsRespondedBy, kept_credentials, kept_in, kept_leases}
+use Rattle.is_turn_progress.proofs.Common.{lasts, Lease, lease_failed, leases_in, lost, malformed, Message, on_alternate, on_code, on_success, Operation, outcome_by, OutcomeApplies, password_of}
+use Rattle.is_turn_progress.proofs.Common.{peer_data, Phase, probed, Receipt, refreshed_in, relays, renewed, Request, request_timing, response, retried, seconds_or_none, Session, SocketAddr}
+use Rattle.is_turn_progress.proofs.Common.{takes_challenge, unasked, unparsed, unused, Verdict, with_another, with_challenge, with_doubt, with_hint, with_request, without_challenge, without_pace}
 use Rattle.is_turn.specs.declared.outcome.Reason.TheVariants as reasons
-use Rattle.is_turn.specs.declared.requests.Request.{Request}
 use Rattle.is_turn.specs.declared.requests.Request.TheVariants as requests
-use Rattle.is_turn.specs.declared.session.Allocation.{Allocation}
-use Rattle.is_turn.specs.declared.session.Phase.{Phase}
 use Rattle.is_turn.specs.declared.session.Phase.TheVariants as phases
-use Rattle.is_turn.specs.declared.session.Session.{Session}
-use Rattle.is_turn.specs.declared.verdict.Verdict.{Verdict}
 use Rattle.is_turn.specs.declared.verdict.Verdict.TheVariants as verdicts
-use Rattle.is_turn.specs.Credentials.{Credentials, Challenge, challenge_by, with_challenge, challenged, forgotten, without_challenge}
-use Rattle.is_turn.specs.Incoming.{Datagram, channel_data, peer_data, response, malformed, unasked, unparsed}
 use Rattle.is_turn.specs.LeaseResponses.{LeaseApplies, IsLeaseAnswered, heard_peer, heard_data}
-use Rattle.is_turn.specs.Leases.{unused, is_answered_by}
-use Rattle.is_turn.specs.Operations.{doubted, hinted, another, takes_challenge}
-use Rattle.is_turn.specs.Outcome.{is_unknown, code_or_success, on_alternate, on_code, on_success, relays, lasts, outcome_by, seconds_or_none}
-use Rattle.is_turn.specs.Places.{at_place, channel_peer}
-use Rattle.is_turn.specs.Receipts.{Receipt, dropped}
-use Rattle.is_turn.specs.Receiving.{IsAnswered, IsReceivedAs, IsRespondedBy}
-use Rattle.is_turn.specs.Relaying.{kept_in as leases_in, kept_leases}
-use Rattle.is_turn.specs.Session.{changed_by, request_timing, without_pace, is_ready, lost, extended, allocated_in, refreshed_in, renewed, is_gone, retried, failed_in, has_failed, is_allocated, is_refreshed, probed, lease_failed, with_request}
-use Rattle.is_turn.specs.Turn.{kept_in, kept_credentials, challenge_taken, with_doubt, with_hint, with_another, OutcomeApplies, Follows}
-use Rattle.is_turn.specs.Verdict.{code_of}
-use Rattle.is_turn_progress.specs.Secrets.{password_of, IsForgotten}
 use Rattle.is_turn_progress.proofs.Outcomes.{outcome_case}
 use Rattle.is_turn_progress.proofs.Steps.{by_cond}
 
@@ -94,16 +75,6 @@ none_forgot : (c : Option Credentials) → password_of (option_map forgotten c) 
 none_forgot None = refl
 none_forgot (Some c) = refl
 
--- the same phase, and the same password
-same_phase : (p : Phase) (o : Operation) (c d : Option Credentials) (l k : List Lease) → password_of d ≡ password_of c → IsForgotten p (Some o) c l
-    → (x : Operation) → IsForgotten p (Some x) (kept_in p d) (leases_in p k)
-same_phase phases.New o c d l k e h x = tt
-same_phase phases.Asking o c d l k e h x = tt
-same_phase phases.Leaving o c d l k e h x = tt
-same_phase phases.Ready o c d l k e h x = e ∙ h
-same_phase phases.Closing o c d l k e h x = e ∙ h
-same_phase phases.Ended o c d l k e h x = let none = h.2 in absurd (cc none)
-
 -- ---- a client with a request or a lease has not ended
 
 abbrev IsLive : Phase → Option Credentials → Type 0
@@ -165,14 +136,6 @@ phase_leases phases.Ended o c l h = (h.0, refl, h.2)
 
 -- ---- passwords of credentials
 
-password_cond : (b : Bool) (x y : Credentials) (p : Option (List ℕ)) → x.password ≡ p → y.password ≡ p → (cond b x y).password ≡ p
-password_cond true x y p h k = h
-password_cond false x y p h k = k
-
-password_without : (c : Option Credentials) → password_of (option_map without_challenge c) ≡ password_of c
-password_without None = refl
-password_without (Some k) = password_cond (is_some k.password) (record k { challenge = None }) k k.password refl refl
-
 password_with : (x : Option Challenge) (k : Credentials) → (with_challenge x k).0.password ≡ k.password
 password_with None k = refl
 password_with (Some challenge) k = refl
@@ -208,10 +171,6 @@ changed_after : (change : Operation → Operation) (o : Operation) (s : Session)
 changed_after change o s c d l is e live =
     subst (λ (x : Option Operation). After (changed_by change x s) d l) (sym is)
     (phase_leases s.phase (Some (change o)) d l (live_same s.phase (Some (change o)) c d l e live))
-
-after_cond : (b : Bool) (x y : Session) (c : Option Credentials) (l : List Lease) → After x c l → After y c l → After (cond b x y) c l
-after_cond true x y c l h k = h
-after_cond false x y c l h k = k
 
 allocated_after : (p : Phase) (now since : Instant) (seconds : ℕ) (allocation : Allocation) (s : Session) (c : Option Credentials) (l : List Lease)
     → After (allocated_in p now allocation (extended since seconds s)) (option_map forgotten c) l

@@ -1,15 +1,7 @@
 -- A client with a request, in any phase: what polls leave of it.
 use Rattle.std.proofs.Common.{◌≡◌, ℕ, Bool, true, false, cond, List, Option, Some, None, is_some, Result, Ok, Err, refl}
-use Rattle.is_proto.specs.declared.error.StunError.{StunError}
-use Rattle.is_stun.specs.declared.trans_id.TransId.{TransId}
-use Rattle.is_turn.specs.declared.lease.Lease.{Lease}
-use Rattle.is_turn.specs.declared.operation.Operation.{Operation}
-use Rattle.is_turn.specs.declared.session.Allocation.{Allocation}
-use Rattle.is_turn.specs.declared.session.Phase.{Phase}
-use Rattle.is_turn.specs.declared.session.Session.{Session}
-use Rattle.is_turn.specs.Operations.{polled}
-use Rattle.is_turn.specs.Relaying.{reported, client_packet, after_poll, session_after_event}
-use Rattle.is_turn.specs.Turn.{alive_or_nothing, packet_polled, reported_by, after_event}
+use Rattle.is_turn_progress.proofs.Common.{after_event, after_poll, alive_or_nothing, Allocation, client_packet, Lease, Operation, packet_polled, Phase, polled, reported, reported_by, Session}
+use Rattle.is_turn_progress.proofs.Common.{session_after_event, StunError, TransId}
 use Rattle.is_turn_progress.proofs.Packets.{packet_case}
 
 -- ---- a client in a phase, with a request

@@ -1,3 +1,4 @@
+mod Common
 mod Packets
 mod Steps
 mod HeldRequests

@@ -1,29 +1,12 @@
 -- A datagram changes little, or it is a response with grounds.
 use Rattle.std.proofs.Common.{◌≡◌, ◌⊎◌, ℕ, Bool, true, false, cond, not, List, Option, Some, None, is_some, map, set, position, refl, ap, subst, ◌∙◌, inl, inr}
+use Rattle.is_turn_progress.proofs.Common.{alternate_in, answered_by, answered_in, at_place, Attempt, changed_by, channel_data, channel_peer, code_or_success, Credentials, Datagram, datagram_of}
+use Rattle.is_turn_progress.proofs.Common.{doubted, heard_at, Instant, ip_of, is_answered_by, is_channel_of, is_open, is_permission_of, is_ready, is_unknown, IsAnswered, IsReceived, IsReceivedAs}
+use Rattle.is_turn_progress.proofs.Common.{IsRespondedBy, IsSignedFor, kept_leases, key_in, Lease, malformed, Message, not-false, Operation, outcome_by, OutcomeApplies, peer_data, Receipt, response}
+use Rattle.is_turn_progress.proofs.Common.{Session, SocketAddr, takes_challenge, unasked, unparsed, unused, used_at, used_in, Verdict}
 use Rattle.std.proofs.Math.Seq.{map-set_same}
-use Rattle.std.specs.declared.net.socket_addr.SocketAddr.{SocketAddr}
-use Rattle.is_proto.specs.declared.proto.Instant.{Instant}
-use Rattle.is_stun.specs.Message.{Message}
-use Rattle.is_turn.specs.declared.attempts.Attempt.{Attempt}
-use Rattle.is_turn.specs.declared.lease.Lease.{Lease}
-use Rattle.is_turn.specs.declared.operation.Operation.{Operation}
-use Rattle.is_turn.specs.declared.session.Session.{Session}
-use Rattle.is_turn.specs.declared.verdict.Verdict.{Verdict}
 use Rattle.is_turn.specs.declared.verdict.Verdict.TheVariants as verdicts
-use Rattle.is_turn.specs.Alternate.{alternate_in}
-use Rattle.is_turn.specs.Credentials.{Credentials}
-use Rattle.is_turn.specs.Incoming.{Datagram, datagram_of, channel_data, peer_data, response, malformed, unasked, unparsed}
 use Rattle.is_turn.specs.LeaseResponses.{LeaseApplies, IsLeaseAnswered, heard_peer, heard_data}
-use Rattle.is_turn.specs.Leases.{unused, is_answered_by, is_open, is_permission_of, is_channel_of, ip_of, used_at}
-use Rattle.is_turn.specs.Operations.{doubted, takes_challenge}
-use Rattle.is_turn.specs.Outcome.{answered_by, answered_in, key_in, is_unknown, code_or_success, outcome_by}
-use Rattle.is_turn.specs.Places.{at_place, channel_peer, heard_at, used_in}
-use Rattle.is_turn.specs.Receipts.{Receipt}
-use Rattle.is_turn.specs.Receiving.{IsAnswered, IsReceived, IsReceivedAs, IsRespondedBy}
-use Rattle.is_turn.specs.Relaying.{kept_leases}
-use Rattle.is_turn.specs.Session.{changed_by, is_ready}
-use Rattle.is_turn.specs.Turn.{OutcomeApplies}
-use Rattle.is_turn.specs.Verdict.{IsSignedFor}
 use Rattle.is_turn_progress.specs.Authentic.{Grounds, IsPending, HasGrounds, unclocked, ChangesLittle}
 use Rattle.is_turn_progress.proofs.Outcomes.{IsMeant, outcome_case}
 use Rattle.is_turn_progress.proofs.Steps.{by_cond}
@@ -32,10 +15,6 @@ abbrev Little : (List ℕ → List ℕ → List ℕ) → List ℕ → Session �
 Little mac bytes s l c new l_new c_new = ChangesLittle s l c new l_new c_new ⊎ HasGrounds mac bytes s l c
 
 -- ---- grounds
-
-takes : (t : Bool) → not t ≡ false → t ≡ true
-takes true h = refl
-takes false h = absurd (cc h)
 
 -- an attempt that the message answers, and whose key is that of its signature, if it has one
 record Answered (mac : List ℕ → List ℕ → List ℕ) (bytes : List ℕ) (s : Session) (l : List Lease) (m : Message) (b : Bool) (o : Operation) (a : Attempt) : Type 0 where
@@ -102,7 +81,7 @@ session_verdict verdicts.Challenge mac now bytes m alternate s l c result new l_
     (not (takes_challenge a.id (is_some a.key) (code_or_success m) o)) _ _
     (λ refused. λ x. inl (x.2, inl (x.1, inr (kept ∙ ap (λ (y : Session). kept_leases y l) x.1))))
     (λ allowed. λ x. inr (has_grounds mac bytes s l c m b o a h
-    (challenge_grounds mac m c o a b h.signed (takes (takes_challenge a.id (is_some a.key) (code_or_success m) o) allowed) means))) step
+    (challenge_grounds mac m c o a b h.signed (not-false (takes_challenge a.id (is_some a.key) (code_or_success m) o) allowed) means))) step
 
 session_little : (mac : List ℕ → List ℕ → List ℕ) (now : Instant) (bytes : List ℕ) (m : Message) (alternate : Option SocketAddr) (s : Session)
     (l : List Lease) (c : Option Credentials) (result : Receipt) (new : Session) (l_new : List Lease) (c_new : Option Credentials)
@@ -144,7 +123,7 @@ lease_verdict verdicts.Challenge mac now bytes m place s l c result new l_new c_
     by_cond (λ outcome. LeaseApplies now place outcome realm nonce s l c result new l_new c_new → Little mac bytes s l c new l_new c_new)
     (not (takes_challenge a.id (is_some a.key) (code_or_success m) o)) _ _ (λ refused. λ x. inl (x.3, inl (x.1, inl x.2)))
     (λ allowed. λ x. inr (has_grounds mac bytes s l c m b o a h
-    (challenge_grounds mac m c o a b h.signed (takes (takes_challenge a.id (is_some a.key) (code_or_success m) o) allowed) means))) step
+    (challenge_grounds mac m c o a b h.signed (not-false (takes_challenge a.id (is_some a.key) (code_or_success m) o) allowed) means))) step
 
 lease_little : (mac : List ℕ → List ℕ → List ℕ) (now : Instant) (bytes : List ℕ) (m : Message) (place : ℕ) (s : Session)
     (l : List Lease) (c : Option Credentials) (result : Receipt) (new : Session) (l_new : List Lease) (c_new : Option Credentials)

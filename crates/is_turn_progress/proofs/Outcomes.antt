@@ -1,15 +1,8 @@
 -- What is decided of a response, by the verdict on it, and what each verdict means.
 use Rattle.std.proofs.Common.{◌≡◌, ◌⊎◌, ℕ, ◌&&◌, ◌||◌, Bool, true, false, Option, Some, None, is_some, is_none, arith, refl, inl, inr}
-use Rattle.std.specs.declared.net.socket_addr.SocketAddr.{SocketAddr}
-use Rattle.is_stun.specs.Message.{Integrity, Message}
-use Rattle.is_turn.specs.declared.attempts.Attempt.{Attempt}
-use Rattle.is_turn.specs.declared.operation.Operation.{Operation}
-use Rattle.is_turn.specs.declared.session.Phase.{Phase}
-use Rattle.is_turn.specs.declared.verdict.Verdict.{Verdict}
+use Rattle.is_turn_progress.proofs.Common.{and_parts, answered_in, Attempt, code_of, Credentials, Integrity, is_challenge, is_code, is_last_sent, is_malformed, is_unknown, Message, Operation}
+use Rattle.is_turn_progress.proofs.Common.{or_cases, outcome_by, outcome_or, outcome_with, Phase, SocketAddr, Verdict, verdict_of}
 use Rattle.is_turn.specs.declared.verdict.Verdict.TheVariants as verdicts
-use Rattle.is_turn.specs.Credentials.{Credentials}
-use Rattle.is_turn.specs.Outcome.{answered_in, is_last_sent, is_unknown, outcome_by, outcome_or, outcome_with}
-use Rattle.is_turn.specs.Verdict.{code_of, is_code, is_challenge, is_malformed, verdict_of}
 use Rattle.is_turn_progress.proofs.Steps.{by_cond}
 
 -- ---- what each verdict means
@@ -21,16 +14,6 @@ IsMeant b c m o a verdicts.Genuine = (c ≡ None) ⊎ (b ≡ true)
 IsMeant b c m o a verdicts.Redirect = (m.integrity ≡ None) × (code_of m ≡ Some 300) × (a.key ≡ None)
 IsMeant b c m o a verdicts.Hint = (m.integrity ≡ None) × (is_unknown c ≡ true) × (is_last_sent a o ≡ true)
 IsMeant b c m o a verdicts.Challenge = (is_challenge (code_of m) ≡ true) × ((b ≡ true) ⊎ (m.integrity ≡ None))
-
-both : (x y : Bool) → (x && y) ≡ true → (x ≡ true) × (y ≡ true)
-both true true h = (refl, refl)
-both true false h = absurd (cc h)
-both false y h = absurd (cc h)
-
-one : (x y : Bool) → (x || y) ≡ true → (x ≡ true) ⊎ (y ≡ true)
-one true y h = inl refl
-one false true h = inr refl
-one false false h = absurd (cc h)
 
 none_is : {A : Type 0} (x : Option A) → is_none x ≡ true → x ≡ None
 none_is None h = refl
@@ -53,14 +36,14 @@ meant b None m o a = by_cond (IsMeant b None m o a) (is_malformed m) verdicts.Ma
 meant b (Some k) m o a =
     by_cond (IsMeant b (Some k) m o a) (is_malformed m) verdicts.Malformed _ (λ h. tt)
     (λ h. by_cond (IsMeant b (Some k) m o a) (is_challenge (code_of m) && (b || is_none m.integrity)) verdicts.Challenge _
-    (λ e. let x = both (is_challenge (code_of m)) (b || is_none m.integrity) e in
-    (x.0, unsigned_or b m.integrity (one b (is_none m.integrity) x.1)))
+    (λ e. let x = and_parts (is_challenge (code_of m)) (b || is_none m.integrity) e in
+    (x.0, unsigned_or b m.integrity (or_cases b (is_none m.integrity) x.1)))
     (λ e. by_cond (IsMeant b (Some k) m o a) b verdicts.Genuine _ (λ signed. inr signed)
     (λ f. by_cond (IsMeant b (Some k) m o a) (is_some m.integrity) verdicts.Unauthentic _ (λ g. tt)
     (λ unsigned. by_cond (IsMeant b (Some k) m o a) (is_code 300 (code_of m) && is_none a.key) verdicts.Redirect _
-    (λ x. let y = both (is_code 300 (code_of m)) (is_none a.key) x in (no_some m.integrity unsigned, code_is (code_of m) y.0, none_is a.key y.1))
+    (λ x. let y = and_parts (is_code 300 (code_of m)) (is_none a.key) x in (no_some m.integrity unsigned, code_is (code_of m) y.0, none_is a.key y.1))
     (λ x. by_cond (IsMeant b (Some k) m o a) (is_last_sent a o && is_some k.password) verdicts.Hint verdicts.Unauthentic
-    (λ y. let z = both (is_last_sent a o) (is_some k.password) y in (no_some m.integrity unsigned, z.1, z.0)) (λ y. tt))))))
+    (λ y. let z = and_parts (is_last_sent a o) (is_some k.password) y in (no_some m.integrity unsigned, z.1, z.0)) (λ y. tt))))))
 
 -- ---- a response to no attempt, or one with a verdict
 

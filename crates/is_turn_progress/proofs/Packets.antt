@@ -1,15 +1,7 @@
 -- What the packet is that a client has to send: nothing, a keep-alive, the request of the allocation, or that of a lease.
 use Rattle.std.proofs.Common.{ℕ, Bool, true, false, cond, List, Option, Some, None, position}
-use Rattle.is_stun.specs.declared.trans_id.TransId.{TransId}
-use Rattle.is_turn.specs.declared.attempts.Attempt.{Attempt}
-use Rattle.is_turn.specs.declared.lease.Lease.{Lease}
-use Rattle.is_turn.specs.declared.operation.Operation.{Operation}
-use Rattle.is_turn.specs.declared.requests.Request.{Request}
-use Rattle.is_turn.specs.declared.session.Session.{Session}
-use Rattle.is_turn.specs.Leases.{is_to_be_sent}
-use Rattle.is_turn.specs.Places.{at_place}
-use Rattle.is_turn.specs.Relaying.{lease_request, lease_packet_of, lease_packet_at, packet_after, client_packet}
-use Rattle.is_turn.specs.Turn.{alive_or_nothing, request_or, packet_or}
+use Rattle.is_turn_progress.proofs.Common.{alive_or_nothing, at_place, Attempt, client_packet, is_to_be_sent, Lease, lease_packet_at, lease_packet_of, lease_request, Operation, packet_after}
+use Rattle.is_turn_progress.proofs.Common.{packet_or, Request, request_or, Session, TransId}
 
 request_case : (F : _ → Type 0) (place : ℕ) (r : Request) (last : Option Attempt) (alive : Option TransId) → F (alive_or_nothing alive)
     → ((place : ℕ) (r : Request) (a : Attempt) → F (lease_request place r (Some a) (alive_or_nothing None)))

@@ -1,26 +1,14 @@
 -- Clients that differ in their secrets only, and whose MACs are the same, write the same packets.
 use Rattle.std.proofs.Common.{◌≡◌, ◌⊎◌, ℕ, ◌+◌, ◌<◌, ◌≤◌, Bool, true, false, cond, List, [], ◌∷◌, ◌++◌, length, map, position, Option, Some, None, option_map, is_some, Result, Ok, Err, refl, sym, ap, subst, ◌∙◌, inl, inr}
-use Rattle.std.proofs.lemmas.Bool.{cases_lt}
-use Rattle.std.proofs.lemmas.List.{get_or_past, get_or-map, length-map}
+use Rattle.is_turn_progress.proofs.Common.{alive_or_nothing, at_place, Attempt, cases_lt, Challenge, client_packet, Credentials, get_or-map, get_or_past, is_to_be_sent, key_now, keyless_attempt}
+use Rattle.is_turn_progress.proofs.Common.{keyless_challenge, keyless_lease, keyless_operation, keyless_session, Lease, lease_packet_at, lease_packet_of, lease_request, length-map, LookAlike}
+use Rattle.is_turn_progress.proofs.Common.{Operation, packet_after, packet_or, PollsPacket, PollsTurn, Request, request_or, SameMacs, Session, State, StunError, TransId, unused, waits_in}
+use Rattle.is_turn_progress.proofs.Common.{without_secrets}
 use Rattle.std.specs.List.{position_or_len}
-use Rattle.is_proto.specs.declared.error.StunError.{StunError}
-use Rattle.is_stun.specs.declared.trans_id.TransId.{TransId}
 use Rattle.is_stun.specs.Integrity.{signed_text}
 use Rattle.is_stun.specs.Numbers.{USERNAME, REALM, NONCE, MESSAGE_INTEGRITY}
 use Rattle.is_stun.specs.Writing.{Row, row, attribute, rows_text, fingerprint_text, front_of, sealed_of, written_rows, rows_rejection, WritesOr}
-use Rattle.is_turn.specs.declared.attempts.Attempt.{Attempt}
-use Rattle.is_turn.specs.declared.lease.Lease.{Lease}
-use Rattle.is_turn.specs.declared.operation.Operation.{Operation}
-use Rattle.is_turn.specs.declared.requests.Request.{Request}
-use Rattle.is_turn.specs.declared.session.Session.{Session}
-use Rattle.is_turn.specs.Credentials.{Credentials, Challenge}
-use Rattle.is_turn.specs.Leases.{unused, is_to_be_sent, waits_in}
-use Rattle.is_turn.specs.Places.{at_place}
-use Rattle.is_turn.specs.Relaying.{lease_request, lease_packet_of, lease_packet_at, packet_after, client_packet, PollsTurn}
 use Rattle.is_turn.specs.Requests.{Signer, signer_by, signer_of, key_of, own_rows, request_rows, type_of}
-use Rattle.is_turn.specs.Turn.{key_now, alive_or_nothing, request_or, packet_or, PollsPacket}
-use Rattle.is_turn_progress.specs.States.{State}
-use Rattle.is_turn_progress.specs.Secrets.{keyless_attempt, keyless_operation, keyless_session, keyless_lease, keyless_challenge, without_secrets, SameMacs, LookAlike}
 use Rattle.is_turn_progress.proofs.Packets.{packet_case}
 
 -- ---- who signs

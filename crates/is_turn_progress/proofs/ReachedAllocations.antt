@@ -1,28 +1,12 @@
 -- A client that is started has its allocation in time: each call and each right response leads from one stage to the next.
-use Rattle.std.specs.declared.net.socket_addr.SocketAddr.{SocketAddr}
 use Rattle.std.proofs.Common.{◌≡◌, ◌⊎◌, ℕ, ◌+◌, ◌<◌, ◌≤◌, max, Bool, true, false, cond, List, [], ◌∷◌, Option, Some, None, arith, refl, sym, ap, subst, ◌∙◌, inl, inr}
-use Rattle.rand_core.specs.Stream.{Stream, fill_bytes}
+use Rattle.is_turn_progress.proofs.Common.{after_poll, after_route, after_step, Allocate, ALLOCATING, Allocation, alternate_in, another, at_time, Attempt, attempted, Call, Challenge, client_packet}
+use Rattle.is_turn_progress.proofs.Common.{close, Credentials, Datagram, Effect, fill_bytes, handle_timeout, IsAllocated, IsAnswered, IsAnsweredRun, IsExpected, IsNewUser, IsOrdinary, IsReachedBy}
+use Rattle.is_turn_progress.proofs.Common.{IsReceived, IsReceivedAs, IsRespondedBy, IsRight, IsRightTo, IsStarted, kept_credentials, key_now, lose, Message, new_operation, new_session, Operation}
+use Rattle.is_turn_progress.proofs.Common.{Passes, permit, poll_event, poll_transmit, probe, probed, Receipt, receive, routed, send, sent_once_more, Session, session_after_event, SocketAddr, start}
+use Rattle.is_turn_progress.proofs.Common.{State, step_of, Stream, TimesOut, turn_started, waiting, without_pace}
 use Rattle.is_proto.specs.Times.{MAX}
-use Rattle.is_stun.specs.Message.{Message}
-use Rattle.is_turn.specs.declared.attempts.Attempt.{Attempt}
-use Rattle.is_turn.specs.declared.operation.Operation.{Operation}
-use Rattle.is_turn.specs.declared.requests.Request.TheVariants.{Allocate}
-use Rattle.is_turn.specs.declared.session.Allocation.{Allocation}
 use Rattle.is_turn.specs.declared.session.Phase.TheVariants as phases
-use Rattle.is_turn.specs.declared.session.Session.{Session}
-use Rattle.is_turn.specs.Alternate.{alternate_in}
-use Rattle.is_turn.specs.Client.{at_time}
-use Rattle.is_turn.specs.Credentials.{Credentials, Challenge}
-use Rattle.is_turn.specs.Incoming.{Datagram}
-use Rattle.is_turn.specs.Operations.{new_operation, attempted, sent_once_more, another}
-use Rattle.is_turn.specs.Receipts.{Receipt}
-use Rattle.is_turn.specs.Receiving.{IsAnswered, IsReceived, IsReceivedAs, IsRespondedBy}
-use Rattle.is_turn.specs.Relaying.{TimesOut, client_packet, after_poll, routed, after_route, session_after_event}
-use Rattle.is_turn.specs.Session.{new_session, without_pace, turn_started, probed, step_of}
-use Rattle.is_turn.specs.Turn.{key_now, kept_credentials, after_step}
-use Rattle.is_turn.specs.Worlds.{Call, start, close, lose, permit, send, probe, handle_timeout, poll_transmit, poll_event, receive}
-use Rattle.is_turn_progress.specs.States.{State, Effect}
-use Rattle.is_turn_progress.specs.Reaching.{ALLOCATING, IsRightTo, IsRight, IsExpected, IsOrdinary, IsNewUser, Passes, IsAnswered as IsAnsweredRun, IsStarted, IsAllocated, IsReachedBy, waiting}
 use Rattle.is_turn_progress.proofs.Asking.{asks, sent_base, Like, like, fresh_timed, waiting_timed, more, more_by, KnowsPassword, Begins, Waits, Stage, begins_like, waits_like, begins_attempted, waits_repeated, never_exhausted, waits_for, begins_next}
 use Rattle.is_turn_progress.proofs.HeldRequests.{held_poll, held_event}
 use Rattle.is_turn_progress.proofs.AllocateResponses.{IsLast, with_key, challenge_applies, open_success, signed_success}

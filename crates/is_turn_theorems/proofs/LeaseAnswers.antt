@@ -1,26 +1,11 @@
 -- What the response to the request for a lease does to a session keeps how far its renewal is.
 use Rattle.std.proofs.Common.{◌≡◌, ℕ, ◌==◌, ◌&&◌, not, Bool, List, Option, Some, None, is_some}
-use Rattle.std.specs.declared.net.socket_addr.SocketAddr.{SocketAddr}
-use Rattle.is_stun.specs.Message.{Message}
-use Rattle.is_turn.specs.declared.attempts.Attempt.{Attempt}
-use Rattle.is_turn.specs.declared.lease.Lease.{Lease}
-use Rattle.is_turn.specs.declared.operation.Operation.{Operation}
-use Rattle.is_turn.specs.declared.requests.Request.{Request}
+use Rattle.is_turn_theorems.proofs.Common.{answered_in, at_time, Attempt, code_of, code_or_success, Credentials, is_last_sent, is_unknown, lasts, Lease, lease_failed, LeaseApplies, Limits, Message}
+use Rattle.is_turn_theorems.proofs.Common.{on_alternate, on_challenge, on_code, on_success, Operation, outcome_by, outcome_or, outcome_with, Phase, Receipt, relays, Request, Session, SocketAddr}
+use Rattle.is_turn_theorems.proofs.Common.{takes_challenge, Verdict, verdict_of}
 use Rattle.is_turn.specs.declared.requests.Request.TheVariants as requests
-use Rattle.is_turn.specs.declared.session.Phase.{Phase}
 use Rattle.is_turn.specs.declared.session.Phase.TheVariants as phases
-use Rattle.is_turn.specs.declared.session.Session.{Session}
-use Rattle.is_turn.specs.declared.verdict.Verdict.{Verdict}
 use Rattle.is_turn.specs.declared.verdict.Verdict.TheVariants as verdicts
-use Rattle.is_turn.specs.Client.{at_time}
-use Rattle.is_turn.specs.Credentials.{Credentials}
-use Rattle.is_turn.specs.LeaseResponses.{LeaseApplies}
-use Rattle.is_turn.specs.Operations.{takes_challenge}
-use Rattle.is_turn.specs.Outcome.{answered_in, is_unknown, is_last_sent, on_alternate, on_code, on_success, on_challenge, code_or_success, lasts, relays, outcome_by, outcome_or, outcome_with}
-use Rattle.is_turn.specs.Receipts.{Receipt}
-use Rattle.is_turn.specs.Session.{lease_failed}
-use Rattle.is_turn.specs.Verdict.{code_of, verdict_of}
-use Rattle.is_turn_theorems.specs.Limits.{Limits}
 use Rattle.is_turn_theorems.proofs.Standing.{Holds}
 use Rattle.is_turn_theorems.proofs.OtherCalls.{through, holds_is, holds_lease_failed}
 use Rattle.is_turn_theorems.proofs.Responses.{Called}

@@ -1,19 +1,8 @@
 -- What calls and responses do to a lease keeps how far its renewal is.
 use Rattle.std.proofs.Common.{◌≡◌, ℕ, ◌+◌, ◌*◌, ◌≤◌, ◌<◌, ◌&&◌, ◌||◌, Bool, true, false, Option, Some, None, is_none, is_some, List, arith, refl, sym, subst}
-use Rattle.std.specs.declared.net.socket_addr.SocketAddr.{SocketAddr}
-use Rattle.is_proto.specs.Times.{MAX, SECOND, later}
-use Rattle.is_proto.specs.declared.proto.Instant.{Instant}
-use Rattle.is_turn.specs.declared.lease.Lease.{Lease}
-use Rattle.is_turn.specs.declared.operation.Operation.{Operation}
-use Rattle.is_turn.specs.declared.timing.ClientTiming.{ClientTiming}
-use Rattle.is_turn.specs.Client.{at_time, time_after}
-use Rattle.is_turn.specs.Leases.{new_lease, is_free, is_idle, used_at, asked_again, later_end, lifetime_for, lasts_since, is_barring, barred_at, retried_at, failed_at, with_operation, lease_polled, without_report}
-use Rattle.is_turn.specs.Operations.{polled, doubted, hinted, another, stale_count}
-use Rattle.is_turn.specs.Places.{at_place}
-use Rattle.is_turn.specs.Session.{renewal_of}
-use Rattle.is_turn_theorems.specs.Limits.{Limits}
-use Rattle.is_turn_theorems.specs.LeaseLimits.{LEAD, queue_time, lease_attempt_time, LeaveForLeases}
-use Rattle.is_turn_theorems.specs.Leasing.{is_given}
+use Rattle.is_turn_theorems.proofs.Common.{another, asked_again, at_place, at_time, barred_at, ClientTiming, doubted, failed_at, hinted, Instant, is_barring, is_free, is_given, is_idle, lasts_since}
+use Rattle.is_turn_theorems.proofs.Common.{later, later_end, LEAD, Lease, lease_attempt_time, lease_polled, LeaveForLeases, lifetime_for, Limits, MAX, new_lease, Operation, polled, queue_time}
+use Rattle.is_turn_theorems.proofs.Common.{renewal_of, retried_at, SECOND, SocketAddr, stale_count, time_after, used_at, with_operation, without_report}
 use Rattle.is_turn_theorems.proofs.OtherCalls.{through}
 use Rattle.is_turn_theorems.proofs.Standing.{times_more}
 use Rattle.is_turn_theorems.proofs.LeaseLists.{Closed, keep_set}

@@ -1,23 +1,13 @@
 -- What holds of the leases of a client, if it holds after each change of one lease that a call makes.
 use Rattle.std.proofs.Common.{◌≡◌, ℕ, ◌+◌, ◌≤◌, ◌<◌, Bool, true, false, List, Option, Some, None, is_some, length, set, position, nat_lt, refl, sym, ap, subst, ◌∙◌, inl, inr, ◌⊎◌}
-use Rattle.std.proofs.lemmas.Bool.{cases_eq, cases_lt}
-use Rattle.std.proofs.lemmas.List.{get_or-set_same, get_or-set_other, set_past}
+use Rattle.is_turn_theorems.proofs.Common.{added_at, alive_or_nothing, asked_again, at_place, Attempt, cases_eq, cases_lt, channel_added_at, channel_named_by, client_packet, get_or-set_other}
+use Rattle.is_turn_theorems.proofs.Common.{get_or-set_same, heard_at, heard_by, heard_data, heard_peer, Instant, ip_of, is_channel_of, is_free, is_held_back, is_open, is_permission_of, is_ready}
+use Rattle.is_turn_theorems.proofs.Common.{is_reported, is_to_be_sent, Lease, lease_packet_at, lease_packet_of, lease_polled, lease_polled_in, lease_request, leases_after_event, leases_after_poll}
+use Rattle.is_turn_theorems.proofs.Common.{may_permit, named_in, new_lease, Operation, packet_after, packet_due, packet_or, permits_peer, permitted_by, plain, reported, reported_at, request_or}
+use Rattle.is_turn_theorems.proofs.Common.{routed, routed_if, Session, set_past, SocketAddr, TransId, unused, used_at, used_in, with_channel, without_report}
 use Rattle.std.proofs.lemmas.List.Quantifiers.{position-Some}
-use Rattle.std.specs.declared.net.socket_addr.SocketAddr.{SocketAddr}
-use Rattle.is_proto.specs.declared.proto.Instant.{Instant}
-use Rattle.is_turn.specs.declared.lease.Lease.{Lease}
-use Rattle.is_turn.specs.declared.session.Session.{Session}
-use Rattle.is_stun.specs.declared.trans_id.TransId.{TransId}
-use Rattle.is_turn.specs.declared.attempts.Attempt.{Attempt}
-use Rattle.is_turn.specs.declared.operation.Operation.{Operation}
 use Rattle.std.specs.Prelude.{Result, Ok, Err}
 use Rattle.is_proto.specs.declared.error.StunError.{StunError}
-use Rattle.is_turn.specs.LeaseResponses.{heard_peer, heard_data}
-use Rattle.is_turn.specs.Leases.{plain, ip_of, new_lease, unused, is_permission_of, is_channel_of, is_held_back, is_free, is_open, is_reported, is_to_be_sent, used_at, asked_again, lease_polled, without_report}
-use Rattle.is_turn.specs.Places.{at_place, named_in, added_at, permitted_by, channel_added_at, channel_named_by, with_channel, used_in, heard_by, heard_at}
-use Rattle.is_turn.specs.Relaying.{permits_peer, routed_if, routed, reported_at, reported, client_packet, packet_after, lease_request, lease_packet_of, lease_packet_at, lease_polled_in, leases_after_poll, leases_after_event}
-use Rattle.is_turn.specs.Session.{is_ready, may_permit}
-use Rattle.is_turn.specs.Turn.{packet_due, packet_or, request_or, alive_or_nothing}
 use Rattle.is_turn_theorems.proofs.OtherCalls.{through}
 
 -- ---- a lease in a place

@@ -1,39 +1,16 @@
 -- What the server's responses do to a lease keeps how far its renewal is.
-use Rattle.std.proofs.Common.{◌≡◌, ℕ, ◌+◌, ◌*◌, ◌≤◌, ◌<◌, ◌==◌, ◌&&◌, ◌||◌, not, Bool, true, false, List, Option, Some, None, is_none, is_some, refl, sym, ap, subst, arith}
-use Rattle.std.specs.declared.net.socket_addr.SocketAddr.{SocketAddr}
-use Rattle.is_proto.specs.Times.{MAX, SECOND}
-use Rattle.is_stun.specs.Message.{Message}
-use Rattle.is_turn.specs.declared.attempts.Attempt.{Attempt}
-use Rattle.is_turn.specs.declared.lease.Lease.{Lease}
-use Rattle.is_turn.specs.declared.operation.Operation.{Operation}
-use Rattle.is_turn.specs.declared.requests.Request.{Request}
+use Rattle.std.proofs.Common.{◌≡◌, ℕ, ◌+◌, ◌*◌, ◌≤◌, ◌<◌, ◌==◌, ◌&&◌, not, Bool, true, List, Option, Some, None, is_none, is_some, refl, sym, ap, subst, arith}
+use Rattle.is_turn_theorems.proofs.Common.{and_parts, another, answered_by, answered_in, at_place, at_time, Attempt, attempt_of, challenge_taken, changed, ClientTiming, code_of, code_or_success}
+use Rattle.is_turn_theorems.proofs.Common.{Credentials, doubted, failed_at, hinted, Instant, is_given, is_last_sent, is_ready, is_unknown, IsLeaseAnswered, IsLeaseServed, kept_leases, lasts}
+use Rattle.is_turn_theorems.proofs.Common.{lasts_since, Lease, LeaseApplies, LeaveForLeases, Limits, MAX, Message, not-false, on_alternate, on_challenge, on_code, on_success, Operation, or_right}
+use Rattle.is_turn_theorems.proofs.Common.{or_success, outcome_by, outcome_or, outcome_with, Phase, Receipt, relays, Request, SECOND, Session, SocketAddr, takes_challenge, Verdict, verdict_of}
+use Rattle.is_turn_theorems.proofs.Common.{with_changed, World}
 use Rattle.is_turn.specs.declared.requests.Request.TheVariants as requests
-use Rattle.is_turn.specs.declared.session.Phase.{Phase}
 use Rattle.is_turn.specs.declared.session.Phase.TheVariants as phases
-use Rattle.is_turn.specs.declared.session.Session.{Session}
-use Rattle.is_turn.specs.declared.verdict.Verdict.{Verdict}
 use Rattle.is_turn.specs.declared.verdict.Verdict.TheVariants as verdicts
 use Rattle.is_turn.specs.Attempts.{is_last as is_last_of_id}
-use Rattle.is_turn.specs.Client.{at_time}
-use Rattle.is_turn.specs.Credentials.{Credentials}
-use Rattle.is_turn.specs.LeaseResponses.{with_changed, LeaseApplies, IsLeaseAnswered}
-use Rattle.is_turn.specs.Leases.{attempt_of, changed, lasts_since, failed_at}
-use Rattle.is_turn.specs.Operations.{takes_challenge, doubted, hinted, another}
-use Rattle.is_turn.specs.Outcome.{answered_in, answered_by, is_unknown, is_last_sent, on_alternate, on_code, on_success, on_challenge, code_or_success, or_success, lasts, relays, outcome_by, outcome_or, outcome_with}
-use Rattle.is_turn.specs.Places.{at_place}
-use Rattle.is_turn.specs.Receipts.{Receipt}
-use Rattle.is_turn.specs.Relaying.{kept_leases}
-use Rattle.is_turn.specs.Session.{is_ready}
-use Rattle.is_turn.specs.declared.timing.ClientTiming.{ClientTiming}
-use Rattle.is_proto.specs.declared.proto.Instant.{Instant}
-use Rattle.is_turn.specs.Turn.{challenge_taken}
-use Rattle.is_turn.specs.Verdict.{code_of, verdict_of}
-use Rattle.is_turn.specs.Worlds.{World}
-use Rattle.is_turn_theorems.specs.Limits.{Limits}
-use Rattle.is_turn_theorems.specs.LeaseLimits.{LeaveForLeases}
-use Rattle.is_turn_theorems.specs.Leasing.{is_given, IsLeaseServed}
-use Rattle.is_turn_theorems.proofs.OtherCalls.{through, both}
-use Rattle.is_turn_theorems.proofs.Verdicts.{servers, signed_for, IsFine, IsServers, fine_verdict, dropped_code, counted, not_false}
+use Rattle.is_turn_theorems.proofs.OtherCalls.{through}
+use Rattle.is_turn_theorems.proofs.Verdicts.{servers, signed_for, IsFine, IsServers, fine_verdict, dropped_code, counted}
 use Rattle.is_turn_theorems.proofs.LeaseLists.{keep_set}
 use Rattle.is_turn_theorems.proofs.LeaseStanding.{Bare, Met}
 use Rattle.is_turn_theorems.proofs.LeaseCalls.{MetAt, BareAt, bare_changed, bare_failed, LeaseCounts, doubted_met, hinted_met, another_met, lasts_met, failed_met}
@@ -110,12 +87,12 @@ module _ (R : List Lease → Type 0) (k : Limits) (now place q : ℕ) (realm non
       (λ taken step. through (on_challenge o a code unknown) (λ x. LeaseApplies (at_time now) q x realm nonce s l c result new l_new c_new → R l_new)
       (code == 401 && is_some a.key && unknown) _ _
       (λ hint step. becomes _ step.2 (answers.hints code
-      (λ e s. dropped_code code 438 (fine e s) refl (is_some a.key) (both (code == 401 && is_some a.key) unknown hint).0)))
+      (λ e s. dropped_code code 438 (fine e s) refl (is_some a.key) (and_parts (code == 401 && is_some a.key) unknown hint).0)))
       (λ h step. becomes _ step.1.1
       (through l R (challenge_taken realm nonce c).1 (with_changed q (changed (another (at_time now) (is_some a.key) code)) l) (with_changed q (changed (doubted code)) l)
       (λ yes. answers.again (is_some a.key) code (λ same s. subst (LeaseCounts code) (sym e)
       (counted (is_some a.key) code o (not o.is_fresh && is_last_of_id a.id o.attempts) (fine same s)
-      (not_false (takes_challenge a.id (is_some a.key) code o) taken))))
+      (not-false (takes_challenge a.id (is_some a.key) code o) taken))))
       (λ no. answers.doubts code))) step) step
 
   verdict_kept : (v : Verdict) (phase : Phase) (unknown : Bool) (o : Operation) (a : Attempt) (m : Message) → (at_place q l).operation ≡ Some o
@@ -170,10 +147,6 @@ pub record LeaseCalled (k : Limits) (now d : ℕ) : Type 0 where
   pub leave : LeaveForLeases k
   pub shown : now + 3600 * SECOND < MAX
 
-any_pending : (a b : Bool) → b ≡ true → (a || b) ≡ true
-any_pending true b e = refl
-any_pending false b e = e
-
 pub answers_met : (k : Limits) (now d place q : ℕ) (was : Bool) (t : ClientTiming) (l : List Lease) (new : Session) → LeaseCalled k now d → is_ready new.phase ≡ true
     → MetAt k now d place was l → Answers (MetAt k now d place was) k now place q t l new
 answers_met k now d place q was t l new called ready h = record {
@@ -190,7 +163,7 @@ answers_met k now d place q was t l new called ready h = record {
   lasts = λ since some time.
       keep_set (Met k now d was) place q l (lasts_since since (at_place q l))
       (λ e x. lasts_met k now d was since (at_place q l) called.past called.leave called.shown (time e).0 (time e).1 x.live
-      (any_pending (is_some (at_place q l).until) (is_some (at_place q l).operation) (some e))) h;
+      (or_right (is_some (at_place q l).until) (is_some (at_place q l).operation) (some e))) h;
   fails = λ code gone.
       subst (MetAt k now d place was) (sym (kept_ready new.phase (with_changed q (failed_at (at_time now) (Some code)) l) ready))
       (keep_set (Met k now d was) place q l (failed_at (at_time now) (Some code) (at_place q l))

@@ -1,31 +1,12 @@
 -- Each call of a punctual caller whose server answers keeps the renewal of a lease in time, so along each run it does not lapse.
 use Rattle.std.proofs.Common.{◌≡◌, ◌⊎◌, inl, inr, ℕ, ◌+◌, ◌-◌, ◌≤◌, ◌<◌, min, max, Bool, true, false, cond, List, [], ◌∷◌, replicate, Option, Some, None, position, arith, refl, sym, ap, subst, ◌∙◌}
-use Rattle.std.proofs.lemmas.Bool.{cases_lt}
-use Rattle.std.proofs.lemmas.List.{get_or-replicate, get_or_past, length-replicate}
-use Rattle.std.specs.declared.net.socket_addr.SocketAddr.{SocketAddr}
-use Rattle.rand_core.specs.Stream.{Stream}
-use Rattle.is_proto.specs.Times.{MAX}
-use Rattle.is_proto.specs.declared.proto.Instant.{Instant}
-use Rattle.is_stun.specs.Message.{Message}
-use Rattle.is_turn.specs.declared.lease.Lease.{Lease}
-use Rattle.is_turn.specs.declared.session.Session.{Session}
-use Rattle.is_turn.specs.declared.timing.ClientTiming.{ClientTiming}
-use Rattle.is_turn.specs.Alternate.{alternate_in}
-use Rattle.is_turn.specs.Client.{at_time}
-use Rattle.is_turn.specs.Credentials.{Credentials}
-use Rattle.is_turn.specs.Incoming.{Datagram, datagram_of, channel_data, peer_data, response, malformed, unasked, unparsed}
-use Rattle.is_turn.specs.Leases.{unused, is_answered_by, time_or_never}
-use Rattle.is_turn.specs.Places.{at_place, channel_peer}
-use Rattle.is_turn.specs.Receipts.{Receipt}
-use Rattle.is_turn.specs.Receiving.{IsRespondedBy, IsReceivedAs}
-use Rattle.is_turn.specs.Relaying.{advanced_in, lease_due, step_at, driven_by, TimesOutBy}
-use Rattle.is_turn.specs.Session.{is_ready, is_renewal_due, step_of, with_renewal}
-use Rattle.is_turn.specs.Turn.{key_now}
-use Rattle.is_turn.specs.Worlds.{Acceptance, World, Call, start, close, lose, permit, send, probe, handle_timeout, poll_transmit, poll_event, receive, Does, IsFresh}
-use Rattle.is_turn_theorems.specs.Limits.{Limits, Leave}
-use Rattle.is_turn_theorems.specs.LeaseLimits.{LEAD, lease_margin, lease_renewal_time, LeaveForLeases}
-use Rattle.is_turn_theorems.specs.Leasing.{is_given, is_in_line, goes_first, turns_after, IsLeaseKept, LeaseServes, IsLeaseInTime, IsLeaseTimelyFrom, IsLeaseTimely, IsLeaseAhead, LeaseNeverLapses}
-use Rattle.is_turn_theorems.specs.Timely.{Entry, is_timeout, timeout_of, due_since, IsInTime, IsTimelyFrom, IsTimely}
+use Rattle.is_turn_theorems.proofs.Common.{Acceptance, advanced_in, alternate_in, at_place, at_time, Call, cases_lt, channel_data, channel_peer, ClientTiming, close, Credentials, Datagram}
+use Rattle.is_turn_theorems.proofs.Common.{datagram_of, Does, driven_by, due_since, Entry, get_or-replicate, get_or_past, goes_first, handle_timeout, Instant, is_answered_by, is_given, is_in_line}
+use Rattle.is_turn_theorems.proofs.Common.{is_ready, is_renewal_due, is_timeout, IsFresh, IsInTime, IsLeaseAhead, IsLeaseInTime, IsLeaseKept, IsLeaseTimely, IsLeaseTimelyFrom, IsReceivedAs}
+use Rattle.is_turn_theorems.proofs.Common.{IsRespondedBy, IsTimely, IsTimelyFrom, key_now, LEAD, Lease, lease_due, lease_margin, lease_renewal_time, LeaseNeverLapses, LeaseServes, Leave}
+use Rattle.is_turn_theorems.proofs.Common.{LeaveForLeases, length-replicate, Limits, lose, malformed, MAX, Message, peer_data, permit, poll_event, poll_transmit, probe, Receipt, receive, response}
+use Rattle.is_turn_theorems.proofs.Common.{send, Session, SocketAddr, start, step_at, step_of, Stream, time_or_never, timeout_of, TimesOutBy, turns_after, unasked, unparsed, unused, with_renewal}
+use Rattle.is_turn_theorems.proofs.Common.{World}
 use Rattle.is_turn_theorems.proofs.OtherCalls.{through}
 use Rattle.is_turn_theorems.proofs.Standing.{Holds}
 use Rattle.is_turn_theorems.proofs.TimelyRuns.{entered as allocation_entered, fresh_holds}

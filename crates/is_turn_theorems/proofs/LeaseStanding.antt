@@ -1,21 +1,8 @@
 -- How far a client is with the renewal of a lease, and what time makes of it.
 use Rattle.std.proofs.Common.{◌≡◌, ◌⊎◌, inl, inr, ℕ, ◌+◌, ◌*◌, ◌-◌, ◌≤◌, ◌<◌, ◌&&◌, ◌||◌, Bool, true, false, cond, max, min, fold, map, zero, suc, Option, Some, None, is_none, is_some, List, [], ◌∷◌, arith, refl, sym, subst}
-use Rattle.std.proofs.lemmas.Bool.{cases_lt}
-use Rattle.std.proofs.lemmas.List.{get_or_past}
-use Rattle.is_proto.specs.Times.{MAX}
-use Rattle.is_turn.specs.declared.attempts.Attempt.{Attempt}
-use Rattle.is_turn.specs.declared.lease.Lease.{Lease}
-use Rattle.is_turn.specs.declared.operation.Operation.{Operation}
-use Rattle.is_turn.specs.declared.session.Session.{Session}
-use Rattle.is_turn.specs.declared.timing.ClientTiming.{ClientTiming}
-use Rattle.is_turn.specs.Leases.{unused, is_in_use, time_or_never}
-use Rattle.is_turn.specs.Places.{at_place, change_time, earliest_change}
-use Rattle.is_turn.specs.Relaying.{next_client_time, with_leases}
-use Rattle.is_turn.specs.Session.{is_ready, time_or}
-use Rattle.is_turn_theorems.specs.Limits.{Limits}
-use Rattle.is_turn_theorems.specs.LeaseLimits.{LEAD, queue_time, lease_attempt_time, lease_margin, LeaveForLeases}
-use Rattle.is_turn_theorems.specs.Leasing.{is_given, IsLeaseKept}
-use Rattle.is_turn_theorems.specs.Timely.{IsAnswered, IsSeldomStale, IsWithin}
+use Rattle.is_turn_theorems.proofs.Common.{at_place, Attempt, cases_lt, change_time, ClientTiming, earliest_change, get_or_past, is_given, is_in_use, is_ready, IsAnswered, IsLeaseKept, IsSeldomStale}
+use Rattle.is_turn_theorems.proofs.Common.{IsWithin, LEAD, Lease, lease_attempt_time, lease_margin, LeaveForLeases, Limits, MAX, next_client_time, Operation, queue_time, Session, time_or}
+use Rattle.is_turn_theorems.proofs.Common.{time_or_never, unused, with_leases}
 use Rattle.is_turn_theorems.proofs.Standing.{times_more, times_le}
 
 -- ---- a pending request

@@ -1,27 +1,12 @@
 -- What `handle_timeout` does to a lease keeps how far its renewal is.
-use Rattle.std.proofs.Common.{◌≡◌, ◌⊎◌, inl, inr, ℕ, ◌+◌, ◌*◌, ◌≤◌, ◌<◌, ◌&&◌, ◌||◌, nat_le, Bool, true, false, cond, map, length, position, Option, Some, None, is_none, is_some, List, [], set, arith, refl, sym, ap, subst}
-use Rattle.std.proofs.lemmas.Bool.{cases_lt}
-use Rattle.std.proofs.lemmas.Bool.Decides.{nat_tests}
-use Rattle.std.proofs.lemmas.List.{get_or_past, get_or-map, length-map}
+use Rattle.std.proofs.Common.{◌≡◌, ◌⊎◌, inl, inr, ℕ, ◌+◌, ◌*◌, ◌≤◌, ◌<◌, ◌&&◌, nat_le, Bool, true, false, cond, map, length, position, Option, Some, None, is_none, is_some, List, [], set, arith, refl, sym, ap, subst}
+use Rattle.is_turn_theorems.proofs.Common.{advanced, advanced_in, at_place, at_time, Attempt, attempted, cases_lt, ClientTiming, driven_by, due_place, earliest_due, failed_at, fill_bytes, get_or-map}
+use Rattle.is_turn_theorems.proofs.Common.{get_or_past, Instant, is_due_by, is_due_in, is_exhausted, is_given, is_in_use, is_past, is_ready, IsInUse, IsLeaseKept, IsPatient, kept_in, lapsed, LEAD}
+use Rattle.is_turn_theorems.proofs.Common.{Lease, lease_attempt_time, lease_attempted, lease_repeated, lease_step, length-map, Limits, nat_tests, Operation, or_right, Phase, queue_time, renewed}
+use Rattle.is_turn_theorems.proofs.Common.{repeated_if, requested_for, sent_once_more, SocketAddr, step_for, Stream, time_or_never, unused, with_operation}
 use Rattle.std.proofs.lemmas.List.Quantifiers.{position-Some}
-use Rattle.rand_core.specs.Stream.{Stream, fill_bytes}
-use Rattle.std.specs.declared.net.socket_addr.SocketAddr.{SocketAddr}
-use Rattle.is_turn.specs.declared.attempts.Attempt.{Attempt}
-use Rattle.is_turn.specs.declared.lease.Lease.{Lease}
-use Rattle.is_turn.specs.declared.operation.Operation.{Operation}
-use Rattle.is_turn.specs.declared.session.Phase.{Phase}
 use Rattle.is_turn.specs.declared.session.Phase.TheVariants as phases
-use Rattle.is_turn.specs.declared.timing.ClientTiming.{ClientTiming}
-use Rattle.is_proto.specs.declared.proto.Instant.{Instant}
-use Rattle.is_turn.specs.Client.{at_time}
-use Rattle.is_turn.specs.Leases.{unused, is_in_use, is_past, is_renewal_due, requested_for, renewed, lapsed, advanced, failed_at, with_operation, lease_attempted, lease_repeated, repeated_if, step_for, lease_step, is_due_in, is_due_by, time_or_never}
-use Rattle.is_turn.specs.Operations.{attempted, is_exhausted, sent_once_more}
-use Rattle.is_turn.specs.Places.{at_place, earliest_due, due_place}
-use Rattle.is_turn.specs.Relaying.{advanced_in, driven_by, kept_in}
-use Rattle.is_turn.specs.Session.{is_ready}
-use Rattle.is_turn_theorems.specs.Limits.{Limits}
-use Rattle.is_turn_theorems.specs.LeaseLimits.{LEAD, queue_time, lease_attempt_time}
-use Rattle.is_turn_theorems.specs.Leasing.{is_given, IsInUse, IsPatient, IsLeaseKept}
+use Rattle.is_turn.specs.Leases.{is_renewal_due}
 use Rattle.is_turn_theorems.proofs.OtherCalls.{through}
 use Rattle.is_turn_theorems.proofs.LeaseLists.{keep_or, keep_set}
 use Rattle.is_turn_theorems.proofs.LeaseStanding.{Live, has_any, Bare, Settled, Met, LeaseStage, LeasePending, LeaseSoon, any_given, met_settled}
@@ -44,10 +29,6 @@ pub record LeaseRan (k : Limits) (t : ClientTiming) (now : ℕ) (was : Bool) (g 
 past_end : (u : Option Instant) (now : ℕ) → is_past u (at_time now) ≡ true → now < time_or_never u → ⊥
 past_end None now e h = absurd (cc e)
 past_end (Some u) now e h = let le : u.0 ≤ now = grind (arith, nat_tests) in absurd (omega (arith, le, h))
-
-or_right : (a b : Bool) → b ≡ true → (a || b) ≡ true
-or_right true b e = refl
-or_right false b e = e
 
 -- what is known before it is requested
 record Asks (k : Limits) (t : ClientTiming) (now d : ℕ) (was : Bool) (g : Lease) : Type 0 where

@@ -1,25 +1,9 @@
 -- What calls and responses do to the leases keeps whose turn it is.
-use Rattle.std.proofs.Common.{◌≡◌, ◌⊎◌, inl, inr, ℕ, ◌≤◌, ◌<◌, ◌||◌, nat_le, Bool, true, false, min, map, length, List, Option, Some, None, is_none, arith, refl, sym, subst}
-use Rattle.std.proofs.lemmas.Bool.{cases_lt}
-use Rattle.std.proofs.lemmas.Bool.Decides.{nat_tests}
-use Rattle.std.proofs.lemmas.List.{get_or_past, get_or-map, length-map}
-use Rattle.std.specs.declared.net.socket_addr.SocketAddr.{SocketAddr}
-use Rattle.is_proto.specs.Times.{MAX, later}
-use Rattle.is_proto.specs.declared.proto.Instant.{Instant}
-use Rattle.is_turn.specs.declared.lease.Lease.{Lease}
-use Rattle.is_turn.specs.declared.operation.Operation.{Operation}
-use Rattle.is_turn.specs.declared.session.Phase.{Phase}
-use Rattle.is_turn.specs.declared.session.Session.{Session}
-use Rattle.is_turn.specs.declared.timing.ClientTiming.{ClientTiming}
-use Rattle.is_turn.specs.Client.{at_time}
-use Rattle.is_turn.specs.LeaseResponses.{with_changed}
-use Rattle.is_turn.specs.Leases.{unused, new_lease, is_past, is_renewal_due, requested_for, renewed, lapsed, advanced, is_barring, barred_at, retried_at, failed_at, with_operation, changed, lasts_since, lease_polled, used_at, asked_again, without_report}
-use Rattle.is_turn.specs.Operations.{polled, doubted, hinted, another}
-use Rattle.is_turn.specs.Places.{at_place}
-use Rattle.is_turn.specs.Relaying.{advanced_in}
-use Rattle.is_turn.specs.Session.{is_ready}
-use Rattle.is_turn_theorems.specs.Limits.{Limits}
-use Rattle.is_turn_theorems.specs.Leasing.{is_given}
+use Rattle.std.proofs.Common.{◌≡◌, ◌⊎◌, inl, inr, ℕ, ◌≤◌, ◌<◌, ◌||◌, nat_le, Bool, true, false, min, map, length, List, Option, Some, None, is_none, arith, refl, sym, subst, le_refl}
+use Rattle.is_turn_theorems.proofs.Common.{advanced, advanced_in, another, asked_again, at_place, at_time, barred_at, cases_lt, changed, ClientTiming, doubted, failed_at, get_or-map, get_or_past}
+use Rattle.is_turn_theorems.proofs.Common.{hinted, Instant, is_barring, is_given, is_past, is_ready, lapsed, lasts_since, later, Lease, lease_polled, length-map, Limits, MAX, nat_tests, new_lease}
+use Rattle.is_turn_theorems.proofs.Common.{Operation, Phase, polled, renewed, requested_for, retried_at, Session, SocketAddr, unused, used_at, with_changed, with_operation, without_report}
+use Rattle.is_turn.specs.Leases.{is_renewal_due}
 use Rattle.is_turn_theorems.proofs.OtherCalls.{through}
 use Rattle.is_turn_theorems.proofs.LeaseLists.{Closed}
 use Rattle.is_turn_theorems.proofs.LeaseTimeouts.{kept_ready, advanced_ready}
@@ -27,9 +11,6 @@ use Rattle.is_turn_theorems.proofs.LeaseResponses.{Answers}
 use Rattle.is_turn_theorems.proofs.LeaseTurns.{one_if, weight, map_lighter, WaitsIn, Waits, Keeps, keeps_self, waits_become, waits_set}
 
 -- ---- weights
-
-le_same : (n : ℕ) → n ≤ n
-le_same n = omega arith
 
 cond_le : (b : Bool) (n : ℕ) → (b ≡ true → ⊥) → one_if b ≤ n
 cond_le true n h = absurd (h refl)
@@ -50,8 +31,8 @@ not_due due d lt e = let le : due ≤ d = grind (arith, nat_tests) in absurd (om
 -- ---- each change
 
 polled_weighs : (n : ℕ) (g : Lease) (o : Option Operation) → weight n (with_operation polled o (record g { operation = o })) ≤ weight n (record g { operation = o })
-polled_weighs n g None = le_same _
-polled_weighs n g (Some o) = le_same _
+polled_weighs n g None = le_refl _
+polled_weighs n g (Some o) = le_refl _
 
 polled_keeps : (now : ℕ) (g : Lease) (o : Option Operation) → Keeps now (is_given g) o (is_given (with_operation polled o (record g { operation = o })))
     (with_operation polled o (record g { operation = o })).operation
@@ -60,8 +41,8 @@ polled_keeps now g (Some o) = λ s f. inr (s, f, refl)
 
 doubted_weighs : (n code : ℕ) (g : Lease) (o : Option Operation)
     → weight n (with_operation (doubted code) o (record g { operation = o })) ≤ weight n (record g { operation = o })
-doubted_weighs n code g None = le_same _
-doubted_weighs n code g (Some o) = le_same _
+doubted_weighs n code g None = le_refl _
+doubted_weighs n code g (Some o) = le_refl _
 
 doubted_keeps : (now code : ℕ) (g : Lease) (o : Option Operation) → Keeps now (is_given g) o (is_given (with_operation (doubted code) o (record g { operation = o })))
     (with_operation (doubted code) o (record g { operation = o })).operation
@@ -81,7 +62,7 @@ hinted_due now due wait d lt shown e =
 
 hinted_weighs : (now n code : ℕ) (t : ClientTiming) (g : Lease) (o : Option Operation) → n < now → now < MAX
     → weight n (with_operation (hinted (at_time now) code t) o (record g { operation = o })) ≤ weight n (record g { operation = o })
-hinted_weighs now n code t g None lt shown = le_same _
+hinted_weighs now n code t g None lt shown = le_refl _
 hinted_weighs now n code t g (Some o) lt shown =
     cond_less (nat_le o.due.0 n) (nat_le (min o.due.0 (later now t.rto.0)) n) (hinted_due now o.due.0 t.rto.0 n lt shown)
 
@@ -96,7 +77,7 @@ given_with change g (Some o) s = s
 
 another_weighs : (now n code : ℕ) (b : Bool) (g : Lease) (o : Option Operation) → n < now
     → weight n (with_operation (another (at_time now) b code) o (record g { operation = o })) ≤ weight n (record g { operation = o })
-another_weighs now n code b g None lt = le_same _
+another_weighs now n code b g None lt = le_refl _
 another_weighs now n code b g (Some o) lt = cond_le (nat_le now n) (one_if (nat_le o.due.0 n)) (not_due now n lt)
 
 another_keeps : (now code : ℕ) (b : Bool) (g : Lease) (o : Option Operation)
@@ -126,10 +107,10 @@ module _ (k : Limits) (taken d p now : ℕ) (was : Bool) (place : ℕ) where
   pub waits_closed : Closed WaitsAt (at_time now)
   waits_closed = record {
     used = λ q l h.
-        waits_set k taken d p now was place q l (used_at (at_time now) (at_place q l)) (λ n lt. le_same _)
+        waits_set k taken d p now was place q l (used_at (at_time now) (at_place q l)) (λ n lt. le_refl _)
         (λ e. keeps_self now (is_given (at_place q l)) (at_place q l).operation) h;
     again = λ q l barred h.
-        waits_set k taken d p now was place q l (asked_again (at_time now) (at_place q l)) (λ n lt. le_same _)
+        waits_set k taken d p now was place q l (asked_again (at_time now) (at_place q l)) (λ n lt. le_refl _)
         (λ e. keeps_self now (is_given (at_place q l)) (at_place q l).operation) h;
     new = λ q l peer number free h.
         waits_set k taken d p now was place q l (new_lease peer number (at_time now)) (λ n lt. none_le _ _ refl) (λ e. tt) h;
@@ -137,7 +118,7 @@ module _ (k : Limits) (taken d p now : ℕ) (was : Bool) (place : ℕ) where
         waits_set k taken d p now was place q l (lease_polled (at_place q l)) (λ n lt. polled_weighs n (at_place q l) (at_place q l).operation)
         (λ e. polled_keeps now (at_place q l) (at_place q l).operation) h;
     reported = λ q l h.
-        waits_set k taken d p now was place q l (without_report (at_place q l)) (λ n lt. le_same _)
+        waits_set k taken d p now was place q l (without_report (at_place q l)) (λ n lt. le_refl _)
         (λ e. keeps_self now (is_given (at_place q l)) (at_place q l).operation) h;
   }
 
@@ -169,16 +150,16 @@ module _ (k : Limits) (taken d p now : ℕ) (was : Bool) (place : ℕ) where
 -- ---- what begins
 
 lapsed_weighs : (n : ℕ) (at : Instant) (g : Lease) → weight n (lapsed at g) ≤ weight n g
-lapsed_weighs n at g = through g (λ x. weight n x ≤ weight n g) (is_past g.until at) (record g { until = None }) g (λ e. le_same _) (λ e. le_same _)
+lapsed_weighs n at g = through g (λ x. weight n x ≤ weight n g) (is_past g.until at) (record g { until = None }) g (λ e. le_refl _) (λ e. le_refl _)
 
 requested_weighs : (now n : ℕ) (peer : Option SocketAddr) (g : Lease) → n < now → weight n (requested_for peer (at_time now) g) ≤ weight n g
-requested_weighs now n None g lt = le_same _
+requested_weighs now n None g lt = le_refl _
 requested_weighs now n (Some peer) g lt = cond_le (nat_le now n) (weight n g) (not_due now n lt)
 
 renewed_weighs : (now n : ℕ) (g : Lease) → n < now → weight n (renewed (at_time now) g) ≤ weight n g
 renewed_weighs now n g lt =
     through g (λ x. weight n x ≤ weight n g) (is_renewal_due (at_time now) g) (requested_for g.peer (at_time now) g) g
-    (λ e. requested_weighs now n g.peer g lt) (λ e. le_same _)
+    (λ e. requested_weighs now n g.peer g lt) (λ e. le_refl _)
 
 advanced_weighs : (now n : ℕ) (g : Lease) → n < now → weight n (advanced (at_time now) g) ≤ weight n g
 advanced_weighs now n g lt =
@@ -211,7 +192,7 @@ advanced_at k taken d p now was l g h =
     let m = map (advanced (at_time now)) l in
     let x = lapsed (at_time now) g in
     waits_become k taken d p now was l m x (renewed (at_time now) x) (λ n lt. map_lighter n (advanced (at_time now)) l (λ y. advanced_weighs now n y lt))
-    (renewed_keeps now x) (waits_become k taken d p now was l l g x (λ n lt. le_same _) (lapsed_keeps now (at_time now) g) h)
+    (renewed_keeps now x) (waits_become k taken d p now was l l g x (λ n lt. le_refl _) (lapsed_keeps now (at_time now) g) h)
 
 map_waits : (k : Limits) (taken d p now : ℕ) (was : Bool) (place : ℕ) (l : List Lease) → (place < length l) ⊎ (length l ≤ place)
     → Waits k taken d p now was place l → Waits k taken d p now was place (map (advanced (at_time now)) l)

@@ -1,28 +1,9 @@
 -- Each call of a punctual caller keeps whose turn it is.
 use Rattle.std.proofs.Common.{◌≡◌, ℕ, ◌+◌, ◌≤◌, ◌<◌, not, nat_lt, min, max, Bool, true, false, cond, List, length, Option, Some, None, is_none, position, arith, refl, sym, ap, subst, ◌∙◌}
-use Rattle.std.proofs.lemmas.Bool.Decides.{nat_tests}
-use Rattle.std.specs.declared.net.socket_addr.SocketAddr.{SocketAddr}
-use Rattle.is_proto.specs.Times.{MAX}
-use Rattle.is_proto.specs.declared.proto.Instant.{Instant}
-use Rattle.is_stun.specs.Message.{Message}
-use Rattle.is_turn.specs.declared.lease.Lease.{Lease}
-use Rattle.is_turn.specs.declared.operation.Operation.{Operation}
-use Rattle.is_turn.specs.declared.session.Session.{Session}
-use Rattle.is_turn.specs.Alternate.{alternate_in}
-use Rattle.is_turn.specs.Client.{at_time}
-use Rattle.is_turn.specs.Credentials.{Credentials}
-use Rattle.is_turn.specs.Incoming.{Datagram, datagram_of, channel_data, peer_data, response, malformed, unasked, unparsed}
-use Rattle.is_turn.specs.Leases.{is_answered_by}
-use Rattle.is_turn.specs.Places.{at_place, channel_peer}
-use Rattle.is_turn.specs.Receipts.{Receipt}
-use Rattle.is_turn.specs.Receiving.{IsRespondedBy, IsReceivedAs}
-use Rattle.is_turn.specs.Relaying.{advanced_in, is_idle_step, lease_due}
-use Rattle.is_turn.specs.Session.{PACE, is_ready, is_renewal_due, step_of, with_renewal}
-use Rattle.is_turn.specs.Turn.{key_now}
-use Rattle.is_turn.specs.Worlds.{Acceptance, World, Call, start, close, lose, permit, send, probe, handle_timeout, poll_transmit, poll_event, receive, Does}
-use Rattle.is_turn_theorems.specs.Limits.{Limits}
-use Rattle.is_turn_theorems.specs.Leasing.{is_given, is_in_line, goes_first, LeaseServes}
-use Rattle.is_turn_theorems.specs.Timely.{timeout_of, due_since}
+use Rattle.is_turn_theorems.proofs.Common.{Acceptance, advanced_in, alternate_in, at_place, at_time, Call, channel_data, channel_peer, close, Credentials, Datagram, datagram_of, Does, due_since}
+use Rattle.is_turn_theorems.proofs.Common.{goes_first, handle_timeout, Instant, is_answered_by, is_given, is_idle_step, is_in_line, is_ready, is_renewal_due, IsReceivedAs, IsRespondedBy, key_now}
+use Rattle.is_turn_theorems.proofs.Common.{Lease, lease_due, LeaseServes, Limits, lose, malformed, MAX, Message, nat_tests, not_from_false, Operation, PACE, peer_data, permit, poll_event}
+use Rattle.is_turn_theorems.proofs.Common.{poll_transmit, probe, Receipt, receive, response, send, Session, SocketAddr, start, step_of, timeout_of, unasked, unparsed, with_renewal, World}
 use Rattle.is_turn_theorems.proofs.OtherCalls.{through}
 use Rattle.is_turn_theorems.proofs.LeaseLists.{Closed, permits_keep, routed_keeps, heard_keeps, polled_keeps, events_keep}
 use Rattle.is_turn_theorems.proofs.LeaseCalls.{BareAt}
@@ -31,6 +12,7 @@ use Rattle.is_turn_theorems.proofs.LeaseResponses.{AnsweredAt, answered_by_keeps
 use Rattle.is_turn_theorems.proofs.LeaseTurns.{Lined, LinedIn, lined_waits, waits_pass, waits_lined, queued_same, queued_next}
 use Rattle.is_turn_theorems.proofs.LeaseTurnCalls.{WaitsAt, waits_closed, answers_wait, advanced_waits}
 use Rattle.is_turn_theorems.proofs.LeaseTurnSteps.{timeout_waits, ring_due}
+use Rattle.is_turn_theorems.proofs.TimelyRuns.{renewal_ready}
 
 -- ---- what is received
 
@@ -79,13 +61,6 @@ one_more : (was b : Bool) (n : ℕ) → b ≡ true → was ≡ true → n + 1 �
 one_more true true n e f = omega arith
 one_more true false n e f = absurd (cc e)
 one_more false b n e f = absurd (cc f)
-
-not_true : (b : Bool) → b ≡ false → not b ≡ true
-not_true true e = absurd (cc e)
-not_true false e = refl
-
-renewal_ready : (now : Instant) (s : Session) → is_ready s.phase ≡ true → is_ready (with_renewal now s).phase ≡ true
-renewal_ready now s r = through s (λ (x : Session). is_ready x.phase ≡ true) (is_renewal_due now s) _ _ (λ e. r) (λ e. r)
 
 renewal_paced : (now : Instant) (s : Session) → s.paced.0 ≡ (with_renewal now s).paced.0
 renewal_paced now s = through s (λ (x : Session). s.paced.0 ≡ x.paced.0) (is_renewal_due now s) _ _ (λ e. refl) (λ e. refl)
@@ -167,7 +142,7 @@ module _ (k : Limits) (mac : List ℕ → List ℕ → List ℕ) (accepted : Lis
       stream_new refl (renewal_ready at w.session h.was_ready) h.ready
       (record { punctual = in_time; pace = h.pace; count = λ yes. more_than was first taken yes; shown = h.shown })
       (λ e yes.
-      let t = one_more was (not (is_idle_step (step_of at s))) taken (not_true (is_idle_step (step_of at s)) e) yes in
+      let t = one_more was (not (is_idle_step (step_of at s))) taken (not_from_false (is_idle_step (step_of at s)) e) yes in
       omega (arith, t)) begun does.2)
 
 -- ---- without an allocation nothing waits

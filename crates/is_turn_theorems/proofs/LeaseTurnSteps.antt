@@ -1,26 +1,12 @@
 -- One step of `handle_timeout` keeps whose turn it is: a packet leaves of the request that is due first, or of the allocation's.
 use Rattle.std.proofs.Common.{◌≡◌, ◌⊎◌, inl, inr, ℕ, ◌+◌, ◌≤◌, ◌<◌, ◌&&◌, ◌||◌, nat_le, nat_lt, Bool, true, false, cond, max, min, map, fold, position, set, length, suc, List, [], ◌∷◌, Option, Some, None, is_none, arith, refl, sym, ap, subst, ◌∙◌}
-use Rattle.std.proofs.lemmas.Bool.Decides.{nat_tests}
+use Rattle.is_turn_theorems.proofs.Common.{after_step, at_place, at_time, Attempt, attempted, barred_at, ClientTiming, driven_by, due_of, due_or_never, due_place, earliest_due, failed_at, fill_bytes}
+use Rattle.is_turn_theorems.proofs.Common.{Instant, is_barring, is_due_by, is_due_in, is_exhausted, is_given, is_idle_step, is_ready, later, Lease, lease_attempted, lease_due, lease_repeated, Limits}
+use Rattle.is_turn_theorems.proofs.Common.{MAX, nat_tests, next_client_time, Operation, PACE, repeat_wait, repeated_if, retried_at, sent_once_more, Session, step_at, step_of, Stream, time_or}
+use Rattle.is_turn_theorems.proofs.Common.{time_or_never, TimesOutBy, unused, with_leases, with_operation}
 use Rattle.std.proofs.lemmas.List.Sums.{fails_before_first}
 use Rattle.std.specs.List.{position_or_len}
-use Rattle.rand_core.specs.Stream.{Stream, fill_bytes}
-use Rattle.is_proto.specs.Times.{MAX, later}
-use Rattle.is_proto.specs.declared.proto.Instant.{Instant}
-use Rattle.is_turn.specs.declared.attempts.Attempt.{Attempt}
-use Rattle.is_turn.specs.declared.lease.Lease.{Lease}
-use Rattle.is_turn.specs.declared.operation.Operation.{Operation}
-use Rattle.is_turn.specs.declared.session.Session.{Session}
-use Rattle.is_turn.specs.declared.timing.ClientTiming.{ClientTiming}
-use Rattle.is_turn.specs.Client.{at_time}
-use Rattle.is_turn.specs.Leases.{unused, is_barring, barred_at, retried_at, failed_at, with_operation, lease_attempted, lease_repeated, repeated_if, due_of, due_or_never, is_due_by, is_due_in, time_or_never}
-use Rattle.is_turn.specs.Operations.{attempted, is_exhausted, sent_once_more, repeat_wait}
-use Rattle.is_turn.specs.Places.{at_place, earliest_due, due_place}
-use Rattle.is_turn.specs.Relaying.{is_idle_step, lease_due, step_at, driven_by, TimesOutBy, next_client_time, with_leases}
-use Rattle.is_turn.specs.Session.{PACE, is_ready, step_of, time_or}
 use Rattle.is_turn.specs.Timing.{first_wait}
-use Rattle.is_turn.specs.Turn.{after_step}
-use Rattle.is_turn_theorems.specs.Limits.{Limits}
-use Rattle.is_turn_theorems.specs.Leasing.{is_given}
 use Rattle.is_turn_theorems.proofs.OtherCalls.{through}
 use Rattle.is_turn_theorems.proofs.LeaseLists.{AtSet, at_set}
 use Rattle.is_turn_theorems.proofs.LeaseStanding.{least_at}

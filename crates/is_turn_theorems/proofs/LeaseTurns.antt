@@ -1,17 +1,9 @@
 -- The turn of a request for a lease: of the requests that are due before it each is sent once.
 use Rattle.std.proofs.Common.{◌≡◌, ◌⊎◌, inl, inr, ℕ, ◌+◌, ◌*◌, ◌≤◌, ◌<◌, nat_le, Bool, true, false, cond, max, map, set, length, List, [], ◌∷◌, Option, Some, None, arith, refl, sym, ap, subst, ◌∙◌}
-use Rattle.std.proofs.lemmas.Bool.{cases_lt}
-use Rattle.std.proofs.lemmas.Bool.Decides.{nat_tests}
-use Rattle.std.proofs.lemmas.List.{get_or_past, set_past}
+use Rattle.is_turn_theorems.proofs.Common.{at_place, cases_lt, due_of, due_or_never, get_or_past, is_due_by, is_due_in, is_given, is_in_line, Lease, Limits, nat_tests, Operation, PACE, set_past}
+use Rattle.is_turn_theorems.proofs.Common.{unused}
 use Rattle.std.proofs.lemmas.List.Sums.{sum_by-cons, sum_by-set, get_or-le-sum_by, count_by-le-length}
 use Rattle.std.specs.List.{count_by}
-use Rattle.is_turn.specs.declared.lease.Lease.{Lease}
-use Rattle.is_turn.specs.declared.operation.Operation.{Operation}
-use Rattle.is_turn.specs.Leases.{unused, due_of, due_or_never, is_due_by, is_due_in}
-use Rattle.is_turn.specs.Places.{at_place}
-use Rattle.is_turn.specs.Session.{PACE}
-use Rattle.is_turn_theorems.specs.Limits.{Limits}
-use Rattle.is_turn_theorems.specs.Leasing.{is_given, is_in_line}
 use Rattle.is_turn_theorems.proofs.Standing.{times_more, times_le}
 use Rattle.is_turn_theorems.proofs.LeaseLists.{AtSet, at_set}
 use Rattle.is_turn_theorems.proofs.LeaseStanding.{IsInTurn}

@@ -1,3 +1,4 @@
+mod Common
 mod Standing
 mod OtherCalls
 mod Responses

@@ -1,34 +1,17 @@
 -- What a user's calls and polls do to a session keeps how far its renewal is.
 use Rattle.std.proofs.Common.{◌≡◌, ℕ, ◌+◌, ◌≤◌, ◌==◌, ◌&&◌, ◌||◌, Bool, true, false, cond, List, Option, Some, None, is_none, is_some, position, Result, Ok, Err, arith, refl, sym, subst}
-use Rattle.std.specs.declared.net.socket_addr.SocketAddr.{SocketAddr}
+use Rattle.is_turn_theorems.proofs.Common.{after_event, after_poll, after_route, alive_or_nothing, and_parts, asking, at_place, at_time, Attempt, bound_channel, changed_by, client_packet}
+use Rattle.is_turn_theorems.proofs.Common.{ClientTiming, closed, closed_early, closed_in, is_gone, is_new, is_ready, is_to_be_sent, Lease, lease_failed, lease_packet_at, lease_packet_of}
+use Rattle.is_turn_theorems.proofs.Common.{lease_request, left, Limits, lost, lost_in, may_be_made, Operation, PACE, packet_after, packet_due, packet_or, packet_polled, permits_peer, Phase, plain}
+use Rattle.is_turn_theorems.proofs.Common.{polled, probed, quiet_after, reported, reported_by, Request, request_or, request_timing, route_of, routed, routed_if, Session, session_after_event}
+use Rattle.is_turn_theorems.proofs.Common.{SocketAddr, TransId, turn_started, unsent, with_media, with_request}
 use Rattle.is_proto.specs.declared.error.StunError.{StunError}
-use Rattle.is_turn.specs.declared.operation.Operation.{Operation}
-use Rattle.is_turn.specs.declared.lease.Lease.{Lease}
-use Rattle.is_turn.specs.declared.requests.Request.{Request}
 use Rattle.is_turn.specs.declared.requests.Request.TheVariants.{Refresh}
 use Rattle.is_turn.specs.declared.session.Allocation.{Allocation}
-use Rattle.is_turn.specs.declared.session.Phase.{Phase}
 use Rattle.is_turn.specs.declared.session.Phase.TheVariants as phases
-use Rattle.is_turn.specs.declared.session.Session.{Session}
-use Rattle.is_stun.specs.declared.trans_id.TransId.{TransId}
-use Rattle.is_turn.specs.declared.attempts.Attempt.{Attempt}
-use Rattle.is_turn.specs.Client.{at_time}
-use Rattle.is_turn.specs.Operations.{polled}
-use Rattle.is_turn.specs.declared.timing.ClientTiming.{ClientTiming}
-use Rattle.is_turn.specs.Leases.{plain, is_to_be_sent}
-use Rattle.is_turn.specs.Places.{at_place, bound_channel}
-use Rattle.is_turn.specs.Relaying.{after_route, route_of, routed, routed_if, permits_peer, with_media, after_poll, client_packet, packet_after, lease_packet_at, lease_packet_of, lease_request, session_after_event, reported}
-use Rattle.is_turn.specs.Session.{PACE, is_new, is_ready, is_gone, request_timing, asking, turn_started, with_request, changed_by, unsent, left, closed, closed_early, closed_in, lost_in, may_be_made, quiet_after, lost, probed, lease_failed}
-use Rattle.is_turn.specs.Turn.{packet_due, packet_or, request_or, alive_or_nothing, packet_polled, reported_by, after_event}
-use Rattle.is_turn_theorems.specs.Limits.{Limits}
 use Rattle.is_turn_theorems.proofs.Standing.{Holds, Soon, Stage, SentLast, DueIn}
 
 -- ---- cases
-
-pub both : (a b : Bool) → (a && b) ≡ true → (a ≡ true) × (b ≡ true)
-both true true e = (refl, refl)
-both true false e = absurd (cc e)
-both false b e = absurd (cc e)
 
 -- what holds in each of two cases
 pub through : {A : Type 0} (of : A) (P : A → Type 0) (b : Bool) (x y : A) → (b ≡ true → P x) → (b ≡ false → P y) → P (cond b x y)
@@ -65,7 +48,7 @@ pub holds_probed : (k : Limits) (now d : ℕ) (s : Session) → d ≤ now → Ho
     → Holds k now d (probed (at_time now) s)
 holds_probed k now d s le h soon =
     holds_cond k now d (is_ready s.phase && is_none s.operation) (with_request (at_time now) (Refresh s.lifetime) s) s
-    (λ e. request_begins k now d (Refresh s.lifetime) s s.operation (both (is_ready s.phase) (is_none s.operation) e).1 le h soon) (λ e. h)
+    (λ e. request_begins k now d (Refresh s.lifetime) s s.operation (and_parts (is_ready s.phase) (is_none s.operation) e).1 le h soon) (λ e. h)
 
 -- ---- calls of the user
 

@@ -1,21 +1,11 @@
 -- What a response of the server does to a session keeps how far its renewal is.
 use Rattle.std.proofs.Common.{◌≡◌, inl, inr, ℕ, ◌+◌, ◌*◌, ◌≤◌, ◌<◌, ◌==◌, Bool, true, false, cond, Option, Some, None, arith, refl, ap, ◌∙◌}
-use Rattle.std.specs.declared.net.socket_addr.SocketAddr.{SocketAddr}
-use Rattle.is_proto.specs.Times.{MAX, SECOND, later}
-use Rattle.is_proto.specs.declared.proto.Instant.{Instant}
-use Rattle.is_turn.specs.declared.attempts.Attempt.{Attempt}
-use Rattle.is_turn.specs.declared.operation.Operation.{Operation}
+use Rattle.is_turn_theorems.proofs.Common.{allocated_in, another, at_time, Attempt, attempt_time, changed_by, ClientTiming, doubted, extended, failed_in, Follows, has_failed, hinted, Instant}
+use Rattle.is_turn_theorems.proofs.Common.{is_ready, is_redirected, lasts, later, lead, Leave, lifetime_of, Limits, lost, MAX, Operation, PACE, Phase, refreshed_in, renewal_of, request_timing, SECOND}
+use Rattle.is_turn_theorems.proofs.Common.{Session, SocketAddr, stale_count, without_pace}
 use Rattle.is_turn.specs.declared.session.Allocation.{Allocation}
-use Rattle.is_turn.specs.declared.session.Phase.{Phase}
 use Rattle.is_turn.specs.declared.session.Phase.TheVariants as phases
-use Rattle.is_turn.specs.declared.session.Session.{Session}
-use Rattle.is_turn.specs.declared.timing.ClientTiming.{ClientTiming}
-use Rattle.is_turn.specs.Client.{at_time}
-use Rattle.is_turn.specs.Operations.{stale_count, doubted, hinted, another}
-use Rattle.is_turn.specs.Outcome.{lasts}
-use Rattle.is_turn.specs.Session.{PACE, is_ready, lifetime_of, renewal_of, request_timing, without_pace, changed_by, extended, allocated_in, refreshed_in, renewed, lost, failed_in, has_failed, is_redirected}
-use Rattle.is_turn.specs.Turn.{Follows}
-use Rattle.is_turn_theorems.specs.Limits.{Limits, lead, attempt_time, Leave}
+use Rattle.is_turn.specs.Session.{renewed}
 use Rattle.is_turn_theorems.proofs.Standing.{Holds, Soon, Stage, SentLast, DueIn, times_more}
 use Rattle.is_turn_theorems.proofs.OtherCalls.{holds_is, holds_cond, unready}
 

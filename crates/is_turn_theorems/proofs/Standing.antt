@@ -1,17 +1,8 @@
 -- How far a client with an allocation is with its renewal, and what time makes of it.
 use Rattle.std.proofs.Common.{◌≡◌, ℕ, ◌+◌, ◌*◌, ◌-◌, ◌≤◌, ◌<◌, suc, Bool, true, false, max, Option, Some, None, List, arith, refl}
+use Rattle.is_turn_theorems.proofs.Common.{Attempt, attempt_time, ClientTiming, is_ready, IsAnswered, IsSeldomStale, IsWithin, later, lead, Lease, Leave, Limits, margin, next_client_time, Operation}
+use Rattle.is_turn_theorems.proofs.Common.{PACE, request_timing, Session, time_or, time_or_never, wait_at, waits, with_leases}
 use Rattle.std.proofs.lemmas.Nat.{mul-le}
-use Rattle.is_proto.specs.Times.{later}
-use Rattle.is_turn.specs.declared.attempts.Attempt.{Attempt}
-use Rattle.is_turn.specs.declared.lease.Lease.{Lease}
-use Rattle.is_turn.specs.declared.operation.Operation.{Operation}
-use Rattle.is_turn.specs.declared.session.Session.{Session}
-use Rattle.is_turn.specs.declared.timing.ClientTiming.{ClientTiming}
-use Rattle.is_turn.specs.Leases.{time_or_never}
-use Rattle.is_turn.specs.Relaying.{next_client_time, with_leases}
-use Rattle.is_turn.specs.Session.{PACE, is_ready, request_timing, time_or}
-use Rattle.is_turn_theorems.specs.Limits.{Limits, lead, attempt_time, margin, Leave, wait_at, waits}
-use Rattle.is_turn_theorems.specs.Timely.{IsAnswered, IsSeldomStale, IsWithin}
 
 -- ---- products
 

@@ -1,28 +1,10 @@
 -- Each call of a punctual caller whose server answers keeps the renewal of an allocation in time, so along each run nothing lapses.
 use Rattle.std.proofs.Common.{◌≡◌, ℕ, ◌+◌, ◌≤◌, ◌<◌, min, max, true, List, [], ◌∷◌, Option, Some, None, position, arith, refl, sym, subst}
-use Rattle.std.specs.declared.net.socket_addr.SocketAddr.{SocketAddr}
-use Rattle.rand_core.specs.Stream.{Stream}
-use Rattle.is_proto.specs.Times.{MAX}
-use Rattle.is_proto.specs.declared.proto.Instant.{Instant}
-use Rattle.is_stun.specs.Message.{Message}
-use Rattle.is_turn.specs.declared.attempts.Attempt.{Attempt}
-use Rattle.is_turn.specs.declared.lease.Lease.{Lease}
-use Rattle.is_turn.specs.declared.session.Session.{Session}
-use Rattle.is_turn.specs.Alternate.{alternate_in}
-use Rattle.is_turn.specs.Client.{at_time}
-use Rattle.is_turn.specs.Credentials.{Credentials}
-use Rattle.is_turn.specs.Incoming.{Datagram, datagram_of, channel_data, peer_data, response, malformed, unasked, unparsed}
-use Rattle.is_turn.specs.Leases.{is_answered_by}
-use Rattle.is_turn.specs.Outcome.{attempt_answered}
-use Rattle.is_turn.specs.Places.{at_place}
-use Rattle.is_turn.specs.Receipts.{Receipt}
-use Rattle.is_turn.specs.Receiving.{IsRespondedBy, IsReceivedAs}
-use Rattle.is_turn.specs.Relaying.{advanced_in, lease_due}
-use Rattle.is_turn.specs.Session.{is_ready, is_renewal_due, new_session, request_timing, step_of, with_renewal}
-use Rattle.is_turn.specs.Turn.{key_now}
-use Rattle.is_turn.specs.Worlds.{Acceptance, World, Call, start, close, lose, permit, send, probe, handle_timeout, poll_transmit, poll_event, receive, Does, IsFresh}
-use Rattle.is_turn_theorems.specs.Limits.{Limits, Leave, margin}
-use Rattle.is_turn_theorems.specs.Timely.{Entry, is_timeout, timeout_of, due_since, IsServed, Serves, IsKept, IsInTime, IsTimelyFrom, IsTimely, IsAhead, NothingLapses}
+use Rattle.is_turn_theorems.proofs.Common.{Acceptance, advanced_in, alternate_in, at_place, at_time, Attempt, attempt_answered, Call, channel_data, close, Credentials, Datagram, datagram_of, Does}
+use Rattle.is_turn_theorems.proofs.Common.{due_since, Entry, handle_timeout, Instant, is_answered_by, is_ready, is_renewal_due, is_timeout, IsAhead, IsFresh, IsInTime, IsKept, IsReceivedAs}
+use Rattle.is_turn_theorems.proofs.Common.{IsRespondedBy, IsServed, IsTimely, IsTimelyFrom, key_now, Lease, lease_due, Leave, Limits, lose, malformed, margin, MAX, Message, new_session, NothingLapses}
+use Rattle.is_turn_theorems.proofs.Common.{peer_data, permit, poll_event, poll_transmit, probe, Receipt, receive, request_timing, response, send, Serves, Session, SocketAddr, start, step_of, Stream}
+use Rattle.is_turn_theorems.proofs.Common.{timeout_of, unasked, unparsed, with_renewal, World}
 use Rattle.is_turn_theorems.proofs.Standing.{Holds, Soon, soon, ahead, holds_later, holds_rings}
 use Rattle.is_turn_theorems.proofs.OtherCalls.{through, holds_is, unready, holds_started, holds_closed, holds_lost, holds_routed, holds_probed, holds_polled, holds_event}
 use Rattle.is_turn_theorems.proofs.Responses.{Called}
@@ -76,7 +58,7 @@ rung k d due x new since e h =
     subst (λ (n : ℕ). Holds k new.clock n new.session) (sym since)
     (holds_rings k new.clock d new.session new.leases (holds_is k new.clock d x new.session e h))
 
-renewal_ready : (now : Instant) (s : Session) → is_ready s.phase ≡ true → is_ready (with_renewal now s).phase ≡ true
+pub renewal_ready : (now : Instant) (s : Session) → is_ready s.phase ≡ true → is_ready (with_renewal now s).phase ≡ true
 renewal_ready now s r = through s (λ x. is_ready x.phase ≡ true) (is_renewal_due now s) _ _ (λ e. r) (λ e. r)
 
 timed : (k : Limits) (due : ℕ) (w new : World) (stream stream_new : Stream) → Called k new.clock (min due new.clock) w.session

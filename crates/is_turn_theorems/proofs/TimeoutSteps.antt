@@ -1,28 +1,18 @@
 -- Each step of `handle_timeout` keeps how far the renewal of an allocation is.
 use Rattle.std.proofs.Common.{◌≡◌, ℕ, ◌+◌, ◌≤◌, ◌<◌, ◌&&◌, nat_le, nat_lt, Bool, true, false, cond, List, Option, Some, None, arith, refl, sym, ap, subst}
-use Rattle.std.proofs.lemmas.Bool.Decides.{nat_tests}
-use Rattle.rand_core.specs.Stream.{Stream, fill_bytes}
-use Rattle.is_turn.specs.declared.lease.Lease.{Lease}
-use Rattle.is_turn.specs.declared.operation.Operation.{Operation}
-use Rattle.is_turn.specs.declared.session.Session.{Session}
-use Rattle.is_turn.specs.declared.timing.ClientTiming.{ClientTiming}
-use Rattle.is_turn.specs.Client.{at_time}
-use Rattle.is_turn.specs.Leases.{step_for}
-use Rattle.is_turn.specs.Operations.{is_exhausted, sent_once_more}
-use Rattle.is_turn.specs.Places.{at_place, due_place}
-use Rattle.is_turn.specs.Relaying.{is_idle_step, lease_due, sending_for, step_at, TimesOutBy}
-use Rattle.is_turn.specs.Session.{PACE, is_ready, request_timing, keep_alive_due, due_of, due_or, step_of, sending, failed_in}
-use Rattle.is_turn.specs.Turn.{after_step}
-use Rattle.is_turn_theorems.specs.Limits.{Limits}
+use Rattle.is_turn_theorems.proofs.Common.{after_step, and_parts, at_place, at_time, ClientTiming, due_or, due_place, failed_in, fill_bytes, is_exhausted, is_idle_step, is_ready, keep_alive_due}
+use Rattle.is_turn_theorems.proofs.Common.{Lease, lease_due, Limits, nat_tests, Operation, PACE, request_timing, sending, sending_for, sent_once_more, Session, step_at, step_for, step_of, Stream}
+use Rattle.is_turn_theorems.proofs.Common.{TimesOutBy}
+use Rattle.is_turn.specs.Session.{due_of}
 use Rattle.is_turn_theorems.proofs.Standing.{Fresh, Stage, Due, DueIn}
-use Rattle.is_turn_theorems.proofs.OtherCalls.{through, both, unready}
+use Rattle.is_turn_theorems.proofs.OtherCalls.{through, unready}
 use Rattle.is_turn_theorems.proofs.Responses.{failed_unready}
 use Rattle.is_turn_theorems.proofs.Timeouts.{Ran, Running, Kept, NotFresh, due_in, due_now, sends, rests, lives, attempts, repeats, times_out_late}
 
 -- ---- what is known of each step
 
 at_end : (k : Limits) (now : ℕ) (b : Bool) (until : ℕ) → now < until → (b && nat_le until now) ≡ true → ⊥
-at_end k now b until ahead e = let h : nat_le until now ≡ true = (both b (nat_le until now) e).1 in let le : until ≤ now = grind (arith, nat_tests) in absurd (omega (arith, ahead, le))
+at_end k now b until ahead e = let h : nat_le until now ≡ true = (and_parts b (nat_le until now) e).1 in let le : until ≤ now = grind (arith, nat_tests) in absurd (omega (arith, ahead, le))
 
 fresh_is_due : (k : Limits) (t : ClientTiming) (now renew pace : ℕ) (o : Operation) → o.is_fresh ≡ true → Stage o.is_fresh k t now renew pace o → Fresh k now renew pace o
 fresh_is_due k t now renew pace o e h = subst (λ (b : Bool). Stage b k t now renew pace o) e h
@@ -145,7 +135,7 @@ timeout_kept k now key stream s l None new l_new stream_new e run does =
 timeout_kept k now key stream s l (Some place) new l_new stream_new e run does =
     let is : (is_ready s.phase && (is_idle_step (step_of (at_time now) s) && nat_le s.paced.0 now)) ≡ true =
     some_due (is_ready s.phase && (is_idle_step (step_of (at_time now) s) && nat_le s.paced.0 now)) (due_place (at_time now) l) place e in
-    let idle = both (is_idle_step (step_of (at_time now) s)) (nat_le s.paced.0 now)
-    (both (is_ready s.phase) (is_idle_step (step_of (at_time now) s) && nat_le s.paced.0 now) is).1 in
+    let idle = and_parts (is_idle_step (step_of (at_time now) s)) (nat_le s.paced.0 now)
+    (and_parts (is_ready s.phase) (is_idle_step (step_of (at_time now) s) && nat_le s.paced.0 now) is).1 in
     kept_is k now s (sending_for (step_at place s l) (at_time now) s) new does.0
     (lease_sends k now s.timing (at_place place l).operation s run (λ r. idle_not_fresh k now s (run.ready r) idle.1 idle.0))

@@ -1,23 +1,12 @@
 -- What `handle_timeout` does to a session keeps how far its renewal is, and does not end a client with an allocation.
 use Rattle.std.proofs.Common.{◌≡◌, ◌⊎◌, inl, inr, ℕ, ◌+◌, ◌*◌, ◌≤◌, ◌<◌, ◌==◌, ◌&&◌, nat_le, nat_lt, zero, suc, Bool, true, false, cond, List, Option, Some, None, is_none, arith, refl, sym, ap, subst}
-use Rattle.std.proofs.lemmas.Bool.{cases_lt}
-use Rattle.std.proofs.lemmas.Bool.Decides.{nat_tests}
-use Rattle.is_proto.specs.Times.{MAX, later}
-use Rattle.is_stun.specs.declared.trans_id.TransId.{TransId}
-use Rattle.is_turn.specs.declared.attempts.Attempt.{Attempt}
-use Rattle.is_turn.specs.declared.operation.Operation.{Operation}
+use Rattle.is_turn_theorems.proofs.Common.{and_parts, at_time, Attempt, attempt_time, attempted, cases_lt, ClientTiming, is_exhausted, is_ready, is_renewal_due, IsAnswered, IsWithin, kept_alive}
+use Rattle.is_turn_theorems.proofs.Common.{later, lead, Limits, MAX, nat_tests, Operation, PACE, patience, Phase, repeat_wait, request_timing, sending, sent_once_more, Session, TransId, tried_by}
+use Rattle.is_turn_theorems.proofs.Common.{wait_at, waits, with_renewal, with_request}
 use Rattle.is_turn.specs.declared.requests.Request.TheVariants.{Refresh}
-use Rattle.is_turn.specs.declared.session.Phase.{Phase}
-use Rattle.is_turn.specs.declared.session.Session.{Session}
-use Rattle.is_turn.specs.declared.timing.ClientTiming.{ClientTiming}
-use Rattle.is_turn.specs.Client.{at_time}
-use Rattle.is_turn.specs.Operations.{is_exhausted, attempted, sent_once_more, repeat_wait}
-use Rattle.is_turn.specs.Session.{PACE, is_ready, is_renewal_due, request_timing, with_request, with_renewal, sending, tried_by, kept_alive}
 use Rattle.is_turn.specs.Timing.{first_wait, next_wait}
-use Rattle.is_turn_theorems.specs.Limits.{Limits, lead, attempt_time, wait_at, waits, patience}
-use Rattle.is_turn_theorems.specs.Timely.{IsAnswered, IsWithin}
 use Rattle.is_turn_theorems.proofs.Standing.{Holds, Fresh, Soon, SoonFor, Stage, SentLast, Pending, Due, DueIn}
-use Rattle.is_turn_theorems.proofs.OtherCalls.{through, both}
+use Rattle.is_turn_theorems.proofs.OtherCalls.{through}
 use Rattle.is_turn_theorems.proofs.Responses.{Called}
 
 -- ---- a session with the renewal that is due
@@ -74,7 +63,7 @@ pub begins : (k : Limits) (now d : ℕ) (s : Session) → Called k now d s → (
 begins k now d s called ahead answered patient =
     let shown : now < MAX = let p = called.shown in omega (arith, p) in
     through s (λ x. Running k now x) (is_renewal_due (at_time now) s) _ _
-    (λ e. renewal_begins k now d s s.operation (both (is_ready s.phase) (is_none s.operation) (both (is_ready s.phase && is_none s.operation) (nat_le s.renew.0 now) e).0).1
+    (λ e. renewal_begins k now d s s.operation (and_parts (is_ready s.phase) (is_none s.operation) (and_parts (is_ready s.phase && is_none s.operation) (nat_le s.renew.0 now) e).0).1
     called shown called.soon ahead patient)
     (λ e. record {
       paced = called.holds.paced;

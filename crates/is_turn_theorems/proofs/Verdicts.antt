@@ -1,31 +1,16 @@
 -- What the server's response to the pending request does to a session keeps how far its renewal is.
 use Rattle.std.proofs.Common.{◌≡◌, ◌⊎◌, inl, inr, ℕ, ◌+◌, ◌≤◌, ◌<◌, ◌==◌, ◌&&◌, ◌||◌, not, nat_lt, Bool, true, false, cond, List, Option, Some, None, is_none, is_some, IsTrue, ◌↔◌, arith, refl, sym, ap, subst}
-use Rattle.std.proofs.lemmas.Bool.Decides.{nat_tests}
-use Rattle.std.specs.declared.net.socket_addr.SocketAddr.{SocketAddr}
-use Rattle.is_stun.specs.Message.{Integrity, Message}
-use Rattle.is_turn.specs.declared.attempts.Attempt.{Attempt}
-use Rattle.is_turn.specs.declared.operation.Operation.{Operation}
-use Rattle.is_turn.specs.declared.requests.Request.{Request}
+use Rattle.is_turn_theorems.proofs.Common.{and_parts, answered_by, answered_in, at_time, Attempt, challenge_taken, code_of, code_or_success, Credentials, has_failed, Integrity, is_allocated}
+use Rattle.is_turn_theorems.proofs.Common.{is_allowed, is_challenge, is_code, is_last_sent, is_malformed, is_ready, is_refreshed, is_unknown, IsBelievable, IsPrompt, IsSignedFor, IsStale, key_in}
+use Rattle.is_turn_theorems.proofs.Common.{lasts, Limits, Message, nat_tests, not-false, on_alternate, on_challenge, on_code, on_success, Operation, or_success, outcome_by, outcome_or, outcome_with}
+use Rattle.is_turn_theorems.proofs.Common.{OutcomeApplies, Phase, Receipt, relays, Request, request_timing, seconds_or_none, Session, SocketAddr, stale_count, takes_challenge, Verdict, verdict_of}
+use Rattle.is_turn_theorems.proofs.Common.{with_another, with_doubt, with_hint}
 use Rattle.is_turn.specs.declared.requests.Request.TheVariants as requests
-use Rattle.is_turn.specs.declared.session.Phase.{Phase}
 use Rattle.is_turn.specs.declared.session.Phase.TheVariants as phases
-use Rattle.is_turn.specs.declared.session.Session.{Session}
-use Rattle.is_turn.specs.declared.verdict.Verdict.{Verdict}
 use Rattle.is_turn.specs.declared.verdict.Verdict.TheVariants as verdicts
 use Rattle.is_turn.specs.Attempts.{is_last as is_last_of_id}
-use Rattle.is_turn.specs.Client.{at_time}
-use Rattle.is_turn.specs.Credentials.{Credentials}
-use Rattle.is_turn.specs.Operations.{takes_challenge, stale_count, is_allowed}
-use Rattle.is_turn.specs.Outcome.{answered_in, answered_by, is_unknown, is_last_sent, on_alternate, on_code, on_success, on_challenge, code_or_success, or_success, key_in, lasts, relays, seconds_or_none, outcome_by, outcome_or, outcome_with}
-use Rattle.is_turn.specs.Receipts.{Receipt}
-use Rattle.is_turn.specs.Session.{is_ready, request_timing, is_allocated, is_refreshed, has_failed}
-use Rattle.is_turn.specs.Turn.{OutcomeApplies, challenge_taken, with_doubt, with_hint, with_another}
-use Rattle.is_turn.specs.Verdict.{is_challenge, is_code, is_malformed, code_of, verdict_of, IsSignedFor}
-use Rattle.is_turn.specs.Worlds.{IsBelievable}
-use Rattle.is_turn_theorems.specs.Limits.{Limits}
-use Rattle.is_turn_theorems.specs.Timely.{IsPrompt, IsStale}
 use Rattle.is_turn_theorems.proofs.Standing.{Holds}
-use Rattle.is_turn_theorems.proofs.OtherCalls.{through, holds_is, holds_cond, both}
+use Rattle.is_turn_theorems.proofs.OtherCalls.{through, holds_is, holds_cond}
 use Rattle.is_turn_theorems.proofs.Responses.{Called, Counts, extends, allocated_holds, refreshed_holds, failed_unready, follows_unready, hint_unready, doubt_holds, another_holds}
 
 -- ---- the verdict on the server's response
@@ -94,21 +79,17 @@ signed_for mac b m a x e signs = subst (λ (y : Option Attempt). IsTrue b ↔ Is
 -- ---- what it does
 
 pub dropped_code : (code n : ℕ) → code ≡ n → (n == 401) ≡ false → (b : Bool) → (code == 401 && b) ≡ true → ⊥
-dropped_code code n e f b h = let g : (code == 401) ≡ false = subst (λ (x : ℕ). (x == 401) ≡ false) (sym e) f in absurd (cc (g, (both (code == 401) b h).0))
+dropped_code code n e f b h = let g : (code == 401) ≡ false = subst (λ (x : ℕ). (x == 401) ≡ false) (sym e) f in absurd (cc (g, (and_parts (code == 401) b h).0))
 
 stale_counts : (stale : ℕ) → nat_lt stale 3 ≡ true → stale_count 438 stale ≡ stale + 1
 stale_counts stale h = let lt : stale < 3 = grind (arith, nat_tests) in omega (arith, lt)
 
 counted_by : (b : Bool) (o : Operation) (x : Bool) → (x && is_allowed b 438 o) ≡ true → stale_count 438 o.stale ≡ o.stale + 1
-counted_by b o x h = stale_counts o.stale (both x (is_allowed b 438 o) h).1
+counted_by b o x h = stale_counts o.stale (and_parts x (is_allowed b 438 o) h).1
 
 pub counted : (b : Bool) (code : ℕ) (o : Operation) (x : Bool) → code ≡ 438 → (x && is_allowed b code o) ≡ true → stale_count code o.stale ≡ o.stale + 1
 counted b code o x e h =
     subst (λ (n : ℕ). stale_count n o.stale ≡ o.stale + 1) (sym e) (counted_by b o x (subst (λ (n : ℕ). (x && is_allowed b n o) ≡ true) e h))
-
-pub not_false : (b : Bool) → not b ≡ false → b ≡ true
-not_false true e = refl
-not_false false e = absurd (cc e)
 
 counts_in : (code : ℕ) (o : Option Operation) (p : Operation) → o ≡ Some p → stale_count code p.stale ≡ p.stale + 1 → Counts code o
 counts_in code o p e h = subst (Counts code) (sym e) h
@@ -183,10 +164,10 @@ module _ (k : Limits) (now d : ℕ) (realm nonce : Option (List ℕ)) (s : Sessi
       (code == 401 && is_some a.key && unknown) _ _
       (λ hint step. holds_is k now d (with_hint (at_time now) code s) new step.1
       (hint_unready k now d code (request_timing s) s.operation s called.holds.paced
-      (λ r. dropped_code code 438 (fine r) refl (is_some a.key) (both (code == 401 && is_some a.key) unknown hint).0)))
+      (λ r. dropped_code code 438 (fine r) refl (is_some a.key) (and_parts (code == 401 && is_some a.key) unknown hint).0)))
       (λ h step. challenged_holds (is_some a.key) code
       (λ r. counts_in code s.operation o e (counted (is_some a.key) code o (not o.is_fresh && is_last_of_id a.id o.attempts) (fine r)
-      (not_false (takes_challenge a.id (is_some a.key) code o) taken))) step.1) step) step
+      (not-false (takes_challenge a.id (is_some a.key) code o) taken))) step.1) step) step
 
   verdict_holds : (v : Verdict) (unknown : Bool) (o : Operation) (a : Attempt) (m : Message) (alternate : Option SocketAddr) → s.operation ≡ Some o
       → (code_of m ≡ None → IsPrompt k now m a) → (is_ready s.phase ≡ true → IsFine v (code_of m))

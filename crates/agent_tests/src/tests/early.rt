@@ -18,6 +18,11 @@ fn checks_are_repeated_early(rt: HostRuntime) -> Result<(), Fail> {
 }
 
 #[test]
+fn a_pair_that_a_request_brings_gets_few_checks(rt: HostRuntime) -> Result<(), Fail> {
+    play(rt.alloc(), &BROUGHT)
+}
+
+#[test]
 fn a_pair_that_is_repeated_early_ends_by_the_clock(rt: HostRuntime) -> Result<(), Fail> {
     play(rt.alloc(), &ENDS)
 }
@@ -167,6 +172,38 @@ const EARLY: [Story; 6] = [
         ],
     ),
 ];
+
+// ---- a request from an address that never answers: seven early checks, and then one each 3 s until it is 15 s old
+
+const BROUGHT: [Story; 1] = [Story(
+    "a_pair_that_a_request_brings_is_checked_eleven_times",
+    &[
+        Begin(Unpaired),
+        Set(Setting::Profile(Profile::Modern)),
+        Write(Message::Request(false, false), "nearpass"),
+        Takes(Served(0, THERE)),
+        Does(Check(0)),
+        Shows(NextAt(100)),
+        Does(Check(100)),
+        Does(Check(200)),
+        Does(Check(400)),
+        Does(Check(750)),
+        Does(Check(1100)),
+        Shows(NextAt(1450)),
+        Does(Check(1450)),
+        // 1.2 s after the first one the RTO counts
+        Shows(NextAt(4450)),
+        Does(Check(4450)),
+        Does(Check(7450)),
+        Does(Check(10_450)),
+        Does(Check(13_450)),
+        Shows(NextAt(16_450)),
+        // the request is older than 15 s, and nine checks had no response
+        Does(Timeout(16_450)),
+        Emits(NoPacket),
+        Counts(Count::Checks, 11),
+    ],
+)];
 
 // ---- by which clock: that since the first check. With two checks a whole series takes 1 s, and the RTO after the last one is 500 ms
 

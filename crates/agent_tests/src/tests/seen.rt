@@ -246,6 +246,10 @@ impl Player {
                 let next = self.agent.poll_timeout();
                 self.compares(next, Some(later(ms)))
             }
+            Shown::SoonAt(ms) => {
+                let next = self.agent.poll_timeout_soon();
+                self.compares(next, Some(later(ms)))
+            }
             Shown::NoNext => self.agent.poll_timeout().is_none(),
             Shown::Figures(last, total, count) => {
                 self.has_figures(Some(millis(last)), Some(millis(total)), Some(count))

@@ -324,6 +324,8 @@ pub(super) enum Shown {
     ValidPath(Option<(At, At)>),
     /// The next timeout.
     NextAt(u64),
+    /// The same, as for an agent that changed.
+    SoonAt(u64),
     /// There is no next timeout.
     NoNext,
     /// The figures of the selected pair: round-trip time of the last response and the total, in milliseconds, and the

@@ -39,17 +39,16 @@ fn with_texts(c: &Candidate, foundation: Option<Text>, ufrag: Option<Text>) -> C
 {
     Candidate {
         foundation,
-        component: c.component,
-        proto: c.proto,
-        given_priority: c.given_priority,
-        addr: c.addr,
-        given_base: c.given_base,
-        kind: c.kind,
-        raddr: c.raddr,
-        tcptype: c.tcptype,
         ufrag,
-        local: c.local,
+        addr: c.addr,
+        other: c.other,
+        priority: c.priority,
         local_preference: c.local_preference,
+        component: c.component,
+        source: c.source,
+        kind: c.kind,
+        proto: c.proto,
+        tcptype: c.tcptype,
         discarded: c.discarded,
     }
 }

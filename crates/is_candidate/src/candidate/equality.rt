@@ -6,7 +6,7 @@ ghost use Rattle.is_candidate.specs.Equality.{is_same_place, is_same_origin, is_
 
 use super::Candidate;
 use super::address::{same_address, same_protocol, same_version};
-use super::internals::{base, given_foundation};
+use super::internals::{base, given_foundation, raddr};
 use super::kind::{CandidateKind, same_kind};
 use is_proto::theorems::equal_values_hash_alike;
 use std::net::SocketAddr;
@@ -27,7 +27,7 @@ pub fn is_same_place(a: &Candidate, b: &Candidate) -> bool
 pub fn is_same_origin(a: &Candidate, b: &Candidate) -> bool
     ensures { result ≡ is_same_origin a.now b.now }
 {
-    same_kind(a.kind, b.kind) && same_related(a.raddr, b.raddr)
+    same_kind(a.kind, b.kind) && same_related(raddr(a), raddr(b))
 }
 
 fn same_related(a: Option<SocketAddr>, b: Option<SocketAddr>) -> bool

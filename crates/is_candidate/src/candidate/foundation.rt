@@ -4,7 +4,7 @@ ghost use Rattle.is_candidate.specs.Foundations.{fnv_from, fnv, ip_bytes, relate
 
 use super::Candidate;
 use super::address::protocol_number;
-use super::internals::base;
+use super::internals::{base, raddr};
 use super::kind::kind_number;
 use std::fmt;
 use std::net::{IpAddr, SocketAddr};
@@ -48,7 +48,7 @@ fn common_hash(c: &Candidate) -> u64
 {
     let kind = fnv_from(FNV_START, &[kind_number(c.kind)]);
     let with_base = with_ip(kind, base(c).ip());
-    let with_server = with_related(with_base, c.raddr);
+    let with_server = with_related(with_base, raddr(c));
     fnv_from(with_server, &[protocol_number(c.proto)])
 }
 

@@ -4,6 +4,8 @@ ghost use Rattle.std.specs.Option.{option_copied};
 ghost use Rattle.is_candidate.specs.Candidates.{base_of, IsBased};
 
 use super::Candidate;
+use super::kind::{CandidateKind, is_direct, same_kind};
+use super::source::{Source, hidden_related};
 use is_proto::Text;
 use std::net::SocketAddr;
 
@@ -13,9 +15,9 @@ pub fn base(c: &Candidate) -> SocketAddr
     ensures base { result ≡ base_of c.now }
     ensures based { IsBased c.now }
 {
-    match c.given_base {
-        Some(base) => base,
-        None => c.addr,
+    match c.source {
+        Source::Found => { if is_direct(c.kind) { c.addr } else { c.other } }
+        Source::Signaled | Source::Related => c.addr,
     }
 }
 
@@ -23,7 +25,27 @@ pub fn base(c: &Candidate) -> SocketAddr
 pub fn raddr(c: &Candidate) -> Option<SocketAddr>
     ensures { result ≡ c.now.raddr }
 {
-    c.raddr
+    match c.source {
+        Source::Found => hidden_related(c.kind, c.addr),
+        Source::Signaled => None,
+        Source::Related => Some(c.other),
+    }
+}
+
+/// Returns the priority that a candidate attribute or a check gave, if one did.
+pub(super) fn given_priority(c: &Candidate) -> Option<u32>
+    ensures { result ≡ c.now.given_priority }
+{
+    match c.source {
+        Source::Found => {
+            if same_kind(c.kind, CandidateKind::PeerReflexive) {
+                Some(c.priority)
+            } else {
+                None
+            }
+        }
+        Source::Signaled | Source::Related => Some(c.priority),
+    }
 }
 
 /// Returns the foundation that the candidate was given, if there is one.

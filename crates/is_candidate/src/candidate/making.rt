@@ -1,15 +1,18 @@
 //! The constructors.
-ghost use Rattle.std.specs.Prelude.{◌≡◌, ◌++◌, codes, IsTrue};
+ghost use Rattle.std.specs.Prelude.{◌≡◌, ◌++◌, codes, false, if◌then◌else◌};
 ghost use Rattle.std.specs.Net.Socket.{socket_ip};
 ghost use Rattle.std.specs.Net.Text.{ip_text};
-ghost use Rattle.is_candidate.specs.Kinds.{is_direct};
+ghost use Rattle.is_candidate.specs.declared.candidate.kind.CandidateKind.TheVariants.{PeerReflexive};
+ghost use Rattle.is_candidate.specs.Kinds.{is_direct, same_kind};
 ghost use Rattle.is_candidate.specs.Making.{ip_fault, reflexive_fault, gathered, host_candidate, server_reflexive_candidate};
 ghost use Rattle.is_candidate.specs.Making.{relayed_candidate, signalled_candidate, peer_reflexive_candidate};
 ghost use Rattle.is_candidate.specs.Rejections.{RejectsWith, Makes};
+ghost use Rattle.is_candidate.specs.Stored.{hidden_related};
 
 use super::Candidate;
-use super::address::{is_valid_ip, same_version, unspecified_like};
+use super::address::{is_valid_ip, same_version};
 use super::kind::CandidateKind;
+use super::source::Source;
 use is_proto::{IceError, Protocol, TcpType, Text};
 use std::alloc::Global;
 use std::net::{IpAddr, SocketAddr};
@@ -85,25 +88,25 @@ impl Candidate {
     ) -> Candidate
         ensures { result ≡ signalled_candidate foundation component proto priority addr kind raddr tcptype ufrag }
     {
-        let local = match kind {
-            CandidateKind::Host => addr,
-            _ => unspecified_like(addr),
-        };
-        Candidate {
+        let mut candidate = Candidate {
             foundation: Some(foundation),
-            component,
-            proto,
-            given_priority: Some(priority),
-            addr,
-            given_base: None,
-            kind,
-            raddr,
-            tcptype,
             ufrag,
-            local,
+            addr,
+            other: addr,
+            priority,
             local_preference: None,
+            component,
+            source: Source::Signaled,
+            kind,
+            proto,
+            tcptype,
             discarded: false,
+        };
+        if let Some(raddr) = raddr {
+            candidate.source = Source::Related;
+            candidate.other = raddr;
         }
+        candidate
     }
 }
 
@@ -121,17 +124,16 @@ pub fn peer_reflexive(
 {
     Candidate {
         foundation,
-        component: 1,
-        proto,
-        given_priority: Some(priority),
-        addr,
-        given_base: Some(base),
-        kind: CandidateKind::PeerReflexive,
-        raddr: None,
-        tcptype: None,
         ufrag: Some(ufrag),
-        local: base,
+        addr,
+        other: base,
+        priority,
         local_preference: None,
+        component: 1,
+        source: Source::Found,
+        kind: CandidateKind::PeerReflexive,
+        proto,
+        tcptype: None,
         discarded: false,
     }
 }
@@ -139,7 +141,7 @@ pub fn peer_reflexive(
 pub(super) fn new_host(addr: SocketAddr, proto: Protocol, tcptype: Option<TcpType>) -> Candidate
     ensures { result ≡ host_candidate addr proto tcptype }
 {
-    gathered(CandidateKind::Host, proto, addr, addr, addr, None, tcptype)
+    gathered(CandidateKind::Host, proto, addr, addr, tcptype)
 }
 
 pub(super) fn new_server_reflexive(
@@ -150,16 +152,7 @@ pub(super) fn new_server_reflexive(
 ) -> Candidate
     ensures { result ≡ server_reflexive_candidate addr base proto tcptype }
 {
-    let raddr = Some(unspecified_like(addr));
-    gathered(
-        CandidateKind::ServerReflexive,
-        proto,
-        addr,
-        base,
-        base,
-        raddr,
-        tcptype,
-    )
+    gathered(CandidateKind::ServerReflexive, proto, addr, base, tcptype)
 }
 
 pub(super) fn new_relayed(
@@ -170,43 +163,31 @@ pub(super) fn new_relayed(
 ) -> Candidate
     ensures { result ≡ relayed_candidate addr local proto tcptype }
 {
-    let raddr = Some(unspecified_like(addr));
-    gathered(
-        CandidateKind::Relayed,
-        proto,
-        addr,
-        addr,
-        local,
-        raddr,
-        tcptype,
-    )
+    gathered(CandidateKind::Relayed, proto, addr, local, tcptype)
 }
 
 fn gathered(
     kind: CandidateKind,
     proto: Protocol,
     addr: SocketAddr,
-    base: SocketAddr,
     local: SocketAddr,
-    raddr: Option<SocketAddr>,
     tcptype: Option<TcpType>,
 ) -> Candidate
-    requires { IsTrue (is_direct kind) → base ≡ addr }
-    ensures { result ≡ gathered kind proto addr base local raddr tcptype }
+    requires { same_kind kind PeerReflexive ≡ false }
+    ensures { result ≡ gathered kind proto addr (if is_direct kind then addr else local) local (hidden_related kind addr) tcptype }
 {
     Candidate {
         foundation: None,
-        component: 1,
-        proto,
-        given_priority: None,
-        addr,
-        given_base: Some(base),
-        kind,
-        raddr,
-        tcptype,
         ufrag: None,
-        local,
+        addr,
+        other: local,
+        priority: 0,
         local_preference: None,
+        component: 1,
+        source: Source::Found,
+        kind,
+        proto,
+        tcptype,
         discarded: false,
     }
 }

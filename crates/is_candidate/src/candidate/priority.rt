@@ -3,6 +3,7 @@ ghost use Rattle.std.specs.Prelude.{◌≡◌, ◌<◌, ◌≤◌};
 ghost use Rattle.is_candidate.specs.Priorities.{type_preference, local_preference_of, formula, candidate_priority, check_priority, TOO_HIGH};
 
 use super::Candidate;
+use super::internals::given_priority;
 use super::kind::CandidateKind;
 use is_proto::Protocol;
 
@@ -12,7 +13,7 @@ impl Candidate {
     pub fn prio(&self) -> u32
         ensures { result ≡ candidate_priority self.now }
     {
-        match self.given_priority {
+        match given_priority(self) {
             Some(priority) => priority,
             None => formula(self, self.kind),
         }
@@ -25,7 +26,7 @@ pub fn check_priority(c: &Candidate) -> u32
     ensures value { result ≡ check_priority c.now }
     ensures low { candidate_priority c.now < TOO_HIGH → result < TOO_HIGH }
 {
-    match c.given_priority {
+    match given_priority(c) {
         Some(priority) => priority,
         None => formula(c, CandidateKind::PeerReflexive),
     }

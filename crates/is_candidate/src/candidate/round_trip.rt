@@ -3,6 +3,7 @@ ghost use Rattle.std.specs.Prelude.{IfSome};
 ghost use Rattle.is_candidate.specs.RoundTrips.{HasPlainTexts, LineRoundTrips, PartsFit};
 
 use super::Candidate;
+use super::internals::raddr;
 use std::net::{IpAddr, SocketAddr};
 
 /// The line that `to_sdp_string` prints round-trips if foundation and ufrag, when given, are not empty and have no
@@ -15,7 +16,7 @@ pub fn printed_line_round_trips(candidate: &Candidate)
     let _component = candidate.component;
     let _priority = candidate.prio();
     parts_fit(candidate.addr);
-    related_parts_fit(candidate.raddr);
+    related_parts_fit(raddr(candidate));
 }
 
 fn related_parts_fit(raddr: Option<SocketAddr>)

@@ -5,6 +5,7 @@ ghost use Rattle.is_candidate.specs.Sdp.{front_text, place_text, related_text, r
 
 use super::Candidate;
 use super::foundation::Foundation;
+use super::internals::raddr;
 use is_proto::{IceError, TcpType, Text};
 use std::alloc::Global;
 use std::fmt;
@@ -33,7 +34,7 @@ impl fmt::Display for Candidate {
     fn fmt<W: fmt::Write>(&self, f: &mut fmt::Formatter<W>) -> fmt::Result {
         let front = Front(self);
         let place = Place(self);
-        let related = Related(self.raddr);
+        let related = Related(raddr(self));
         let role = Role(self.tcptype);
         let fragment = Fragment(&self.ufrag);
         write!(f, "{front}{place}{related}{role}{fragment}")

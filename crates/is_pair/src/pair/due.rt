@@ -4,6 +4,7 @@ ghost use Rattle.std.specs.Prelude.{◌≡◌, ◌<◌, ◌||◌, ◌+◌, is_so
 ghost use Rattle.is_proto.specs.Times.{later};
 ghost use Rattle.is_pair.specs.Pairs.{is_valid, undue};
 ghost use Rattle.is_pair.specs.Due.{asked, delaying_count, due_time_of, is_heard, is_in_time, is_possible, long_before, next_due_time, computed_due_time};
+ghost use Rattle.is_pair.specs.Due.{early_span, is_asked_first};
 ghost use Rattle.is_pair.specs.Due.{delay_of, has_early_checks, hushed_delay, hushed_interval, is_hushed, modern_delay, repeated_delay, is_beginning, is_early_on, is_early_silence, is_open, is_repeated_early, is_triggered, is_urgent, is_within, is_within_series, is_young, moved_up, silent_count, triggered, usual_delay};
 
 use super::attempt::BindingAttempt;
@@ -25,6 +26,10 @@ const BEGINNING: Duration = Duration(500_000_000);
 /// again after the first one that follows a request of the peer. By then the loss of each of ten checks, or of its response, is unlikely,
 /// and a path that is slow or dead is not filled (RFC 8489, section 6.2.1).
 const EARLY_TIME: Duration = Duration(2_500_000_000);
+
+/// The same for a pair whose first check followed a request of the peer. Whoever sees a request can replay it from any address, so eleven
+/// checks are all that an address gets which never answers: seven early ones, and then one each 2.9 s until the request is 15 s old.
+const ASKED_TIME: Duration = Duration(1_200_000_000);
 
 /// How long a nominated pair that is silent is checked quickly at least, from the time on at which the check after the last answered one was
 /// due at the latest: so long both agents may take to leave the path.
@@ -131,13 +136,13 @@ impl CandidatePair {
         timing.is_modern() && self.is_within_series(now, timing)
     }
 
-    /// Whether less time has passed than a whole series of checks takes: since the first check if there was no response, otherwise since
-    /// the first one without.
+    /// Whether less time has passed than a whole series of checks takes: since the first check if there was no response, unless that followed
+    /// a request; otherwise since the first one without.
     fn is_within_series(&self, now: Instant, timing: &StunTiming) -> bool
         ensures { result ≡ is_within_series now.0 timing.now self.now }
     {
         if self.responses_received == 0 {
-            self.is_young(now, timing)
+            !self.is_asked_first() && self.is_young(now, timing)
         } else {
             is_early_silence(&self.binding_attempts, now, timing)
         }
@@ -183,14 +188,36 @@ impl CandidatePair {
             || is_within(EARLY_TIME, now, self.first_after_request)
     }
 
-    /// The same with the time of a whole series of checks, if that is less. Later on it is not computed.
+    /// Whether the pair's first check followed a request of the peer. So it is with each pair that a request brings.
+    fn is_asked_first(&self) -> bool
+        ensures { result ≡ is_asked_first self.now }
+    {
+        match (self.first_sent, self.first_after_request) {
+            (Some(first), Some(again)) => again <= first,
+            _ => false,
+        }
+    }
+
+    /// Returns how long checks are repeated early.
+    fn early_span(&self, timing: &StunTiming) -> Duration
+        ensures { result.0 ≡ early_span timing.now self.now }
+    {
+        let time = EARLY_TIME.min(timing.timeout());
+        if self.is_asked_first() {
+            ASKED_TIME.min(time)
+        } else {
+            time
+        }
+    }
+
+    /// The same with the time for which checks of this pair are repeated early. Later on it is not computed.
     fn is_early_on(&self, now: Instant, timing: &StunTiming) -> bool
         ensures { result ≡ is_early_on now.0 timing.now self.now }
     {
         if !self.is_begun_lately(now) {
             return false;
         }
-        let time = EARLY_TIME.min(timing.timeout());
+        let time = self.early_span(timing);
         is_within(time, now, self.first_sent) || is_within(time, now, self.first_after_request)
     }
 

@@ -1,6 +1,6 @@
 -- The next timeout of an agent: after the last `handle_timeout` call, and no later than the time at which a
 -- pair is due or its consent ends, except for the pacing interval.
-use Rattle.std.proofs.Common.{length, ◌≡◌, ℕ, ◌*◌, ◌<◌, ◌≤◌, ◌||◌, Bool, true, false, not, List, [], ◌∷◌, map, fold, min, max, nat_le, is_some, Option, Some, None, IsSomeAnd, inl, inr, refl, ap, ◌∙◌, subst, arith}
+use Rattle.std.proofs.Common.{if◌then◌else◌, ◌≡◌, ℕ, ◌*◌, ◌<◌, ◌≤◌, ◌||◌, Bool, true, false, not, List, [], ◌∷◌, map, fold, min, max, nat_le, is_some, Option, Some, None, IsSomeAnd, inl, inr, refl, ap, ◌∙◌, subst, arith}
 use Rattle.std.proofs.lemmas.Bool.Decides.{nat_tests}
 use Rattle.std.specs.Prelude.{MatchBool}
 use Rattle.is_proto.specs.Lists.{Has, is_empty}
@@ -8,8 +8,9 @@ use Rattle.is_proto.specs.Times.{MAX, SECOND, later}
 use Rattle.is_pair.specs.Pairs.{PairRecord}
 use Rattle.is_pair.specs.Due.{asked, call_time_of}
 use Rattle.is_rules.specs.Agent.{AgentRecord}
+use Rattle.is_rules.specs.Charging.{CHARGE, EARLY_TA, has_credit}
 use Rattle.is_rules.specs.Nominating.{is_pressing}
-use Rattle.is_rules.specs.Polls.{early_advance, pacing_of, PollsTimeout, NextTimeoutFrom, NextTimeouts, WaitingTimeout, IdleTimeout, is_waiting, is_idle, soon, earliest_call}
+use Rattle.is_rules.specs.Polls.{early_ta, is_early, pacing_of, PollsTimeout, NextTimeoutFrom, NextTimeouts, WaitingTimeout, IdleTimeout, is_waiting, is_idle, soon, earliest_call}
 use Rattle.is_rules.specs.TimeoutTimes.{soonest, TimeoutIsAhead, TimeoutIsInTime, TimeoutIsGiven, TimeoutIsSoon}
 
 pub either : (b : Bool) {P Q R : Type 0} → MatchBool b P Q → (b ≡ true → P → R) → (b ≡ false → Q → R) → R
@@ -60,18 +61,24 @@ not-idle true pairs full some = absurd (cc)
 not-idle false pairs full some = some
 
 -- the pacing interval early on: no longer than that of the agent, and not zero unless that is
-early-paced : (count advance : ℕ) → early_advance count advance ≤ advance
-early-paced count advance = omega arith
+short-by : (early : Bool) (ta advance : ℕ) → (if early then min advance ta else advance) ≤ advance
+short-by true ta advance = omega arith
+short-by false ta advance = omega arith
 
-early-some : (count advance : ℕ) → 0 < advance → 0 < early_advance count advance
-early-some count advance some = omega (arith, some)
+some-by : (early : Bool) (ta advance : ℕ) → 0 < ta → 0 < advance → 0 < (if early then min advance ta else advance)
+some-by true ta advance some set = omega (arith, some, set)
+some-by false ta advance some set = set
+
+early-some : (short : Bool) → 0 < (if short then EARLY_TA else CHARGE)
+early-some true = omega arith
+early-some false = omega arith
 
 module _ {H P : Type 0} where
   pub pacing-short : (last : ℕ) (a : AgentRecord H P) → pacing_of last a ≤ a.timing_advance
-  pacing-short last a = let short = early-paced (length a.pairs) a.timing_advance in grind (arith, short)
+  pacing-short last a = short-by (is_early last a) (early_ta last a) a.timing_advance
 
   pacing-some : (last : ℕ) (a : AgentRecord H P) → 0 < a.timing_advance → 0 < pacing_of last a
-  pacing-some last a some = let early = early-some (length a.pairs) a.timing_advance some in grind (arith, early, some)
+  pacing-some last a some = some-by (is_early last a) (early_ta last a) a.timing_advance (early-some (has_credit last a)) some
 
   pub timeouts-from : (old new : AgentRecord H P) (last deadline : ℕ) → old.last_time ≡ Some last → PollsTimeout old (Some deadline) new → NextTimeouts old last deadline new
   timeouts-from old new last deadline is h = subst (λ o. NextTimeoutFrom o old (Some deadline) new) is h

@@ -1,5 +1,5 @@
 -- What the calls change before pairs are formed, and what they form.
-use Rattle.std.proofs.Common.{◌≡◌, ℕ, ◌<◌, nat_lt, length, map, position, Option, Some, None, is_some, Ok, Err, refl}
+use Rattle.std.proofs.Common.{◌≡◌, ℕ, ◌<◌, nat_lt, length, map, position, Option, Some, None, Ok, Err, refl}
 use Rattle.is_proto.specs.declared.error.IceError.{IceError}
 use Rattle.is_proto.specs.declared.error.IceError.TheVariants.{PriorityTooHigh}
 use Rattle.is_stun.specs.Timing.{is_modern}

@@ -1,9 +1,8 @@
 -- Each transition leaves the settings, except that a setter sets its own. What mutants/specifications changes is read by tactics.
-use Rattle.std.proofs.Common.{◌≡◌, ℕ, ◌==◌, Bool, true, false, List, Option, Some, None, Ok, Err, inl, inr, ap, sym, subst, ◌∙◌, ◌&&◌, not, if◌then◌else◌, refl}
+use Rattle.std.proofs.Common.{◌≡◌, ℕ, ◌==◌, Bool, true, false, List, Option, Some, None, Ok, Err, inl, inr, ap, sym, subst, ◌∙◌, ◌&&◌, if◌then◌else◌, refl}
 use Rattle.std.specs.List.{list_any}
 use Rattle.std.specs.Prelude.{MatchBool, MatchOption}
 use Rattle.rand_core.specs.Stream.{Stream}
-use Rattle.is_proto.specs.Lists.{same}
 use Rattle.is_candidate.specs.Candidates.{CandidateRecord, candidate_at}
 use Rattle.is_pair.specs.Multiset.{is_valid_at}
 use Rattle.is_pair.specs.Pairs.{PairRecord}
@@ -40,7 +39,7 @@ use Rattle.is_theorems.proofs.RuleEffects.UnchangedSettings.{either}
 use Rattle.is_theorems.proofs.RuleEffects.NominatedPairs.{SelectsPath, selects_path}
 use Rattle.is_theorems.proofs.CallEffects.FailedCallsAndNewAgents.{mtu_kept, local_kept, remote_kept, restart_kept, recreation_kept, enrolment_kept, storing_kept}
 use Rattle.is_theorems.specs.Settings.{SettingsRecord, all_settings_of, SettingsAreSet}
-use Rattle.is_theorems.proofs.RuleEffects.NotedErrors.{recoded, by_failure}
+use Rattle.is_theorems.proofs.RuleEffects.NotedErrors.{by_failure}
 use Rattle.is_rules.specs.Leaving.{path_left}
 
 module _ {H P : Type 0} where

@@ -2,7 +2,7 @@
 use Rattle.std.proofs.Common.{if◌then◌else◌, [], ◌∷◌, ◌++◌, ◌≡◌, ℕ, ◌==◌, ◌≤◌, ◌&&◌, ◌||◌, Bool, true, false, not, List, Option, Some, None, is_some, Result, Ok, Err, inl, inr, ◌⊎◌, refl, ap, sym, ◌∙◌, subst}
 use Rattle.std.specs.Prelude.{MatchBool, MatchOption, IsSomeAnd}
 use Rattle.rand_core.specs.Stream.{Stream}
-use Rattle.is_proto.specs.Lists.{Has, same}
+use Rattle.is_proto.specs.Lists.{Has}
 use Rattle.is_proto.specs.declared.error.IceError.{IceError}
 use Rattle.is_candidate.specs.Candidates.{CandidateRecord, IsBased}
 use Rattle.is_pair.specs.Checks.{Check}
@@ -56,7 +56,7 @@ use Rattle.is_theorems.proofs.CallEffects.TimeoutsAndSuccesses.{CheckOut, mainta
 use Rattle.is_theorems.proofs.CallEffects.ServedRequests.{Replied, ConflictSent, AcceptedNominations, serves_does, notes, notes_and_switches}
 use Rattle.is_theorems.proofs.CallEffects.ChangedCandidates.{local_goes, remote_goes, without_goes, reselects_goes, recreates_goes, restarts_goes, skips_goes, rtos_goes, polls_goes}
 use Rattle.is_rules.specs.Nominating.{numbers}
-use Rattle.is_theorems.proofs.RuleEffects.NotedErrors.{recoded, by_failure}
+use Rattle.is_theorems.proofs.RuleEffects.NotedErrors.{by_failure}
 
 or_true : (a b : Bool) → (a || b) ≡ true → (a ≡ true) ⊎ (b ≡ true)
 or_true true b h = inl refl

@@ -1,5 +1,5 @@
 -- The two theorems about effects, for every call.
-use Rattle.std.proofs.Common.{◌≡◌, ℕ, Bool, true, false, List, [], ◌∷◌, ◌++◌, Option, Some, None, Ok, Err, inl, inr, ◌⊎◌, refl, ap, sym, ◌∙◌, subst, if◌then◌else◌, ◌&&◌, not}
+use Rattle.std.proofs.Common.{◌≡◌, ℕ, Bool, true, false, List, [], ◌∷◌, ◌++◌, Option, Some, None, Ok, Err, inl, inr, ◌⊎◌, refl, ap, sym, ◌∙◌, subst, if◌then◌else◌}
 use Rattle.std.specs.Prelude.{MatchOption}
 use Rattle.rand_core.specs.Stream.{Stream}
 use Rattle.is_proto.specs.Lists.{Has, same}
@@ -42,7 +42,6 @@ use Rattle.is_theorems.proofs.CallEffects.PairsAndSelectedPaths.{Posted}
 use Rattle.is_theorems.proofs.CallEffects.PathEffects.{path_effect}
 use Rattle.is_theorems.proofs.CallEffects.ReceivedAndOwed.{accepts, leaves_unaccepted, rejects, waits_has, waits_short, brought_or_waited, owes, clears_pairs, clears_quiet}
 use Rattle.is_theorems.proofs.PathSelection.NominationPoints.{takes_valid, points_top}
-use Rattle.is_rules.specs.Nominating.{numbers}
 use Rattle.is_theorems.proofs.RuleEffects.NotedErrors.{recoded, by_failure}
 use Rattle.is_rules.specs.Roles.{switched}
 

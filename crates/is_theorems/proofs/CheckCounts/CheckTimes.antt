@@ -6,7 +6,6 @@ use Rattle.std.proofs.Math.Nat.{pow-le-pow_right, mul-le-mul_left}
 use Rattle.is_proto.specs.Times.{MAX, MILLISECOND, later}
 use Rattle.is_stun.specs.declared.timing.StunTiming.{StunTiming}
 use Rattle.is_stun.specs.Timing.{EARLY_RETRANSMITS, delay_millis, early_delay, is_modern, resend_delay}
-use Rattle.is_pair.specs.Due.{early_time}
 use Rattle.is_theorems.specs.SilentPairs.{check_time, least_delay, rto_after}
 
 -- ---- the RTO
@@ -43,8 +42,8 @@ never-longer : (b : Bool) (short long : ℕ) → either_delay b short long ≤ l
 never-longer true short long = omega arith
 never-longer false short long = omega arith
 
-pub least-within : (t : StunTiming) (after n : ℕ) → least_delay t after n ≤ rto_after t n
-least-within t after n = never-longer (is_modern t && nat_lt after (early_time t)) (early_delay n) (rto_after t n)
+pub least-within : (t : StunTiming) (span after n : ℕ) → least_delay t span after n ≤ rto_after t n
+least-within t span after n = never-longer (is_modern t && nat_lt after span) (early_delay n) (rto_after t n)
 
 delays-rise : (m x y : Bool) (short long : ℕ) → (y ≡ true → x ≡ true) → either_delay (m && x) short long ≤ either_delay (m && y) short long
 delays-rise false x y short long h = omega arith
@@ -57,30 +56,30 @@ sooner-too : (a b e : ℕ) → a ≤ b → nat_lt b e ≡ true → nat_lt a e �
 sooner-too a b e le h = grind (arith, nat_tests, le, h)
 
 -- later on it is not shorter
-pub least-rising : (t : StunTiming) (n a b : ℕ) → a ≤ b → least_delay t a n ≤ least_delay t b n
-least-rising t n a b le = delays-rise (is_modern t) (nat_lt a (early_time t)) (nat_lt b (early_time t)) (early_delay n) (rto_after t n) (sooner-too a b (early_time t) le)
+pub least-rising : (t : StunTiming) (span n a b : ℕ) → a ≤ b → least_delay t span a n ≤ least_delay t span b n
+least-rising t span n a b le = delays-rise (is_modern t) (nat_lt a span) (nat_lt b span) (early_delay n) (rto_after t n) (sooner-too a b span le)
 
 -- ---- the earliest times
 
-pub time-first : (t : StunTiming) → check_time t 1 ≡ 0
+pub time-first : (t : StunTiming) (span : ℕ) → check_time t span 1 ≡ 0
 unfolding check_time
-time-first t = refl
+time-first t span = refl
 
-pub time-next : (t : StunTiming) (n : ℕ) → 0 < n → check_time t (suc n) ≡ check_time t n + least_delay t (check_time t n) n
+pub time-next : (t : StunTiming) (span n : ℕ) → 0 < n → check_time t span (suc n) ≡ check_time t span n + least_delay t span (check_time t span n) n
 unfolding check_time
-time-next t zero some = let no : ⊥ = omega (arith, some) in absurd no
-time-next t (suc n) some = refl
+time-next t span zero some = let no : ⊥ = omega (arith, some) in absurd no
+time-next t span (suc n) some = refl
 
 -- ---- saturated times
 
 -- a check that is sent so long after another is no sooner than the next one on schedule
-pub later-next : (t : StunTiming) (n first sent now : ℕ) → 0 < n → later first (check_time t n) ≤ sent → later sent (least_delay t (sent - first) n) ≤ now
-    → later first (check_time t (suc n)) ≤ now
-later-next t n first sent now some late due = elim (cases_lt sent MAX) [
+pub later-next : (t : StunTiming) (span n first sent now : ℕ) → 0 < n → later first (check_time t span n) ≤ sent → later sent (least_delay t span (sent - first) n) ≤ now
+    → later first (check_time t span (suc n)) ≤ now
+later-next t span n first sent now some late due = elim (cases_lt sent MAX) [
   | inl early ↦
-      (let after : check_time t n ≤ sent - first = omega (arith, late, early) in
-      let least = least-rising t n (check_time t n) (sent - first) after in
-      let next = time-next t n some in
+      (let after : check_time t span n ≤ sent - first = omega (arith, late, early) in
+      let least = least-rising t span n (check_time t span n) (sent - first) after in
+      let next = time-next t span n some in
       omega (arith, late, early, due, least, next))
   | inr past ↦ omega (arith, past, due)
 ]

@@ -1,6 +1,6 @@
 -- Only a `handle_timeout` call that serves no early request sends a check, and its time is the last time then. All other calls leave the
--- last time, except that one that serves an early request may be the first.
-use Rattle.std.proofs.Common.{◌≡◌, ℕ, Bool, true, false, List, Option, Some, None, Ok, Err, inl, inr, ◌⊎◌, refl, ap, ◌∙◌, unwrap_or, if◌then◌else◌}
+-- last time, except that one that serves an early request may be the first. Each check is charged.
+use Rattle.std.proofs.Common.{◌≡◌, ℕ, Bool, true, false, List, Option, Some, None, Ok, Err, inl, inr, ◌⊎◌, refl, ap, sym, ◌∙◌, unwrap_or, if◌then◌else◌}
 use Rattle.std.specs.Prelude.{MatchOption}
 use Rattle.std.specs.Option.{option_map_or}
 use Rattle.rand_core.specs.Stream.{Stream}
@@ -12,6 +12,7 @@ use Rattle.is_stun.specs.Timing.{is_modern}
 use Rattle.is_rules.specs.Accepting.{Takes}
 use Rattle.is_rules.specs.Agent.{AgentRecord}
 use Rattle.is_rules.specs.Answers.{HandlesFailure}
+use Rattle.is_rules.specs.Charging.{charged_after}
 use Rattle.is_rules.specs.declared.credentials.IceCreds.{IceCreds}
 use Rattle.is_rules.specs.declared.emitted.Emitted.{Emitted}
 use Rattle.is_rules.specs.declared.emitted.Issued.{Issued}
@@ -171,3 +172,21 @@ module _ {H P : Type 0} where
         timed now (request_at now old) (timeout_begun now old) new s t emitted e (ap (λ (y : Entry). sends_check y) is) h
     timeout-timed now old new s t e (Err error, emitted, is, (may, nothing, made, drawn)) =
         inr (entered _ e is (of _ emitted nothing refl), ap (λ (a : AgentRecord H P). a.last_time) made)
+
+    -- Each check is charged, and nothing else is.
+    pub timeout-charged : (now : ℕ) (old new : AgentRecord H P) (s t : Stream) (e : Entry) → Step mac answers old s (HandleTimeout now) e new t
+        → new.charged_until ≡ (if sends_check e then charged_after now old else old.charged_until)
+    timeout-charged now old new s t e (Ok _, emitted, is, h) = by (request_at now old) h where
+      after : Bool → ℕ
+      after sends = if sends then charged_after now old else old.charged_until
+
+      by : (request : Option RequestRecord)
+          → MatchOption request (MaintainsPairs mac now (timeout_begun now old) s emitted new t) (λ q. ServesQueued mac q (at_request now (timeout_begun now old)) s emitted new t)
+          → new.charged_until ≡ after (sends_check e)
+      by None m = ap (λ (p : Pace). p.charged_until) (maintains mac now (timeout_begun now old) new s t emitted m) ∙ ap (λ (y : Entry). after (sends_check y)) (sym is)
+      by (Some q) m =
+          ap (λ (p : Pace). p.charged_until) (serves mac q _ new emitted m.0)
+          ∙ ap after (sym (entered _ e is (responds mac q _ new emitted m.0)))
+    timeout-charged now old new s t e (Err error, emitted, is, (may, nothing, made, drawn)) =
+        ap (λ (a : AgentRecord H P). a.charged_until) made
+        ∙ ap (λ b. if b then charged_after now old else old.charged_until) (sym (entered _ e is (of _ emitted nothing refl)))

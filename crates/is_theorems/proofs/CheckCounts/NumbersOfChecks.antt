@@ -5,7 +5,7 @@ use Rattle.is_stun.specs.declared.timing.StunTiming.{StunTiming}
 use Rattle.is_stun.specs.Timing.{delay_millis, is_modern, timeout_of}
 use Rattle.is_pair.specs.Due.{early_time}
 use Rattle.is_rules.specs.Settings.{modern_settings, original_settings}
-use Rattle.is_theorems.specs.SilentPairs.{EndsWith, IsPastRequests, NumbersOfChecks, check_time, least_delay, timing_of}
+use Rattle.is_theorems.specs.SilentPairs.{EndsWith, IsPastRequests, NumbersOfChecks, asked_time, check_time, least_delay, timing_of}
 use Rattle.is_theorems.proofs.CheckCounts.CheckTimes.{time-first, time-next}
 
 never : {X : Type 0} → false ≡ true → X
@@ -25,58 +25,88 @@ modern = timing_of modern_settings
 abbrev original : StunTiming
 original = timing_of original_settings
 
+-- how long checks are repeated early
+abbrev LONG : ℕ
+LONG = early_time modern
+
+abbrev SHORT : ℕ
+SHORT = asked_time modern
+
+abbrev USUAL : ℕ
+USUAL = early_time original
+
 -- the next time on schedule
-then : (n at next : ℕ) → 0 < n → check_time modern n ≡ at → at + least_delay modern at n ≡ next → check_time modern (suc n) ≡ next
-then n at next some is delay = time-next modern n some ∙ (ap (λ k. k + least_delay modern k n) is ∙ delay)
+then : (t : StunTiming) (span n at next : ℕ) → 0 < n → check_time t span n ≡ at → at + least_delay t span at n ≡ next → check_time t span (suc n) ≡ next
+then t span n at next some is delay = time-next t span n some ∙ (ap (λ k. k + least_delay t span k n) is ∙ delay)
 
-usual-then : (n at next : ℕ) → 0 < n → check_time original n ≡ at → at + least_delay original at n ≡ next → check_time original (suc n) ≡ next
-usual-then n at next some is delay = time-next original n some ∙ (ap (λ k. k + least_delay original k n) is ∙ delay)
-
-original-10 : check_time original 10 ≡ 18750 * MILLISECOND
+original-10 : check_time original USUAL 10 ≡ 18750 * MILLISECOND
 unfolding timeout_of delay_millis
 original-10 =
-    let t2 = usual-then 1 0 (250 * MILLISECOND) (omega arith) (time-first original) refl in
-    let t3 = usual-then 2 (250 * MILLISECOND) (750 * MILLISECOND) (omega arith) t2 refl in
-    let t4 = usual-then 3 (750 * MILLISECOND) (1750 * MILLISECOND) (omega arith) t3 refl in
-    let t5 = usual-then 4 (1750 * MILLISECOND) (3750 * MILLISECOND) (omega arith) t4 refl in
-    let t6 = usual-then 5 (3750 * MILLISECOND) (6750 * MILLISECOND) (omega arith) t5 refl in
-    let t7 = usual-then 6 (6750 * MILLISECOND) (9750 * MILLISECOND) (omega arith) t6 refl in
-    let t8 = usual-then 7 (9750 * MILLISECOND) (12750 * MILLISECOND) (omega arith) t7 refl in
-    let t9 = usual-then 8 (12750 * MILLISECOND) (15750 * MILLISECOND) (omega arith) t8 refl in
-    usual-then 9 (15750 * MILLISECOND) (18750 * MILLISECOND) (omega arith) t9 refl
+    let t2 = then original USUAL 1 0 (250 * MILLISECOND) (omega arith) (time-first original USUAL) refl in
+    let t3 = then original USUAL 2 (250 * MILLISECOND) (750 * MILLISECOND) (omega arith) t2 refl in
+    let t4 = then original USUAL 3 (750 * MILLISECOND) (1750 * MILLISECOND) (omega arith) t3 refl in
+    let t5 = then original USUAL 4 (1750 * MILLISECOND) (3750 * MILLISECOND) (omega arith) t4 refl in
+    let t6 = then original USUAL 5 (3750 * MILLISECOND) (6750 * MILLISECOND) (omega arith) t5 refl in
+    let t7 = then original USUAL 6 (6750 * MILLISECOND) (9750 * MILLISECOND) (omega arith) t6 refl in
+    let t8 = then original USUAL 7 (9750 * MILLISECOND) (12750 * MILLISECOND) (omega arith) t7 refl in
+    let t9 = then original USUAL 8 (12750 * MILLISECOND) (15750 * MILLISECOND) (omega arith) t8 refl in
+    then original USUAL 9 (15750 * MILLISECOND) (18750 * MILLISECOND) (omega arith) t9 refl
 
-time-18 : check_time modern 18 ≡ 25700 * MILLISECOND
+time-18 : check_time modern LONG 18 ≡ 25700 * MILLISECOND
 unfolding timeout_of delay_millis
 time-18 =
-    let t2 = then 1 0 (100 * MILLISECOND) (omega arith) (time-first modern) refl in
-    let t3 = then 2 (100 * MILLISECOND) (200 * MILLISECOND) (omega arith) t2 refl in
-    let t4 = then 3 (200 * MILLISECOND) (400 * MILLISECOND) (omega arith) t3 refl in
-    let t5 = then 4 (400 * MILLISECOND) (750 * MILLISECOND) (omega arith) t4 refl in
-    let t6 = then 5 (750 * MILLISECOND) (1100 * MILLISECOND) (omega arith) t5 refl in
-    let t7 = then 6 (1100 * MILLISECOND) (1450 * MILLISECOND) (omega arith) t6 refl in
-    let t8 = then 7 (1450 * MILLISECOND) (1800 * MILLISECOND) (omega arith) t7 refl in
-    let t9 = then 8 (1800 * MILLISECOND) (2150 * MILLISECOND) (omega arith) t8 refl in
-    let t10 = then 9 (2150 * MILLISECOND) (2500 * MILLISECOND) (omega arith) t9 refl in
-    let t11 = then 10 (2500 * MILLISECOND) (5400 * MILLISECOND) (omega arith) t10 refl in
-    let t12 = then 11 (5400 * MILLISECOND) (8300 * MILLISECOND) (omega arith) t11 refl in
-    let t13 = then 12 (8300 * MILLISECOND) (11200 * MILLISECOND) (omega arith) t12 refl in
-    let t14 = then 13 (11200 * MILLISECOND) (14100 * MILLISECOND) (omega arith) t13 refl in
-    let t15 = then 14 (14100 * MILLISECOND) (17000 * MILLISECOND) (omega arith) t14 refl in
-    let t16 = then 15 (17000 * MILLISECOND) (19900 * MILLISECOND) (omega arith) t15 refl in
-    let t17 = then 16 (19900 * MILLISECOND) (22800 * MILLISECOND) (omega arith) t16 refl in
-    then 17 (22800 * MILLISECOND) (25700 * MILLISECOND) (omega arith) t17 refl
+    let t2 = then modern LONG 1 0 (100 * MILLISECOND) (omega arith) (time-first modern LONG) refl in
+    let t3 = then modern LONG 2 (100 * MILLISECOND) (200 * MILLISECOND) (omega arith) t2 refl in
+    let t4 = then modern LONG 3 (200 * MILLISECOND) (400 * MILLISECOND) (omega arith) t3 refl in
+    let t5 = then modern LONG 4 (400 * MILLISECOND) (750 * MILLISECOND) (omega arith) t4 refl in
+    let t6 = then modern LONG 5 (750 * MILLISECOND) (1100 * MILLISECOND) (omega arith) t5 refl in
+    let t7 = then modern LONG 6 (1100 * MILLISECOND) (1450 * MILLISECOND) (omega arith) t6 refl in
+    let t8 = then modern LONG 7 (1450 * MILLISECOND) (1800 * MILLISECOND) (omega arith) t7 refl in
+    let t9 = then modern LONG 8 (1800 * MILLISECOND) (2150 * MILLISECOND) (omega arith) t8 refl in
+    let t10 = then modern LONG 9 (2150 * MILLISECOND) (2500 * MILLISECOND) (omega arith) t9 refl in
+    let t11 = then modern LONG 10 (2500 * MILLISECOND) (5400 * MILLISECOND) (omega arith) t10 refl in
+    let t12 = then modern LONG 11 (5400 * MILLISECOND) (8300 * MILLISECOND) (omega arith) t11 refl in
+    let t13 = then modern LONG 12 (8300 * MILLISECOND) (11200 * MILLISECOND) (omega arith) t12 refl in
+    let t14 = then modern LONG 13 (11200 * MILLISECOND) (14100 * MILLISECOND) (omega arith) t13 refl in
+    let t15 = then modern LONG 14 (14100 * MILLISECOND) (17000 * MILLISECOND) (omega arith) t14 refl in
+    let t16 = then modern LONG 15 (17000 * MILLISECOND) (19900 * MILLISECOND) (omega arith) t15 refl in
+    let t17 = then modern LONG 16 (19900 * MILLISECOND) (22800 * MILLISECOND) (omega arith) t16 refl in
+    then modern LONG 17 (22800 * MILLISECOND) (25700 * MILLISECOND) (omega arith) t17 refl
 
-time-19 : check_time modern 19 ≡ 28600 * MILLISECOND
+time-19 : check_time modern LONG 19 ≡ 28600 * MILLISECOND
 unfolding timeout_of delay_millis
-time-19 = then 18 (25700 * MILLISECOND) (28600 * MILLISECOND) (omega arith) time-18 refl
+time-19 = then modern LONG 18 (25700 * MILLISECOND) (28600 * MILLISECOND) (omega arith) time-18 refl
+
+-- after a request
+asked-11 : check_time modern SHORT 11 ≡ 13050 * MILLISECOND
+unfolding timeout_of delay_millis
+asked-11 =
+    let t2 = then modern SHORT 1 0 (100 * MILLISECOND) (omega arith) (time-first modern SHORT) refl in
+    let t3 = then modern SHORT 2 (100 * MILLISECOND) (200 * MILLISECOND) (omega arith) t2 refl in
+    let t4 = then modern SHORT 3 (200 * MILLISECOND) (400 * MILLISECOND) (omega arith) t3 refl in
+    let t5 = then modern SHORT 4 (400 * MILLISECOND) (750 * MILLISECOND) (omega arith) t4 refl in
+    let t6 = then modern SHORT 5 (750 * MILLISECOND) (1100 * MILLISECOND) (omega arith) t5 refl in
+    let t7 = then modern SHORT 6 (1100 * MILLISECOND) (1450 * MILLISECOND) (omega arith) t6 refl in
+    let t8 = then modern SHORT 7 (1450 * MILLISECOND) (4350 * MILLISECOND) (omega arith) t7 refl in
+    let t9 = then modern SHORT 8 (4350 * MILLISECOND) (7250 * MILLISECOND) (omega arith) t8 refl in
+    let t10 = then modern SHORT 9 (7250 * MILLISECOND) (10150 * MILLISECOND) (omega arith) t9 refl in
+    then modern SHORT 10 (10150 * MILLISECOND) (13050 * MILLISECOND) (omega arith) t10 refl
+
+asked-12 : check_time modern SHORT 12 ≡ 15950 * MILLISECOND
+unfolding timeout_of delay_millis
+asked-12 = then modern SHORT 11 (13050 * MILLISECOND) (15950 * MILLISECOND) (omega arith) asked-11 refl
 
 series-is : timeout_of modern ≡ 26700 * MILLISECOND
 unfolding timeout_of delay_millis
 series-is = refl
 
-early-is : early_time modern ≡ 2500 * MILLISECOND
+early-is : LONG ≡ 2500 * MILLISECOND
 unfolding timeout_of delay_millis
 early-is = refl
+
+asked-is : SHORT ≡ 1200 * MILLISECOND
+unfolding timeout_of delay_millis
+asked-is = refl
 
 original-past : IsPastRequests original 9
 original-past = let next = original-10 in omega (arith, next)
@@ -96,4 +126,9 @@ numbers-of-checks = (
     },
     modern-past,
   ),
+  record {
+    enough = omega arith;
+    past = (let next = asked-12 in omega (arith, next));
+    rare = λ _. (let last = asked-11 in let early = asked-is in omega (arith, last, early));
+  },
 )

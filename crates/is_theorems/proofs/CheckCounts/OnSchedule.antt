@@ -1,65 +1,28 @@
 -- A pair without a response is checked no sooner than on schedule while no request arrives on it, and so gets few checks.
-use Rattle.std.proofs.Common.{◌≡◌, ℕ, suc, ◌+◌, ◌-◌, ◌*◌, ◌<◌, ◌≤◌, ◌==◌, ◌&&◌, ◌||◌, Bool, true, false, min, nat_lt, List, length, Option, Some, None, unwrap_or, inl, inr, ◌⊎◌, refl, ap, sym, ◌∙◌, subst, arith, if◌then◌else◌}
+use Rattle.std.proofs.Common.{◌≡◌, ℕ, suc, ◌+◌, ◌-◌, ◌*◌, ◌<◌, ◌≤◌, ◌==◌, ◌&&◌, ◌||◌, Bool, true, false, not, min, nat_lt, List, length, Option, Some, None, unwrap_or, inl, inr, ◌⊎◌, refl, ap, sym, ◌∙◌, subst, arith, if◌then◌else◌}
 use Rattle.std.specs.Option.{option_map_or}
 use Rattle.std.proofs.lemmas.Bool.{cases_lt, eqb-true}
-use Rattle.is_proto.specs.Lists.{Has}
 use Rattle.is_proto.specs.Times.{MAX, SECOND, later}
 use Rattle.is_stun.specs.declared.timing.StunTiming.{StunTiming}
 use Rattle.is_stun.specs.Timing.{early_delay, is_modern, last_resend_delay, resend_delay, timeout_of}
 use Rattle.is_pair.specs.Checks.{Check, last_check, unanswered_count}
-use Rattle.is_pair.specs.Due.{asked, computed_due_time, delay_of, due_time_of, early_time, is_due, is_early_on, is_early_silence, is_heard, is_in_time, is_possible, is_repeated_early, is_silent, is_within, is_within_series, is_young, silent_count, usual_delay, hushed_delay, is_hushed, repeated_delay}
-use Rattle.is_pair.specs.Pairs.{PairRecord, check_of, checked, is_recent, new_pair, is_nominated, is_valid}
+use Rattle.is_pair.specs.Due.{asked, computed_due_time, delay_of, due_time_of, early_span, is_asked_first, is_due, is_early_on, is_early_silence, is_heard, is_in_time, is_possible, is_repeated_early, is_silent, is_within, is_within_series, is_young, silent_count, usual_delay, hushed_delay, is_hushed, repeated_delay}
+use Rattle.is_pair.specs.Pairs.{PairRecord, check_of, checked, is_recent, is_nominated, is_valid}
 use Rattle.is_pair.specs.States.{is_nominating, nomination_once_sent}
-use Rattle.is_rules.specs.Sound.{is_started_state}
-use Rattle.is_theorems.specs.SilentPairs.{EndsWith, IsPastRequests, check_time, least_delay, rto_after}
+use Rattle.is_theorems.specs.SilentPairs.{check_time, least_delay, rto_after}
+use Rattle.is_theorems.proofs.CheckCounts.PastTimes.{IsPast}
+use Rattle.is_theorems.proofs.CheckCounts.Bounds.{Bound, Covers, Ends, IsPastRequest, asked-first, covered, span_of}
 use Rattle.is_theorems.proofs.CheckCounts.CheckTimes.{early-rising, later-next, least-within, rto-rising, rto-within, time-first}
-use Rattle.is_theorems.proofs.CheckCounts.SentChecks.{no-case, none-some, some-is, lt-of, not-lt, is-lt, all-free, sent-last, sent-length, sent-free, sent-started, sent-calm, calm-next, AreOpen}
-
--- ---- what is followed
-
--- a pair, with the requests and the checks that it had
-pub record Watch : Type 0 where
-  pub number : ℕ
-  pub requests : ℕ
-  pub count : ℕ
-
--- nothing in the pair is later than this, and no check got a response
-pub record IsPast (by : ℕ) (p : PairRecord) : Type 0 where
-  pub answers : p.answers ≡ 0
-  pub quiet : p.requests ≡ 0 → p.last_request ≡ None
-  pub heard : (at : ℕ) → p.last_request ≡ Some at → at ≤ by
-  pub first : (at : ℕ) → p.first_sent ≡ Some at → at ≤ by
-  pub again : (at : ℕ) → p.first_after_request ≡ Some at → at ≤ by
-  pub unanswered : AreOpen p.checks
-  pub started : (c : Check) → Has p.checks c → is_started_state p.state ≡ true
-
-pub past-on : (by at : ℕ) (p : PairRecord) → by ≤ at → IsPast by p → IsPast at p
-past-on by at p le h = record {
-  answers = h.answers;
-  quiet = h.quiet;
-  heard = λ k is. (let below = h.heard k is in omega (arith, below, le));
-  first = λ k is. (let below = h.first k is in omega (arith, below, le));
-  again = λ k is. (let below = h.again k is in omega (arith, below, le));
-  unanswered = h.unanswered;
-  started = h.started;
-}
-
-pub new-past : (by number local remote priority : ℕ) → IsPast by (new_pair number local remote priority)
-new-past by number local remote priority = record {
-  answers = refl;
-  quiet = λ _. refl;
-  heard = λ at is. none-some at is;
-  first = λ at is. none-some at is;
-  again = λ at is. none-some at is;
-  unanswered = λ c has. absurd has;
-  started = λ c has. absurd has;
-}
+use Rattle.is_theorems.proofs.CheckCounts.SentChecks.{no-case, none-some, some-is, lt-of, not-lt, is-lt, all-free, sent-last, sent-length, sent-free, sent-started, sent-calm, calm-next}
 
 -- the first check after a request, if there was one
 abbrev pub Again : PairRecord → ℕ → Type 0
 Again p start = ((p.requests ≡ 0) × (p.first_after_request ≡ None)) ⊎ ((at : ℕ) × (p.first_after_request ≡ Some at) × (at ≤ start))
 
-module _ (t : StunTiming) (most : ℕ) where
+module _ (t : StunTiming) (bound : Bound) where
+  abbrev span : ℕ
+  span = span_of t bound
+
   -- Since the time `start` checks were sent on schedule, the last one by the time `by`, and so will be the next one. Requests came before.
   pub record HasRun (base by : ℕ) (p : PairRecord) : Type 0 where
     pub start : ℕ
@@ -72,26 +35,26 @@ module _ (t : StunTiming) (most : ℕ) where
     pub heard : (at : ℕ) → p.last_request ≡ Some at → at ≤ start
     pub stored : last_check p.checks ≡ Some last
     pub some : 0 < count
-    pub few : count ≤ most
+    pub few : count ≤ bound.checks
     pub sent : p.checks_sent ≤ base + count
     pub least : min count 4 ≤ p.checks_sent
-    pub late : later start (check_time t count) ≤ last.sent
+    pub late : later start (check_time t span count) ≤ last.sent
     pub past : last.sent ≤ by
     pub enough : min count t.max_retransmits ≤ length p.checks
     pub calm : nomination_once_sent p.nomination ≡ p.nomination
-    pub planned : (due : ℕ) → p.due ≡ Some due → later last.sent (least_delay t (last.sent - start) count) ≤ due
+    pub planned : (due : ℕ) → p.due ≡ Some due → later last.sent (least_delay t span (last.sent - start) count) ≤ due
 
   -- or no check was sent
   abbrev pub Keeps : ℕ → ℕ → PairRecord → Type 0
   Keeps base by p = (p.checks_sent ≡ base) ⊎ HasRun base by p
 
-  pub few-of : (base by : ℕ) (p : PairRecord) → Keeps base by p → p.checks_sent ≤ base + most
+  pub few-of : (base by : ℕ) (p : PairRecord) → Keeps base by p → p.checks_sent ≤ base + bound.checks
   few-of base by p (inl same) = omega (arith, same)
   few-of base by p (inr h) = let few = h.few in let sent = h.sent in omega (arith, few, sent)
 
   -- a pair with the same checks and requests, whose due time is not sooner
   pub run-as : (base by at : ℕ) (p : PairRecord) (due : Option ℕ) (error : Option ℕ) (priority : ℕ) → by ≤ at → (h : HasRun base by p)
-      → ((k : ℕ) → due ≡ Some k → later h.last.sent (least_delay t (h.last.sent - h.start) h.count) ≤ k) → HasRun base at (record p { due = due; last_error = error; priority = priority })
+      → ((k : ℕ) → due ≡ Some k → later h.last.sent (least_delay t span (h.last.sent - h.start) h.count) ≤ k) → HasRun base at (record p { due = due; last_error = error; priority = priority })
   run-as base by at p due error priority le h planned = record {
     start = h.start;
     count = h.count;
@@ -115,12 +78,22 @@ module _ (t : StunTiming) (most : ℕ) where
 
   -- ---- when it is due
 
-  module _ (base by now clock : ℕ) (p : PairRecord) (clean : IsPast clock p) (h : HasRun base by p) (passes : by ≤ now) (invalid : is_valid p ≡ false) where
+  module _ (base by now clock : ℕ) (p : PairRecord) (clean : IsPast clock p) (h : HasRun base by p) (covers : Covers bound p) (passes : by ≤ now) (invalid : is_valid p ≡ false) where
+    -- whether its first check followed a request is known
+    first-asked : bound.asked ≡ true → is_asked_first p ≡ true
+    first-asked asked = elim h.again [
+      | inl none ↦ (let some = (covers asked).0 in let zero = none.0 in let no : ⊥ = omega (arith, some, zero) in absurd no)
+      | inr some ↦ asked-first p h.first some.0 h.began some.1 (covers asked).1
+    ]
+
+    short : early_span t p ≤ span
+    short = covered t bound p first-asked
+
     abbrev gap : ℕ
     gap = h.last.sent - h.start
 
     abbrev early-test : Bool
-    early-test = is_within (early_time t) now p.first_sent || is_within (early_time t) now p.first_after_request
+    early-test = is_within (early_span t p) now p.first_sent || is_within (early_span t p) now p.first_after_request
 
     repeated-is : is_repeated_early now t p ≡ early-test
     repeated-is = ap (λ a. if a == 0 then is_early_on now t p else is_nominating p.nomination && nat_lt (unanswered_count p.checks) t.max_retransmits) clean.answers
@@ -138,25 +111,25 @@ module _ (t : StunTiming) (most : ℕ) where
       at-least true = rto-rising t (min h.count t.max_retransmits) (unanswered_count p.checks) counted-enough
       at-least false = rto-rising t (min h.count t.max_retransmits) (length p.checks) h.enough
 
-    within-early : (at : ℕ) → at ≤ h.start → nat_lt now (later at (early_time t)) ≡ true → now < later h.start (early_time t)
-    within-early at le is = let lt = lt-of now (later at (early_time t)) is in omega (arith, le, lt)
+    within-early : (at : ℕ) → at ≤ h.start → nat_lt now (later at (early_span t p)) ≡ true → now < later h.start span
+    within-early at le is = let lt = lt-of now (later at (early_span t p)) is in let less = short in omega (arith, le, lt, less)
 
-    first-early : is_within (early_time t) now p.first_sent ≡ true → now < later h.start (early_time t)
-    first-early is = within-early h.first h.before (sym (ap (λ o. is_within (early_time t) now o) h.began) ∙ is)
+    first-early : is_within (early_span t p) now p.first_sent ≡ true → now < later h.start span
+    first-early is = within-early h.first h.before (sym (ap (λ o. is_within (early_span t p) now o) h.began) ∙ is)
 
-    again-early : is_within (early_time t) now p.first_after_request ≡ true → now < later h.start (early_time t)
+    again-early : is_within (early_span t p) now p.first_after_request ≡ true → now < later h.start span
     again-early is = elim h.again [
-      | inl none ↦ no-case (sym (ap (λ o. is_within (early_time t) now o) none.1) ∙ is)
-      | inr some ↦ within-early some.0 some.2 (sym (ap (λ o. is_within (early_time t) now o) some.1) ∙ is)
+      | inl none ↦ no-case (sym (ap (λ o. is_within (early_span t p) now o) none.1) ∙ is)
+      | inr some ↦ within-early some.0 some.2 (sym (ap (λ o. is_within (early_span t p) now o) some.1) ∙ is)
     ]
 
-    early-only : (a b : Bool) → (a ≡ true → now < later h.start (early_time t)) → (b ≡ true → now < later h.start (early_time t)) → (a || b) ≡ true → now < later h.start (early_time t)
+    early-only : (a b : Bool) → (a ≡ true → now < later h.start span) → (b ≡ true → now < later h.start span) → (a || b) ≡ true → now < later h.start span
     early-only true b one two is = one refl
     early-only false true one two is = two refl
     early-only false false one two is = no-case is
 
-    is-early : now < later h.start (early_time t) → nat_lt gap (early_time t) ≡ true
-    is-early lt = is-lt gap (early_time t) (sooner h.start h.last.sent (early_time t) (check_time t h.count) h.past h.late lt) where
+    is-early : now < later h.start span → nat_lt gap span ≡ true
+    is-early lt = is-lt gap span (sooner h.start h.last.sent span (check_time t span h.count) h.past h.late lt) where
       sooner : (start sent e s : ℕ) → sent ≤ by → later start s ≤ sent → now < later start e → sent - start < e
       sooner start sent e s past late lt = omega (arith, past, late, lt, passes)
 
@@ -170,34 +143,34 @@ module _ (t : StunTiming) (most : ℕ) where
     delay-is : delay_of now t p ≡ (if is_modern t then repeated_delay now t p else usual_delay now t p.checks)
     delay-is = ap (λ b. if is_modern t then (if b then min (hushed_delay now t p) (repeated_delay now t p) else repeated_delay now t p) else usual_delay now t p.checks) unhushed
 
-    delay-least : least_delay t gap h.count ≤ delay_of now t p
-    delay-least = subst (λ n. least_delay t gap h.count ≤ n) (sym delay-is) (repeated (is_modern t) (is_repeated_early now t p) refl refl) where
+    delay-least : least_delay t span gap h.count ≤ delay_of now t p
+    delay-least = subst (λ n. least_delay t span gap h.count ≤ n) (sym delay-is) (repeated (is_modern t) (is_repeated_early now t p) refl refl) where
       rto : ℕ
       rto = rto_after t h.count
 
       early : ℕ
       early = early_delay h.count
 
-      usual : least_delay t gap h.count ≤ usual_delay now t p.checks
-      usual = let a = least-within t gap h.count in let b = usual-least in omega (arith, a, b)
+      usual : least_delay t span gap h.count ≤ usual_delay now t p.checks
+      usual = let a = least-within t span gap h.count in let b = usual-least in omega (arith, a, b)
 
       shorter : (b c : Bool) → b ≡ true → c ≡ true → (if b && c then min early rto else rto) ≤ early
       shorter true true one two = omega arith
       shorter true false one two = no-case two
       shorter false c one two = no-case one
 
-      repeated : (m r : Bool) → is_modern t ≡ m → is_repeated_early now t p ≡ r → least_delay t gap h.count ≤ (if m then (if r then early_delay (silent_count p) else usual_delay now t p.checks) else usual_delay now t p.checks)
+      repeated : (m r : Bool) → is_modern t ≡ m → is_repeated_early now t p ≡ r → least_delay t span gap h.count ≤ (if m then (if r then early_delay (silent_count p) else usual_delay now t p.checks) else usual_delay now t p.checks)
       repeated false r modern is = usual
       repeated true false modern is = usual
       repeated true true modern is =
-          let lt = early-only (is_within (early_time t) now p.first_sent) (is_within (early_time t) now p.first_after_request) first-early again-early (sym repeated-is ∙ is) in
-          let short = shorter (is_modern t) (nat_lt gap (early_time t)) modern (is-early lt) in
+          let lt = early-only (is_within (early_span t p) now p.first_sent) (is_within (early_span t p) now p.first_after_request) first-early again-early (sym repeated-is ∙ is) in
+          let short = shorter (is_modern t) (nat_lt gap span) modern (is-early lt) in
           let more = early-rising h.count p.checks_sent h.least in
           let same = ap early_delay silent-is in
           omega (arith, short, more, same)
 
     -- its due time, whether it is fixed or computed now
-    due-least : later h.last.sent (least_delay t gap h.count) ≤ due_time_of now t p
+    due-least : later h.last.sent (least_delay t span gap h.count) ≤ due_time_of now t p
     due-least = from p.due refl where
       next-is : computed_due_time p.nomination now t p ≡ later h.last.sent (delay_of now t p)
       next-is =
@@ -207,17 +180,17 @@ module _ (t : StunTiming) (most : ℕ) where
       least : (sent d delay longest rto computed : ℕ) → computed ≡ later sent delay → d ≤ delay → d ≤ rto → rto ≤ longest → sent ≤ by → later sent d ≤ min computed (later now longest)
       least sent d delay longest rto computed a b c e f = omega (arith, a, b, c, e, f, passes)
 
-      from : (o : Option ℕ) → p.due ≡ o → later h.last.sent (least_delay t gap h.count) ≤ unwrap_or o (min (computed_due_time p.nomination now t p) (later now t.max_rto.0))
+      from : (o : Option ℕ) → p.due ≡ o → later h.last.sent (least_delay t span gap h.count) ≤ unwrap_or o (min (computed_due_time p.nomination now t p) (later now t.max_rto.0))
       from (Some due) is = h.planned due is
       from None is =
-          least h.last.sent (least_delay t gap h.count) (delay_of now t p) t.max_rto.0 (rto_after t h.count) (computed_due_time p.nomination now t p) next-is delay-least
-          (least-within t gap h.count) (rto-within t h.count) h.past
+          least h.last.sent (least_delay t span gap h.count) (delay_of now t p) t.max_rto.0 (rto_after t h.count) (computed_due_time p.nomination now t p) next-is delay-least
+          (least-within t span gap h.count) (rto-within t h.count) h.past
 
   -- fixing the due time leaves it on schedule
-  pub asked-run : (base by now clock : ℕ) (p : PairRecord) → by ≤ now → is_valid p ≡ false → IsPast clock p → Keeps base by p → Keeps base now (asked now t p)
-  asked-run base by now clock p passes invalid clean (inl same) = inl same
-  asked-run base by now clock p passes invalid clean (inr h) = inr (run-as base by now p (Some (due_time_of now t p)) p.last_error p.priority passes h
-      (λ k is. (let least = due-least base by now clock p clean h passes invalid in let same : due_time_of now t p ≡ k = some-is (due_time_of now t p) k is in omega (arith, least, same))))
+  pub asked-run : (base by now clock : ℕ) (p : PairRecord) → by ≤ now → is_valid p ≡ false → IsPast clock p → Covers bound p → Keeps base by p → Keeps base now (asked now t p)
+  asked-run base by now clock p passes invalid clean covers (inl same) = inl same
+  asked-run base by now clock p passes invalid clean covers (inr h) = inr (run-as base by now p (Some (due_time_of now t p)) p.last_error p.priority passes h
+      (λ k is. (let least = due-least base by now clock p clean h covers passes invalid in let same : due_time_of now t p ≡ k = some-is (due_time_of now t p) k is in omega (arith, least, same))))
 
   -- ---- when it ends
 
@@ -232,28 +205,38 @@ module _ (t : StunTiming) (most : ℕ) where
   ends-by false w false false true c one two three early late is = no-case (sym three)
   ends-by false w false false false c one two three early late is = late is
 
-  module _ (ends : EndsWith t most) (base by now : ℕ) (p : PairRecord) (clean : IsPast now p) (h : HasRun base by p) (passes : by ≤ now) (invalid : is_valid p ≡ false) (goes_on : now < MAX)
-      (kept : (p.requests ≡ 0) ⊎ IsPastRequests t most) (all : most ≤ h.count) (due : later h.last.sent (least_delay t (h.last.sent - h.start) h.count) ≤ now) where
-    same : h.count ≡ most
+  module _ (ends : Ends t bound) (base by now : ℕ) (p : PairRecord) (clean : IsPast now p) (h : HasRun base by p) (covers : Covers bound p) (passes : by ≤ now) (invalid : is_valid p ≡ false) (goes_on : now < MAX)
+      (kept : (p.requests ≡ 0) ⊎ IsPastRequest t bound) (all : bound.checks ≤ h.count) (due : later h.last.sent (least_delay t span (h.last.sent - h.start) h.count) ≤ now) where
+    same : h.count ≡ bound.checks
     same = let few = h.few in omega (arith, few, all)
 
     full : min h.count t.max_retransmits ≡ t.max_retransmits
     full = let count = ends.counted in omega (arith, count, all)
 
-    next-sent : later h.start (check_time t (suc most)) ≤ now
-    next-sent = subst (λ n. later h.start (check_time t (suc n)) ≤ now) same (later-next t h.count h.start h.last.sent now h.some h.late due)
+    next-sent : later h.start (check_time t span (suc bound.checks)) ≤ now
+    next-sent = subst (λ n. later h.start (check_time t span (suc n)) ≤ now) same (later-next t span h.count h.start h.last.sent now h.some h.late due)
 
-    series-is : is_within_series now t p ≡ nat_lt now (later h.first (timeout_of t))
+    series-is : is_within_series now t p ≡ (not (is_asked_first p) && nat_lt now (later h.first (timeout_of t)))
     series-is =
-        ap (λ a. if a == 0 then is_young now t p else is_early_silence now t p.checks) clean.answers
-        ∙ ap (λ o. option_map_or (λ at. nat_lt now (later at (timeout_of t))) o false) h.began
+        ap (λ a. if a == 0 then not (is_asked_first p) && is_young now t p else is_early_silence now t p.checks) clean.answers
+        ∙ ap (λ o. not (is_asked_first p) && option_map_or (λ at. nat_lt now (later at (timeout_of t))) o false) h.began
 
-    -- the time of a series of checks is over
+    -- the time of a series of checks is over, or does not count
     series-over : is_modern t ≡ true → is_within_series now t p ≡ true → ⊥
-    series-over modern within =
-        none h.first h.start (timeout_of t) (check_time t (suc most)) h.before (lt-of now (later h.first (timeout_of t)) (sym series-is ∙ within)) (ends.over modern) next-sent where
-          none : (first start series next : ℕ) → first ≤ start → now < later first series → series ≤ next → later start next ≤ now → ⊥
-          none first start series next before lt over sent = let no : ⊥ = omega (arith, before, lt, over, sent) in no
+    series-over modern within = by-kind bound.asked refl where
+      none : (first start series next : ℕ) → first ≤ start → now < later first series → series ≤ next → later start next ≤ now → ⊥
+      none first start series next before lt over sent = let no : ⊥ = omega (arith, before, lt, over, sent) in no
+
+      counts : (a b : Bool) → (not a && b) ≡ true → (a ≡ false) × (b ≡ true)
+      counts true b h = no-case h
+      counts false b h = (refl, h)
+
+      both : (is_asked_first p ≡ false) × (nat_lt now (later h.first (timeout_of t)) ≡ true)
+      both = counts (is_asked_first p) (nat_lt now (later h.first (timeout_of t))) (sym series-is ∙ within)
+
+      by-kind : (b : Bool) → bound.asked ≡ b → ⊥
+      by-kind true is = no-case (sym both.0 ∙ first-asked base by now now p clean h covers passes invalid is)
+      by-kind false is = none h.first h.start (timeout_of t) (check_time t span (suc bound.checks)) h.before (lt-of now (later h.first (timeout_of t)) both.1) (ends.over is modern) next-sent
 
     -- so is that for which a request keeps it
     request-over : is_heard now p ≡ true → ⊥
@@ -265,19 +248,19 @@ module _ (t : StunTiming) (most : ℕ) where
       from None is wrong = no-case wrong
       from (Some at) is recent = elim kept [
         | inl zero_is ↦ none-some at (sym (clean.quiet zero_is) ∙ is)
-        | inr long ↦ none at (check_time t (suc most)) (h.heard at is) (lt-of (now - at) (15 * SECOND) recent) (omega (arith, long)) next-sent
+        | inr long ↦ none at (check_time t span (suc bound.checks)) (h.heard at is) (lt-of (now - at) (15 * SECOND) recent) (omega (arith, long)) next-sent
       ]
 
     many : nat_lt (length p.checks) t.max_retransmits ≡ false
     many = let enough = h.enough in let is = full in not-lt (length p.checks) t.max_retransmits (omega (arith, enough, is))
 
     many-free : nat_lt (unanswered_count p.checks) t.max_retransmits ≡ false
-    many-free = let enough = counted-enough base by now now p clean h passes invalid in let is = full in not-lt (unanswered_count p.checks) t.max_retransmits (omega (arith, enough, is))
+    many-free = let enough = counted-enough base by now now p clean h covers passes invalid in let is = full in not-lt (unanswered_count p.checks) t.max_retransmits (omega (arith, enough, is))
 
     -- and so is that of a response to the last one
     response-over : is_in_time now t p.checks ≡ true → ⊥
     response-over in_time =
-        by-delay (is_modern t) (nat_lt (h.last.sent - h.start) (early_time t)) refl refl due
+        by-delay (is_modern t) (nat_lt (h.last.sent - h.start) span) refl refl due
         (lt-of now (later h.last.sent (last_resend_delay t)) (sym (ap (λ o. option_map_or (λ (c : Check). nat_lt now (later c.sent (last_resend_delay t))) o false) h.stored) ∙ in_time)) where
           rto-is : rto_after t h.count ≡ last_resend_delay t
           rto-is = ap (resend_delay t) full
@@ -288,14 +271,14 @@ module _ (t : StunTiming) (most : ℕ) where
           rare : (start sent e s : ℕ) → later start s ≤ sent → sent ≤ by → e ≤ s → sent - start < e → ⊥
           rare start sent e s late past long lt = let no : ⊥ = omega (arith, late, past, long, lt, goes_on, passes) in no
 
-          by-delay : (m x : Bool) → is_modern t ≡ m → nat_lt (h.last.sent - h.start) (early_time t) ≡ x
+          by-delay : (m x : Bool) → is_modern t ≡ m → nat_lt (h.last.sent - h.start) span ≡ x
               → later h.last.sent (if m && x then min (early_delay h.count) (rto_after t h.count) else rto_after t h.count) ≤ now
               → now < later h.last.sent (last_resend_delay t) → ⊥
           by-delay false x modern is late lt = usual late lt
           by-delay true false modern is late lt = usual late lt
           by-delay true true modern is late lt =
-              rare h.start h.last.sent (early_time t) (check_time t h.count) h.late h.past (subst (λ n. early_time t ≤ check_time t n) (sym same) (ends.rare modern))
-              (lt-of (h.last.sent - h.start) (early_time t) is)
+              rare h.start h.last.sent span (check_time t span h.count) h.late h.past (subst (λ n. span ≤ check_time t span n) (sym same) (ends.rare modern))
+              (lt-of (h.last.sent - h.start) span is)
 
     over : is_possible now t p ≡ true → ⊥
     over possible =
@@ -304,7 +287,7 @@ module _ (t : StunTiming) (most : ℕ) where
 
   -- ---- a check
 
-  module _ (ends : EndsWith t most) (limit : 0 < t.max_retransmits) (now : ℕ) (c : Bool) (id : List ℕ) (p : PairRecord) where
+  module _ (ends : Ends t bound) (limit : 0 < t.max_retransmits) (now : ℕ) (c : Bool) (id : List ℕ) (p : PairRecord) where
     abbrev sent : PairRecord
     sent = checked now t c id (asked now t p)
 
@@ -347,12 +330,13 @@ module _ (t : StunTiming) (most : ℕ) where
         | inl none ↦ none-some at (sym none.1 ∙ is)
         | inr some ↦ (let le = some.2 in let same : some.0 ≡ at = some-is some.0 at (sym some.1 ∙ is) in omega (arith, le, same))
       ];
+      unasked = λ none. ap (λ n. if n == 0 then None else Some (unwrap_or p.first_after_request now)) none;
       unanswered = sent-free t.max_retransmits p.checks check refl clean.unanswered;
       started = λ k has. sent-started p.state;
     }
 
     run-sent : (base start count first : ℕ) → unwrap_or p.first_sent now ≡ first → first ≤ start → Again sent start → ((at : ℕ) → p.last_request ≡ Some at → at ≤ start)
-        → suc count ≤ most → p.checks_sent ≤ base + count → min count 4 ≤ p.checks_sent → later start (check_time t (suc count)) ≤ now → min count t.max_retransmits ≤ length p.checks
+        → suc count ≤ bound.checks → p.checks_sent ≤ base + count → min count 4 ≤ p.checks_sent → later start (check_time t span (suc count)) ≤ now → min count t.max_retransmits ≤ length p.checks
         → HasRun base now sent
     run-sent base start count first began before again heard few total least late enough = record {
       start = start;
@@ -375,18 +359,18 @@ module _ (t : StunTiming) (most : ℕ) where
       planned = λ due is. none-some due is;
     }
 
-    pub sent-keeps : (base by : ℕ) → by ≤ now → now < MAX → is_valid p ≡ false → IsPast now p → ((p.requests ≡ 0) ⊎ IsPastRequests t most) → due_time_of now t p ≤ now → is_possible now t p ≡ true
+    pub sent-keeps : (base by : ℕ) → by ≤ now → now < MAX → is_valid p ≡ false → IsPast now p → Covers bound p → ((p.requests ≡ 0) ⊎ IsPastRequest t bound) → due_time_of now t p ≤ now → is_possible now t p ≡ true
         → Keeps base by p → Keeps base now sent
-    sent-keeps base by passes goes_on invalid clean kept is_due possible (inl same) =
-        let start = time-first t in let few = ends.counted in
+    sent-keeps base by passes goes_on invalid clean covers kept is_due possible (inl same) =
+        let start = time-first t span in let few = ends.counted in
         inr (run-sent base now 0 (unwrap_or p.first_sent now) refl (first-upto clean) (again-first clean) clean.heard (omega (arith, few, limit)) (omega (arith, same)) (omega arith)
         (omega (arith, start)) (omega arith))
-    sent-keeps base by passes goes_on invalid clean kept is_due possible (inr h) =
-        let least = due-least base by now now p clean h passes invalid in
-        let due : later h.last.sent (least_delay t (h.last.sent - h.start) h.count) ≤ now = omega (arith, least, is_due) in
-        let next = later-next t h.count h.start h.last.sent now h.some h.late due in
+    sent-keeps base by passes goes_on invalid clean covers kept is_due possible (inr h) =
+        let least = due-least base by now now p clean h covers passes invalid in
+        let due : later h.last.sent (least_delay t span (h.last.sent - h.start) h.count) ≤ now = omega (arith, least, is_due) in
+        let next = later-next t span h.count h.start h.last.sent now h.some h.late due in
         inr (run-sent base h.start h.count h.first (ap (λ o. unwrap_or o now) h.began) h.before (again-sent h.start h.again) h.heard
-        (elim (cases_lt h.count most) [
+        (elim (cases_lt h.count bound.checks) [
           | inl fewer ↦ omega (arith, fewer)
-          | inr all ↦ absurd (over ends base by now p clean h passes invalid goes_on kept all due possible)
+          | inr all ↦ absurd (over ends base by now p clean h covers passes invalid goes_on kept all due possible)
         ]) h.sent h.least next h.enough)

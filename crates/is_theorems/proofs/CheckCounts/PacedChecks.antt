@@ -1,18 +1,18 @@
 -- A patient caller: at most as many checks are sent in a span of time as pacing intervals begin in it.
-use Rattle.std.proofs.Common.{◌≡◌, ℕ, zero, suc, ◌+◌, ◌-◌, ◌*◌, ◌/◌, ◌<◌, ◌≤◌, ◌&&◌, Bool, true, false, nat_le, nat_lt, min, max, List, [], ◌∷◌, length, count_by, cond, Option, Some, None, inl, inr, ◌⊎◌, refl, ap, sym, ◌∙◌, subst, arith}
+use Rattle.std.proofs.Common.{◌≡◌, ℕ, ◌+◌, ◌*◌, ◌<◌, ◌≤◌, ◌&&◌, Bool, true, false, nat_le, nat_lt, min, List, [], ◌∷◌, cond, Option, Some, None, inl, inr, ◌⊎◌, refl, ap, sym, ◌∙◌, subst, arith}
 use Rattle.std.specs.Option.{option_map_or}
 use Rattle.std.proofs.lemmas.Bool.Decides.{nat_tests}
 use Rattle.std.proofs.lemmas.List.Sums.{sum_by-cons}
 use Rattle.std.proofs.Math.Nat.{add-mul, le-div_iff_mul-le, one-mul, zero-add, zero-mul}
 use Rattle.rand_core.specs.Stream.{Stream}
-use Rattle.is_proto.specs.Times.{MAX, MILLISECOND, SECOND, later}
+use Rattle.is_proto.specs.Times.{MAX, SECOND, later}
 use Rattle.is_candidate.specs.Candidates.{CandidateRecord}
 use Rattle.is_rules.specs.Agent.{AgentRecord}
-use Rattle.is_rules.specs.Polls.{LEAST_TA, early_advance, is_early, is_idle, pacing_of, soon, NextTimeoutFrom}
-use Rattle.is_rules.specs.Steps.{Answer, Call, HandleTimeout, NextTimeout, PollTimeout, Entry, Step}
+use Rattle.is_rules.specs.Polls.{is_idle, pacing_of, soon, NextTimeoutFrom}
+use Rattle.is_rules.specs.Steps.{Answer, Call, HandleTimeout, PollTimeout, Entry, Step}
 use Rattle.is_rules.specs.TimeoutTimes.{soonest}
 use Rattle.is_rules.proofs.PollsAndResponses.NextTimeout.{paced, paced-from}
-use Rattle.is_theorems.specs.CheckRate.{begun_in, check_count, checks_in_span, is_before, is_in_span, lets_call, sends_check, ChecksArePaced, IsLateAt, IsPacedAt, IsPatient, HasCalled, IsSlowAt, MayCallAt, SecondsHaveFewChecks, TimeoutsCheck}
+use Rattle.is_theorems.specs.CheckRate.{begun_in, check_count, checks_in_span, is_before, is_in_span, lets_call, sends_check, ChecksArePaced, IsPacedAt, IsPatient, HasCalled, MayCallAt, TimeoutsCheck}
 use Rattle.is_theorems.specs.Logs.{Logged}
 use Rattle.is_theorems.specs.NotStarved.{is_timeout, timeout_count}
 use Rattle.is_theorems.specs.Shared.{BeforeEach, IsNewlyCreated, SharedRun}
@@ -22,19 +22,19 @@ use Rattle.is_theorems.proofs.CheckCounts.LastTimes.{last-stays}
 no-case : {X : Type 0} → false ≡ true → X
 no-case h = absurd (cc)
 
-none-some : {X : Type 0} (t : ℕ) → None ≡ Some t → X
+pub none-some : {X : Type 0} (t : ℕ) → None ≡ Some t → X
 none-some t h = absurd (cc)
 
-some-is : (n m : ℕ) → Some n ≡ Some m → n ≡ m
+pub some-is : (n m : ℕ) → Some n ≡ Some m → n ≡ m
 some-is n m h = cc
 
 -- ---- tests
 
-polls : {P : Type 0} (now : ℕ) (call : Call P) (answer : Answer) → lets_call now call answer ≡ true → call ≡ PollTimeout
+pub polls : {P : Type 0} (now : ℕ) (call : Call P) (answer : Answer) → lets_call now call answer ≡ true → call ≡ PollTimeout
 polls now PollTimeout answer h = refl
 polls now call answer h = no-case h
 
-befores : {P : Type 0} (gap now : ℕ) (call : Call P) → is_before gap now call ≡ true → (at : ℕ) × (call ≡ HandleTimeout at) × (at + gap ≤ now)
+pub befores : {P : Type 0} (gap now : ℕ) (call : Call P) → is_before gap now call ≡ true → (at : ℕ) × (call ≡ HandleTimeout at) × (at + gap ≤ now)
 befores gap now (HandleTimeout at) h = (at, refl, grind (arith, nat_tests, h))
 befores gap now call h = no-case h
 
@@ -49,10 +49,10 @@ both true true h = (refl, refl)
 both true false h = no-case h
 both false b h = no-case h
 
-within : (from now end : ℕ) → (nat_le from now && nat_lt now end) ≡ true → (from ≤ now) × (now < end)
+pub within : (from now end : ℕ) → (nat_le from now && nat_lt now end) ≡ true → (from ≤ now) × (now < end)
 within from now end h = let k = both (nat_le from now) (nat_lt now end) h in let le = k.0 in let lt = k.1 in (grind (arith, nat_tests, le), grind (arith, nat_tests, lt))
 
-spans-none : {P : Type 0} (from long : ℕ) (call : Call P) → is_timeout call ≡ false → is_in_span from long call ≡ false
+pub spans-none : {P : Type 0} (from long : ℕ) (call : Call P) → is_timeout call ≡ false → is_in_span from long call ≡ false
 spans-none from long (HandleTimeout now) h = no-case (sym h)
 spans-none from long call h = refl
 
@@ -65,14 +65,6 @@ more : (n pace : ℕ) → (1 + n) * pace ≡ pace + n * pace
 more n pace = add-mul 1 n pace ∙ ap (λ k. k + n * pace) (one-mul pace)
 
 module _ {H P : Type 0} where
-  pacing-least : (last : ℕ) (a : AgentRecord H P) → 50 * MILLISECOND ≤ a.timing_advance → 5 * MILLISECOND ≤ pacing_of last a
-  pacing-least last a slow = let early = least (length a.pairs) a.timing_advance slow in grind (arith, early, slow) where
-    least : (count advance : ℕ) → 50 * MILLISECOND ≤ advance → 5 * MILLISECOND ≤ early_advance count advance
-    least count advance slow = omega (arith, slow)
-
-  pacing-late : (last : ℕ) (a : AgentRecord H P) → is_early last a ≡ false → 50 * MILLISECOND ≤ a.timing_advance → 50 * MILLISECOND ≤ pacing_of last a
-  pacing-late last a late slow = grind (arith, late, slow)
-
   soonest-least : (pace last : ℕ) (a : AgentRecord H P) → pace ≤ min (3 * SECOND) (pacing_of last a) → later last pace ≤ soonest a last
   soonest-least pace last a slow = by (is_idle a) where
     by : (b : Bool) → later last pace ≤ cond b (min (soon a last) (later last (3 * SECOND))) (soon a last)
@@ -104,7 +96,7 @@ module _ {H P : Type 0} where
     -- ---- a patient caller
 
     -- the time of the last call is that of a call of the log
-    has_called : (from : ℕ) (first last : AgentRecord H P) (log : List (Logged P)) → IsNewlyCreated first → SharedRun mac answers first log last
+    pub has_called : (from : ℕ) (first last : AgentRecord H P) (log : List (Logged P)) → IsNewlyCreated first → SharedRun mac answers first log last
         → (at : ℕ) → last.last_time ≡ Some at → from ≤ at → HasCalled from log
     has_called from first last [] (creds, tie, role, is) run at last_is le =
         none-some at (sym (ap (λ (a : AgentRecord H P). a.last_time) (run ∙ is)) ∙ last_is)
@@ -123,7 +115,7 @@ module _ {H P : Type 0} where
       abbrev Waits : AgentRecord H P → ℕ → Type 0
       Waits a now = (at : ℕ) → a.last_time ≡ Some at → from ≤ at → later at pace ≤ now
 
-      polled : (old new : AgentRecord H P) (s t : Stream) (e : Entry) (now : ℕ) → Step mac answers old s PollTimeout e new t → lets_call {P = P} now PollTimeout e.answer ≡ true
+      pub polled : (old new : AgentRecord H P) (s t : Stream) (e : Entry) (now : ℕ) → Step mac answers old s PollTimeout e new t → lets_call {P = P} now PollTimeout e.answer ≡ true
           → (at gap : ℕ) → old.last_time ≡ Some at → gap ≤ min (3 * SECOND) (pacing_of at old) → later at gap ≤ now
       polled old new s t e now (None, is, h, drawn) lets at gap last slow = absurd (subst (λ o. NextTimeoutFrom o old None new) last h)
       polled old new s t e now (Some deadline, is, h, drawn) lets at gap last slow =
@@ -137,7 +129,7 @@ module _ {H P : Type 0} where
           → lets_call {P = P} now PollTimeout x.entry.answer ≡ true → (at : ℕ) → old.last_time ≡ Some at → from ≤ at → IsPacedAt from long pace old x → later at pace ≤ now
       polled_in old new s t x now inside call_is step lets at last le slow = by (nat_lt at (from + long)) refl where
         by : (b : Bool) → nat_lt at (from + long) ≡ b → later at pace ≤ now
-        by true lt = polled old new s t x.entry now step lets at pace last (slow call_is at last le (grind (arith, nat_tests, lt)))
+        by true lt = let paced_is = slow call_is at last le (grind (arith, nat_tests, lt)) in polled old new s t x.entry now step lets at pace last (omega (arith, paced_is))
         by false ge =
             let past : from + long ≤ at = grind (arith, nat_tests, ge) in
             let no_sooner : later at 0 ≤ now = polled old new s t x.entry now step lets at 0 last (omega arith) in
@@ -250,29 +242,3 @@ module _ {H P : Type 0} where
     checks-are-paced first last log from long pace new run patient slow some ends =
         let stays : from + long ≤ MAX = omega (arith, ends) in
         few from long pace stays (checks_in_span from long log) last some (counts from long pace stays first last log new run patient slow)
-
-    -- ---- numbers
-
-    each : (Has Gives : AgentRecord H P → Logged P → Type 0) → ((a : AgentRecord H P) (x : Logged P) → Has a x → Gives a x)
-        → (first last : AgentRecord H P) (log : List (Logged P)) (run : SharedRun mac answers first log last) → BeforeEach mac answers Has first log last run → BeforeEach mac answers Gives first log last run
-    each Has Gives gives first last [] run h = tt
-    each Has Gives gives first last (x ∷ before) (mid, s, t, run, based, step) (here, earlier) = (gives mid x here, each Has Gives gives first mid before run earlier)
-
-    two : (Has Has_too Gives : AgentRecord H P → Logged P → Type 0) → ((a : AgentRecord H P) (x : Logged P) → Has a x → Has_too a x → Gives a x)
-        → (first last : AgentRecord H P) (log : List (Logged P)) (run : SharedRun mac answers first log last) → BeforeEach mac answers Has first log last run → BeforeEach mac answers Has_too first log last run
-        → BeforeEach mac answers Gives first log last run
-    two Has Has_too Gives gives first last [] run h k = tt
-    two Has Has_too Gives gives first last (x ∷ before) (mid, s, t, run, based, step) (here, earlier) (too, earlier_too) =
-        (gives mid x here too, two Has Has_too Gives gives first mid before run earlier earlier_too)
-
-    pub seconds-have-few : SecondsHaveFewChecks {H = H} mac answers
-    seconds-have-few first last log from new run slow ends = (
-      λ patient. (let few : checks_in_span from SECOND log ≤ 200 = checks-are-paced first last log from SECOND LEAST_TA new run patient
-          (each (IsSlowAt from) (IsPacedAt from SECOND LEAST_TA)
-          (λ a x is call at last_is le lt. (let least = pacing-least at a (is call at last_is le lt) in omega (arith, least))) first last log run slow)
-          (omega arith) ends in omega (arith, few)),
-      λ patient late. (let few : checks_in_span from SECOND log ≤ 20 = checks-are-paced first last log from SECOND (50 * MILLISECOND) new run patient
-          (two (IsSlowAt from) (IsLateAt from) (IsPacedAt from SECOND (50 * MILLISECOND))
-          (λ a x is early call at last_is le lt. (let least = pacing-late at a (early call at last_is le lt) (is call at last_is le lt) in omega (arith, least))) first last log run slow late)
-          (omega arith) ends in omega (arith, few)),
-    )

@@ -1,5 +1,5 @@
--- In an execution each pair without a response is on schedule while no request arrives on it, and so gets few checks.
-use Rattle.std.proofs.Common.{◌≡◌, ℕ, ◌+◌, ◌<◌, ◌≤◌, ◌==◌, ◌&&◌, Bool, true, false, not, List, [], ◌∷◌, map, filter, max, Option, Some, None, unwrap_or, Result, Ok, Err, inl, inr, ◌⊎◌, refl, ap, sym, ◌∙◌, subst, arith, if◌then◌else◌}
+-- In an execution each pair without a response is on schedule while no request arrives on it.
+use Rattle.std.proofs.Common.{◌≡◌, ℕ, ◌<◌, ◌≤◌, ◌==◌, ◌&&◌, Bool, true, false, not, List, [], ◌∷◌, map, filter, max, Option, Some, None, unwrap_or, Result, Ok, Err, inl, inr, ◌⊎◌, refl, ap, sym, ◌∙◌, subst, arith, if◌then◌else◌}
 use Rattle.std.specs.Prelude.{MatchOption}
 use Rattle.rand_core.specs.Stream.{Stream}
 use Rattle.is_proto.specs.declared.error.IceError.{IceError}
@@ -30,20 +30,19 @@ use Rattle.is_rules.specs.Steps.{Call, SetMtu, SetControlTieBreaker, SetMaxCandi
 use Rattle.is_rules.specs.Timeouts.{at_request, at_timeout, timeout_begun, MaintainsPairs, ServesQueued}
 use Rattle.is_theorems.specs.Logs.{Logged}
 use Rattle.is_theorems.specs.NotStarved.{is_timeout}
-use Rattle.is_theorems.specs.Shared.{BeforeEach, IsNewlyCreated, SharedRun}
-use Rattle.is_theorems.specs.SilentPairs.{AreInOrder, EndsWith, IsPastRequests, IsSilent, IsSilentSince, IsTimedBy, SilencesHaveFewChecks, SilentPairsGetFew, time_after, time_of}
+use Rattle.is_theorems.specs.Shared.{BeforeEach, SharedRun}
+use Rattle.is_theorems.specs.SilentPairs.{AreInOrder, IsTimedBy, time_after, time_of}
 use Rattle.is_theorems.proofs.CallEffects.AddedCandidates.{by_adding_local, by_adding_remote, by_deadline}
 use Rattle.is_theorems.proofs.CallEffects.FailedCallsAndNewAgents.{mtu_kept, local_kept, remote_kept, restart_kept, recreation_kept, enrolment_kept, storing_kept}
 use Rattle.is_theorems.proofs.CallEffects.PathAndTradeEffects.{path_theorem}
 use Rattle.is_theorems.proofs.CheckCounts.IssuedChecks.{timeout-timed}
+use Rattle.is_theorems.proofs.CheckCounts.Bounds.{Bound, Ends, IsPastRequest}
 use Rattle.is_theorems.proofs.CheckCounts.KeptPairs.{IsKept, IsOfSilent, forms-kept, gives-up-kept, kept-filter, kept-map, nominates-kept, received-kept, reselects-kept, serves-kept, unless-kept}
 use Rattle.is_theorems.proofs.CheckCounts.LastTimes.{last-stays}
-use Rattle.is_theorems.proofs.CheckCounts.FollowedPairs.{IsOnSchedule, asked-at, followed-few, later-on, of-silent, watched}
-use Rattle.is_theorems.proofs.CheckCounts.OnSchedule.{Watch, few-of}
-use Rattle.is_theorems.proofs.ExecutionLogs.SharedLogTheorems.{new_sound}
+use Rattle.is_theorems.proofs.CheckCounts.FollowedPairs.{IsOnSchedule, asked-at, later-on, of-silent}
+use Rattle.is_theorems.proofs.CheckCounts.PastTimes.{Watch}
 use Rattle.is_theorems.proofs.PathSelection.SelectedPairIsNominated.{IsNamed, names-next}
 use Rattle.is_theorems.proofs.PunctualTimeouts.UnchangedPacing.{Pace, gives-up-same, maintains as maintains-same, nominates-same}
-use Rattle.is_theorems.proofs.RuleEffects.SelectedPaths.{one_pair}
 use Rattle.is_theorems.proofs.RuleEffects.UnchangedSettings.{either}
 use Rattle.is_theorems.proofs.CheckCounts.SilentTimeouts.{no-case, is_poll, latest, left-possible, checks-on}
 use Rattle.is_theorems.proofs.RuleEffects.HastenedPairs.{only-due, Hastens}
@@ -53,21 +52,21 @@ use Rattle.is_rules.specs.Leaving.{gives_way, hastened, path_left, silent_gone}
 module _ {H P : Type 0} where
   -- ---- calls
 
-  module _ (mac : H → List ℕ → List ℕ → List ℕ) (answers : P → CandidateRecord → ℕ → ℕ → Type 0) (t : StunTiming) (most : ℕ) (ends : EndsWith t most) (o : Option Watch) (floor : ℕ)
-      (apart : (w : Watch) → o ≡ Some w → (w.number < floor) × (w.requests < MAX)) (fits : (w : Watch) → o ≡ Some w → (w.requests ≡ 0) ⊎ IsPastRequests t most) where
+  module _ (mac : H → List ℕ → List ℕ → List ℕ) (answers : P → CandidateRecord → ℕ → ℕ → Type 0) (t : StunTiming) (bound : Bound) (ends : Ends t bound) (o : Option Watch) (floor : ℕ)
+      (apart : (w : Watch) → o ≡ Some w → (w.number < floor) × (w.requests < MAX)) (fits : (w : Watch) → o ≡ Some w → (w.requests ≡ 0) ⊎ IsPastRequest t bound) where
     -- each pair is on schedule: the last check was sent by the first time, and nothing is later than the second
     abbrev On : ℕ → ℕ → PairRecord → Type 0
-    On by clock = IsOnSchedule t most o by clock
+    On by clock = IsOnSchedule t bound o by clock
 
     abbrev At : ℕ → ℕ → AgentRecord H P → Type 0
     At by clock a = IsKept floor clock (On by clock) a.next_number a.pairs
 
     raised : (by clock at later : ℕ) (a : AgentRecord H P) → by ≤ at → clock ≤ later → At by clock a → At at later a
-    raised by clock at later a le less k = record { rising = k.rising; below = k.below; each = λ p has. later-on t most o by clock at later p le less (k.each p has); low = k.low }
+    raised by clock at later a le less k = record { rising = k.rising; below = k.below; each = λ p has. later-on t bound o by clock at later p le less (k.each p has); low = k.low }
 
     module _ (by clock : ℕ) where
       abbrev rule : IsOfSilent floor clock (On by clock)
-      rule = of-silent t most o floor by clock apart
+      rule = of-silent t bound o floor by clock apart
 
       made-at : (needed new : AgentRecord H P) → new ≡ needed → At by clock needed → At by clock new
       made-at needed new made k = subst (λ (a : AgentRecord H P). At by clock a) (sym made) k
@@ -160,7 +159,7 @@ module _ {H P : Type 0} where
       fixed last is made =
           let at : latest old ≡ last = ap (λ n. unwrap_or n 0) is in
           made-at (latest old) clock _ new made (kept-map floor clock (On (latest old) clock) old.next_number (asked last old.timing) old.pairs (λ p. refl)
-          (λ p has q. subst (λ (x : StunTiming). On (latest old) clock (asked last x p)) (sym timing) (subst (λ n. On n clock (asked last t p)) (sym at) (asked-at t most o last clock p (subst (λ n. On n clock p) at q)))) k)
+          (λ p has q. subst (λ (x : StunTiming). On (latest old) clock (asked last x p)) (sym timing) (subst (λ n. On n clock (asked last t p)) (sym at) (asked-at t bound o last clock p (subst (λ n. On n clock p) at q)))) k)
 
       by-deadline : (last : ℕ) → old.last_time ≡ Some last → (d : Option ℕ) → NextTimeoutFrom (Some last) old d new → At (latest old) clock new
       by-deadline last is None h = absurd h
@@ -176,9 +175,9 @@ module _ {H P : Type 0} where
         → ((p : PairRecord) → Has new.pairs p → new.selected_pair ≡ Some p.number → is_valid p ≡ true)
         → MaintainsPairs mac now old s emitted new u → At now now old → At now now new
     maintains now old new s u emitted timing limit goes_on valid (first, second, issued, named, kept, nominating, giving, checking, is) k =
-        subst (λ (x : StunTiming). IsKept floor now (IsOnSchedule x most o now now) new.next_number new.pairs) kept_timing
-        (checks-on mac most o floor now apart kept new (subst (λ (x : StunTiming). EndsWith x most) (sym kept_timing) ends) (subst (λ (x : StunTiming). 0 < x.max_retransmits) (sym kept_timing) limit)
-        (subst (λ (x : StunTiming). (w : Watch) → o ≡ Some w → (w.requests ≡ 0) ⊎ IsPastRequests x most) (sym kept_timing) fits) goes_on possible valid at_kept kept.remote_creds s u issued checking) where
+        subst (λ (x : StunTiming). IsKept floor now (IsOnSchedule x bound o now now) new.next_number new.pairs) kept_timing
+        (checks-on mac bound o floor now apart kept new (subst (λ (x : StunTiming). Ends x bound) (sym kept_timing) ends) (subst (λ (x : StunTiming). 0 < x.max_retransmits) (sym kept_timing) limit)
+        (subst (λ (x : StunTiming). (w : Watch) → o ≡ Some w → (w.requests ≡ 0) ⊎ IsPastRequest x bound) (sym kept_timing) fits) goes_on possible valid at_kept kept.remote_creds s u issued checking) where
           -- only valid pairs are hastened
           hastened-on : (controlling : Bool) (p : PairRecord) → On now now p → On now now (hastened controlling now p)
           hastened-on controlling p on = by (is_valid p) refl where
@@ -198,8 +197,8 @@ module _ {H P : Type 0} where
           kept_timing : kept.timing ≡ t
           kept_timing = left ∙ (ap (λ (p : Pace). p.clock.timing) (nominates-same (path_left now (at_timeout now old)) named first nominating) ∙ timing)
 
-          at_kept : IsKept floor now (IsOnSchedule kept.timing most o now now) kept.next_number kept.pairs
-          at_kept = subst (λ (x : StunTiming). IsKept floor now (IsOnSchedule x most o now now) kept.next_number kept.pairs) (sym kept_timing)
+          at_kept : IsKept floor now (IsOnSchedule kept.timing bound o now now) kept.next_number kept.pairs
+          at_kept = subst (λ (x : StunTiming). IsKept floor now (IsOnSchedule x bound o now now) kept.next_number kept.pairs) (sym kept_timing)
               (gives-up-kept floor now (On now now) (rule now now) now named kept second giving at_named)
 
           possible : kept.lite ≡ false → (p : PairRecord) → Has kept.pairs p → is_possible now kept.timing p ≡ true
@@ -321,7 +320,7 @@ module _ {H P : Type 0} where
         by PollTimeout is = subst (λ (c : Call P). At (latest new) (time_after clock c) new) (sym is) (polled is (step-as PollTimeout is))
         by call is = subst (λ (c : Call P). At (latest new) (time_after clock c) new) (sym is) (other call is refl (no-poll call refl) (omega arith))
 
-    along : (clock : ℕ) (first last : AgentRecord H P) (log : List (Logged P)) → (run : SharedRun mac answers first log last) → AreInOrder clock log → BeforeEach mac answers (IsTimedBy t) first log last run
+    pub along : (clock : ℕ) (first last : AgentRecord H P) (log : List (Logged P)) → (run : SharedRun mac answers first log last) → AreInOrder clock log → BeforeEach mac answers (IsTimedBy t) first log last run
         → IsRun clock first → IsRun (time_of clock log) last
     along clock first last [] run order timed was = subst (λ (a : AgentRecord H P). IsRun clock a) (sym run) was
     along clock first last (x ∷ before) (mid, s, u, run, based, step) (forward, order) (here, earlier) start =
@@ -337,73 +336,3 @@ module _ {H P : Type 0} where
           queued = queued-next x (time_of clock before) mid last s u here step was law.0 goes_on (λ p has is. (named p has is).0);
           kept = kept-next x (time_of clock before) mid last s u here step was law.0 goes_on (λ p has is. (named p has is).0);
         }
-
-  -- ---- the theorems
-
-  module _ (mac : H → List ℕ → List ℕ → List ℕ) (answers : P → CandidateRecord → ℕ → ℕ → Type 0) (t : StunTiming) (n : ℕ) (ends : EndsWith t n) where
-    no-watch : {X : Type 0} (w : Watch) → None ≡ Some w → X
-    no-watch w is = absurd (cc)
-
-    -- an execution of a new agent
-    begun : (first last : AgentRecord H P) (log : List (Logged P)) → IsNewlyCreated first → (run : SharedRun mac answers first log last) → AreInOrder 0 log → BeforeEach mac answers (IsTimedBy t) first log last run
-        → IsRun mac answers t n ends None 0 (λ w is. no-watch w is) (λ w is. no-watch w is) (time_of 0 log) last
-    begun first last log (creds, tie, role, is) run order timed =
-        along mac answers t n ends None 0 (λ w is. no-watch w is) (λ w is. no-watch w is) 0 first last log run order timed (record {
-          sound = new_sound first (creds, tie, role, is);
-          path = None;
-          named = subst (λ (a : AgentRecord H P). IsNamed None a) (sym is) (λ p has. absurd has);
-          back = subst (λ (a : AgentRecord H P). latest a ≤ 0) (sym is) (omega arith);
-          queued = subst (λ (a : AgentRecord H P). (q : RequestRecord) → Has a.queue q → q.time ≤ 0) (sym is) (λ q has. absurd has);
-          kept = subst (λ (a : AgentRecord H P). IsKept 0 0 (IsOnSchedule t n None (latest a) 0) a.next_number a.pairs) (sym is) (record { rising = tt; below = λ p has. absurd has; each = λ p has. absurd has; low = omega arith });
-        })
-
-    pub silent-are-few : (first last : AgentRecord H P) (log : List (Logged P)) → IsNewlyCreated first → (run : SharedRun mac answers first log last) → AreInOrder 0 log
-        → BeforeEach mac answers (IsTimedBy t) first log last run → (p : PairRecord) → Has last.pairs p → IsSilent p → p.checks_sent ≤ n
-    silent-are-few first last log new run order timed p has silent =
-        let k = begun first last log new run order timed in
-        let few = few-of t n 0 (latest last) p ((k.kept.each p has (search silent.unanswered)).unrequested silent.unheard) in
-        omega (arith, few)
-
-    module _ (first start last : AgentRecord H P) (before part : List (Logged P)) (new : IsNewlyCreated first)
-        (earlier : SharedRun mac answers first before start) (order : AreInOrder 0 before) (timed : BeforeEach mac answers (IsTimedBy t) first before start earlier)
-        (run : SharedRun mac answers start part last) (on_order : AreInOrder (time_of 0 before) part) (on_timed : BeforeEach mac answers (IsTimedBy t) start part last run)
-        (p q : PairRecord) (has : Has start.pairs p) (has_after : Has last.pairs q) (silent : IsSilentSince t n p q) where
-      abbrev watch : Watch
-      watch = record { number = p.number; requests = p.requests; count = p.checks_sent }
-
-      was : IsRun mac answers t n ends None 0 (λ w is. no-watch w is) (λ w is. no-watch w is) (time_of 0 before) start
-      was = begun first start before new earlier order timed
-
-      is-watch : (w : Watch) → Some watch ≡ Some w → watch ≡ w
-      is-watch w is = cc
-
-      apart : (w : Watch) → Some watch ≡ Some w → (w.number < start.next_number) × (w.requests < MAX)
-      apart w is = subst (λ (v : Watch). (v.number < start.next_number) × (v.requests < MAX)) (is-watch w is) (was.kept.below p has, silent.counted)
-
-      fits : (w : Watch) → Some watch ≡ Some w → (w.requests ≡ 0) ⊎ IsPastRequests t n
-      fits w is = subst (λ (v : Watch). (v.requests ≡ 0) ⊎ IsPastRequests t n) (is-watch w is) silent.kept
-
-      -- the pair is followed from here on
-      each-on : (x : PairRecord) → Has start.pairs x → IsOnSchedule t n (Some watch) (latest start) (time_of 0 before) x
-      each-on x there = watched t n watch (latest start) (time_of 0 before) x (was.kept.each x there)
-          (λ same. (let one : x ≡ p = one_pair start.pairs x p was.kept.rising there has same in (ap (λ (y : PairRecord). y.requests) one, ap (λ (y : PairRecord). y.checks_sent) one)))
-
-      follows : IsRun mac answers t n ends (Some watch) start.next_number apart fits (time_of (time_of 0 before) part) last
-      follows = along mac answers t n ends (Some watch) start.next_number apart fits (time_of 0 before) start last part run on_order on_timed (record {
-        sound = was.sound;
-        path = was.path;
-        named = was.named;
-        back = was.back;
-        queued = was.queued;
-        kept = record { rising = was.kept.rising; below = was.kept.below; each = each-on; low = omega arith };
-      })
-
-      pub few-since : q.checks_sent ≤ p.checks_sent + n
-      few-since = followed-few t n watch (latest last) _ q (follows.kept.each q has_after silent.unanswered) silent.number (let same = silent.unheard in omega (arith, same))
-
-  pub silent-pairs-get-few : (mac : H → List ℕ → List ℕ → List ℕ) (answers : P → CandidateRecord → ℕ → ℕ → Type 0) → SilentPairsGetFew mac answers
-  silent-pairs-get-few mac answers t n first last log ends new run order timed p has silent = silent-are-few mac answers t n ends first last log new run order timed p has silent
-
-  pub silences-have-few : (mac : H → List ℕ → List ℕ → List ℕ) (answers : P → CandidateRecord → ℕ → ℕ → Type 0) → SilencesHaveFewChecks mac answers
-  silences-have-few mac answers t n first start last before part ends new earlier order timed run on_order on_timed p q has has_after silent =
-      few-since mac answers t n ends first start last before part new earlier order timed run on_order on_timed p q has has_after silent

@@ -26,13 +26,13 @@ use Rattle.is_rules.specs.Nominating.{followed, nominated_by_self, Nominates, no
 use Rattle.is_rules.specs.Steps.{Call, PollTimeout}
 use Rattle.is_rules.specs.Timeouts.{expired_gone, is_expired, RemovesExpired}
 use Rattle.is_rules.proofs.PairLists.ChosenPair.{found-in}
-use Rattle.is_theorems.specs.SilentPairs.{EndsWith, IsPastRequests}
 use Rattle.is_theorems.proofs.BasicLemmas.PairsInTurn.{due-or-along, in-turn, pairs-sent, sent-number, sent_at, AskedAlong}
 use Rattle.is_theorems.proofs.BasicLemmas.UsernamesAndFirstMatches.{any_has}
 use Rattle.is_theorems.proofs.CallEffects.ServedRequests.{Has-mapped}
+use Rattle.is_theorems.proofs.CheckCounts.Bounds.{Bound, Ends, IsPastRequest}
 use Rattle.is_theorems.proofs.CheckCounts.KeptPairs.{IsKept, IsOfSilent, kept-change, kept-map}
 use Rattle.is_theorems.proofs.CheckCounts.FollowedPairs.{IsOnSchedule, asked-on, checked-on, of-silent}
-use Rattle.is_theorems.proofs.CheckCounts.OnSchedule.{Watch}
+use Rattle.is_theorems.proofs.CheckCounts.PastTimes.{Watch}
 use Rattle.is_theorems.proofs.DuePairs.AfterNominationAndRemoval.{passed}
 use Rattle.is_theorems.proofs.RuleEffects.ChangedPairs.{Has-map}
 use Rattle.is_theorems.proofs.RuleEffects.NominatedPairs.{SelectsPath, selects_path}
@@ -137,26 +137,26 @@ module _ {H P : Type 0} where
 
   -- ---- a check
 
-  module _ (mac : H → List ℕ → List ℕ → List ℕ) (most : ℕ) (o : Option Watch) (floor now : ℕ) (apart : (w : Watch) → o ≡ Some w → (w.number < floor) × (w.requests < MAX)) (old new : AgentRecord H P) where
+  module _ (mac : H → List ℕ → List ℕ → List ℕ) (bound : Bound) (o : Option Watch) (floor now : ℕ) (apart : (w : Watch) → o ≡ Some w → (w.number < floor) × (w.requests < MAX)) (old new : AgentRecord H P) where
     abbrev OnTime : PairRecord → Type 0
-    OnTime = IsOnSchedule old.timing most o now now
+    OnTime = IsOnSchedule old.timing bound o now now
 
     abbrev Keeps : AgentRecord H P → Type 0
     Keeps a = IsKept floor now OnTime a.next_number a.pairs
 
     abbrev ruled : IsOfSilent floor now OnTime
-    ruled = of-silent old.timing most o floor now now apart
+    ruled = of-silent old.timing bound o floor now now apart
 
     abbrev asking : AgentRecord H P
     asking = all_asked now old
 
-    module _ (ends : EndsWith old.timing most) (limit : 0 < old.timing.max_retransmits) (fits : (w : Watch) → o ≡ Some w → (w.requests ≡ 0) ⊎ IsPastRequests old.timing most) (goes_on : now < MAX) (possible : old.lite ≡ false → (p : PairRecord) → Has old.pairs p → is_possible now old.timing p ≡ true)
+    module _ (ends : Ends old.timing bound) (limit : 0 < old.timing.max_retransmits) (fits : (w : Watch) → o ≡ Some w → (w.requests ≡ 0) ⊎ IsPastRequest old.timing bound) (goes_on : now < MAX) (possible : old.lite ≡ false → (p : PairRecord) → Has old.pairs p → is_possible now old.timing p ≡ true)
         (named : (p : PairRecord) → Has new.pairs p → new.selected_pair ≡ Some p.number → is_valid p ≡ true) (k : Keeps old) where
       made-on : (needed : AgentRecord H P) → new ≡ needed → Keeps needed → Keeps new
       made-on needed made h = subst (λ (a : AgentRecord H P). Keeps a) (sym made) h
 
       asks-on : Keeps asking
-      asks-on = kept-map floor now OnTime old.next_number (asked now old.timing) old.pairs (λ p. refl) (λ p has q. asked-on old.timing most o now now now p (omega arith) (omega arith) q) k
+      asks-on = kept-map floor now OnTime old.next_number (asked now old.timing) old.pairs (λ p. refl) (λ p has q. asked-on old.timing bound o now now now p (omega arith) (omega arith) q) k
 
       heard-on : (p : PairRecord) → OnTime p → OnTime (heard now p)
       heard-on p q = by p.last_request where
@@ -188,7 +188,7 @@ module _ {H P : Type 0} where
             let was = Has-map (asked now old.timing) old.pairs q has in
             let is_due_now : is_due now old.timing (asked now old.timing was.0) ≡ true = ap (λ x. is_due now old.timing x) (was.2 ∙ one) ∙ due_now.1 in
             let sent : OnTime (checked now old.timing old.controlling id (asked now old.timing was.0)) =
-            checked-on old.timing most ends limit o fits now old.controlling id was.0 goes_on (k.each was.0 was.1) (le-of (due_time_of now old.timing was.0) now is_due_now) (possible full was.0 was.1) in
+            checked-on old.timing bound ends limit o fits now old.controlling id was.0 goes_on (k.each was.0 was.1) (le-of (due_time_of now old.timing was.0) now is_due_now) (possible full was.0 was.1) in
             subst (λ b. OnTime (sent_at b now old.timing old.controlling id q)) (sym calm) (subst (λ (x : PairRecord). OnTime (checked now old.timing old.controlling id x)) was.2 sent)
 
         -- or it is asked along, and valid

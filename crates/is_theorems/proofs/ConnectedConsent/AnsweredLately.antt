@@ -1,5 +1,5 @@
 -- A connected agent that is never lite has a response to a recent check on its path, or a recent check of the peer.
-use Rattle.std.proofs.Common.{◌≡◌, ℕ, ◌-◌, ◌*◌, ◌<◌, ◌&&◌, ◌||◌, Bool, true, false, not, List, nat_lt, is_some, Option, Some, None, inl, inr, ◌⊎◌, refl, sym, ◌∙◌, subst, arith}
+use Rattle.std.proofs.Common.{◌≡◌, ℕ, ◌-◌, ◌*◌, ◌<◌, ◌&&◌, ◌||◌, Bool, true, false, not, List, nat_lt, is_some, Option, Some, None, inl, inr, ◌⊎◌, refl, sym, subst, arith}
 use Rattle.std.specs.Option.{option_map_or}
 use Rattle.std.proofs.lemmas.Bool.Decides.{nat_tests}
 use Rattle.is_proto.specs.Times.{SECOND, later}

@@ -12,7 +12,7 @@ use Rattle.is_pair.specs.Checks.{Check, last_check, unanswered_count, last_round
 use Rattle.is_pair.specs.States.{is_nominating, is_nominated_state}
 use Rattle.is_pair.specs.declared.pair.states.NominationState.{NominationState}
 use Rattle.is_pair.specs.declared.pair.states.NominationState.TheVariants.{None as Unnominated, Nominated, Attempt, Success}
-use Rattle.is_pair.specs.Due.{early_time, is_within, computed_due_time, delay_of, due_time_of, is_triggered, moved_up, next_due_time, triggered, usual_delay, HUSHED_INTERVAL, HUSHED_TIME, LATENESS, SHORT_INTERVAL}
+use Rattle.is_pair.specs.Due.{is_early_on, is_within, computed_due_time, delay_of, due_time_of, is_triggered, moved_up, next_due_time, triggered, usual_delay, HUSHED_INTERVAL, HUSHED_TIME, LATENESS, SHORT_INTERVAL}
 use Rattle.is_pair.specs.Multiset.{is_numbered, change_at, passes_at, is_valid_at}
 use Rattle.is_stun.specs.declared.header.Class.{Class}
 use Rattle.is_stun.specs.declared.header.Class.TheVariants as class
@@ -79,7 +79,7 @@ delay-same now t p q alike =
     ∙ ap (λ had. by p.answers p.nomination p.checks p.checks_sent p.first_sent p.first_after_request (is_valid p) had) alike.consented where
       repeated : ℕ → NominationState → List Check → ℕ → Option ℕ → Option ℕ → ℕ
       repeated n s cs sent first again =
-          if (if n == 0 then is_within (early_time t) now first || is_within (early_time t) now again else is_nominating s && nat_lt (unanswered_count cs) t.max_retransmits)
+          if (if n == 0 then is_early_on now t (record p { first_sent = first; first_after_request = again }) else is_nominating s && nat_lt (unanswered_count cs) t.max_retransmits)
           then early_delay (if n == 0 then sent else unanswered_count cs)
           else usual_delay now t cs
 

@@ -1,9 +1,9 @@
 -- Whatever happens between two `handle_timeout` calls leaves no more checks of other pairs before a pair, except for
 -- one by each added pair, unless the pair itself is answered.
-use Rattle.std.proofs.Common.{◌≡◌, ℕ, ◌≤◌, ◌&&◌, ◌||◌, Bool, true, false, List, Option, Some, None, is_some, unwrap_or, Ok, Err, inl, inr, ◌⊎◌, refl, ap, sym, ◌∙◌, subst, arith, not}
+use Rattle.std.proofs.Common.{◌≡◌, ℕ, ◌≤◌, ◌&&◌, ◌||◌, Bool, true, false, List, Option, Some, None, is_some, unwrap_or, Ok, Err, inl, inr, ◌⊎◌, refl, ap, sym, ◌∙◌, subst, arith}
 use Rattle.std.specs.Prelude.{MatchOption}
 use Rattle.std.proofs.lemmas.Bool.{eq-eqb, eqb-true}
-use Rattle.is_proto.specs.Lists.{Has, same}
+use Rattle.is_proto.specs.Lists.{Has}
 use Rattle.is_candidate.specs.Candidates.{CandidateRecord, candidate_at}
 use Rattle.is_pair.specs.Multiset.{is_numbered, change_at, is_valid_at, keeps_check}
 use Rattle.is_pair.specs.Due.{triggered}

@@ -1,5 +1,5 @@
 -- How many kinds have their turn before one: fewer after each check of another kind, and at most all others.
-use Rattle.std.proofs.Common.{◌≡◌, ℕ, suc, ◌+◌, ◌*◌, ◌<◌, ◌≤◌, ◌&&◌, Bool, true, false, nat_le, nat_lt, List, [], ◌∷◌, length, inl, inr, ◌⊎◌, refl, sym, subst, arith, if◌then◌else◌}
+use Rattle.std.proofs.Common.{◌≡◌, ℕ, suc, ◌+◌, ◌==◌, ◌<◌, ◌≤◌, ◌&&◌, Bool, true, false, nat_le, nat_lt, List, [], ◌∷◌, length, inl, inr, ◌⊎◌, refl, sym, subst, arith, if◌then◌else◌}
 use Rattle.std.proofs.lemmas.Bool.Decides.{nat_tests}
 use Rattle.std.specs.declared.net.socket_addr.SocketAddr.{SocketAddr}
 use Rattle.is_proto.specs.Lists.{Has}
@@ -7,7 +7,7 @@ use Rattle.is_candidate.specs.Addresses.{is_v4}
 use Rattle.is_candidate.specs.Candidates.{CandidateRecord}
 use Rattle.is_candidate.specs.declared.candidate.kind.CandidateKind.{CandidateKind}
 use Rattle.is_candidate.specs.declared.candidate.kind.CandidateKind.TheVariants.{Host, PeerReflexive, ServerReflexive, Relayed}
-use Rattle.is_rules.specs.Kinds.{KINDS, counted_kind, is_outer, kind_between, kind_rank, turn_of, version_rank}
+use Rattle.is_rules.specs.Kinds.{INNER, KINDS, counted_kind, kind_between, kind_rank, remote_rank, side_of, turn_of, version_rank}
 use Rattle.is_rules.specs.Owed.{one_if}
 
 le-from : (n m : ℕ) → nat_le n m ≡ true → n ≤ m
@@ -27,10 +27,6 @@ lt-not n m h = grind (arith, nat_tests, h)
 
 -- ---- kinds
 
-side-most : (b : Bool) → (if b then 0 else 8) ≤ 8
-side-most true = omega arith
-side-most false = omega arith
-
 rank-most : (k : CandidateKind) → kind_rank k ≤ 3
 rank-most PeerReflexive = omega arith
 rank-most ServerReflexive = omega arith
@@ -44,26 +40,27 @@ version-most a = by (is_v4 a) where
   by false = omega arith
 
 pub kind-within : (local : List CandidateRecord) (l r : CandidateRecord) → kind_between local l r < KINDS
-kind-within local l r = sums (if is_outer local l then 0 else 8) (kind_rank (counted_kind r)) (version_rank r.addr) (side-most (is_outer local l)) (rank-most (counted_kind r)) (version-most r.addr) where
-  sums : (a b c : ℕ) → a ≤ 8 → b ≤ 3 → c ≤ 1 → a + (2 * b + c) < 16
-  sums a b c h k l = omega (arith, h, k, l)
+kind-within local l r = by (side_of local l == 0) where
+  by : (outer : Bool) → (if outer then remote_rank r else INNER) < KINDS
+  by true = let rank = rank-most (counted_kind r) in let version = version-most r.addr in omega (arith, rank, version)
+  by false = omega arith
 
 -- ---- turns
 
 -- of two turns, what the kinds are
 abbrev TurnCase : ℕ → ℕ → ℕ → Type 0
-TurnCase next kind turn = ((next ≤ kind) × (turn ≡ kind)) ⊎ ((kind < next) × (turn ≡ kind + 16))
+TurnCase next kind turn = ((next ≤ kind) × (turn ≡ kind)) ⊎ ((kind < next) × (turn ≡ kind + KINDS))
 
 turn-case : (next kind : ℕ) → TurnCase next kind (turn_of next kind)
 turn-case next kind = by (nat_le next kind) refl where
-  by : (b : Bool) → nat_le next kind ≡ b → TurnCase next kind (if b then kind else kind + 16)
+  by : (b : Bool) → nat_le next kind ≡ b → TurnCase next kind (if b then kind else kind + KINDS)
   by true is = inl (le-from next kind is, refl)
   by false is = inr (le-fails next kind is, refl)
 
 -- two kinds with the same turn are one
 pub same-kind : (next i j : ℕ) → i < KINDS → j < KINDS → turn_of next i ≡ turn_of next j → i ≡ j
 same-kind next i j i_in j_in same = by (turn_of next i) (turn_of next j) (turn-case next i) (turn-case next j) i_in j_in same where
-  by : (x y : ℕ) → TurnCase next i x → TurnCase next j y → i < 16 → j < 16 → x ≡ y → i ≡ j
+  by : (x y : ℕ) → TurnCase next i x → TurnCase next j y → i < KINDS → j < KINDS → x ≡ y → i ≡ j
   by x y (inl a) (inl b) i_in j_in same = let c = a.1 in let d = b.1 in omega (arith, c, d, same)
   by x y (inl a) (inr b) i_in j_in same = let c = a.1 in let d = b.1 in omega (arith, c, d, same, i_in)
   by x y (inr a) (inl b) i_in j_in same = let c = a.1 in let d = b.1 in omega (arith, c, d, same, j_in)
@@ -74,14 +71,14 @@ still-before : (next i j x : ℕ) → i < KINDS → x < KINDS → turn_of next j
 still-before next i j x i_in x_in led leads =
     by (turn_of next j) (turn_of next i) (turn_of (j + 1) x) (turn_of (j + 1) i) (turn_of next x) (turn-case next j) (turn-case next i) (turn-case (j + 1) x)
     (turn-case (j + 1) i) (turn-case next x) i_in x_in led leads where
-      by : (a b c d e : ℕ) → TurnCase next j a → TurnCase next i b → TurnCase (j + 1) x c → TurnCase (j + 1) i d → TurnCase next x e → i < 16 → x < 16 → a < b → c < d → e < b
+      by : (a b c d e : ℕ) → TurnCase next j a → TurnCase next i b → TurnCase (j + 1) x c → TurnCase (j + 1) i d → TurnCase next x e → i < KINDS → x < KINDS → a < b → c < d → e < b
       by a b c d e ja ib xc id xe i_in x_in led leads = grind (arith, ja, ib, xc, id, xe, i_in, x_in, led, leads)
 
 -- the kind that was checked comes after it then
 checked-after : (next i j : ℕ) → i < KINDS → turn_of next j < turn_of next i → turn_of (j + 1) i ≤ turn_of (j + 1) j
 checked-after next i j i_in led =
     by (turn_of next j) (turn_of next i) (turn_of (j + 1) j) (turn_of (j + 1) i) (turn-case next j) (turn-case next i) (turn-case (j + 1) j) (turn-case (j + 1) i) i_in led where
-      by : (a b c d : ℕ) → TurnCase next j a → TurnCase next i b → TurnCase (j + 1) j c → TurnCase (j + 1) i d → i < 16 → a < b → d ≤ c
+      by : (a b c d : ℕ) → TurnCase next j a → TurnCase next i b → TurnCase (j + 1) j c → TurnCase (j + 1) i d → i < KINDS → a < b → d ≤ c
       by a b c d ja ib jc id i_in led = grind (arith, ja, ib, jc, id, i_in, led)
 
 -- ---- how many come before

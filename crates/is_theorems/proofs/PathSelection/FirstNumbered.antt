@@ -10,7 +10,6 @@ use Rattle.is_pair.specs.Multiset.{is_named_by}
 use Rattle.is_rules.proofs.PairLists.ChosenPair.{no-some, same-some}
 use Rattle.is_rules.proofs.PairLists.RisingNumbers.{AreRising}
 use Rattle.is_rules.specs.Nominating.{first_after, first_numbered, first_with, if_eligible, is_eligible, number_of, outnumbers}
-use Rattle.is_theorems.proofs.BasicLemmas.EqualAddresses.{both}
 use Rattle.is_theorems.proofs.RuleEffects.SelectedPaths.{one_pair}
 
 -- ---- one comparison

@@ -1,6 +1,6 @@
 -- In the rounds in which the check is due, a success response is accepted or the check is sent. Then a success response comes within the
 -- round trip, and the first one selects a path. What mutants/specifications changes is read by tactics.
-use Rattle.std.proofs.Common.{◌≡◌, ℕ, ◌+◌, ◌*◌, ◌<◌, ◌≤◌, true, List, [], ◌∷◌, ◌++◌, length, inl, inr, ◌⊎◌, refl, sym, ◌∙◌, subst, arith}
+use Rattle.std.proofs.Common.{◌≡◌, ℕ, ◌+◌, ◌*◌, ◌<◌, ◌≤◌, true, List, [], ◌∷◌, ◌++◌, length, inl, inr, ◌⊎◌, refl, sym, subst, arith}
 use Rattle.is_proto.specs.Lists.{Has}
 use Rattle.is_proto.specs.Times.{MAX}
 use Rattle.is_candidate.specs.Candidates.{CandidateRecord}
@@ -12,9 +12,9 @@ use Rattle.is_rules.specs.Sending.{path_of}
 use Rattle.is_rules.specs.Sound.{IsSound}
 use Rattle.is_rules.specs.Steps.{Call, Entry, Done}
 use Rattle.is_theorems.specs.AskedExecutions.{IsAnsweredAlong, SuccessesSelect}
-use Rattle.is_theorems.specs.Executions.{AcceptsSuccess, ExecutionRound, ExecutionRounds}
+use Rattle.is_theorems.specs.Executions.{ExecutionRound, ExecutionRounds}
 use Rattle.is_theorems.specs.Exchange.{AreBetween, Execution}
-use Rattle.is_theorems.specs.FirstChecks.{ExecutionsCheckFromDue, SufficeForDue, times_of}
+use Rattle.is_theorems.specs.FirstChecks.{ExecutionsCheckFromDue}
 use Rattle.is_theorems.specs.FirstTimeouts.{AreInRound, ExecutionsReachUnanswered, EndsAmong, IsOpenRound, IsReached, Suffices}
 use Rattle.is_theorems.specs.InTime.{ChecksBy, ComeBy, IsTimed}
 use Rattle.is_theorems.specs.Progress.{Awaits, IsUnanswered}

@@ -1,9 +1,11 @@
--- Each transition leaves the pacing interval, except that `set_timing_advance` sets it.
-use Rattle.std.proofs.Common.{◌≡◌, ℕ, ◌==◌, Bool, true, false, List, Option, Some, None, Ok, Err, inl, inr, ap, ◌∙◌, ◌&&◌, not, refl}
+-- Each transition leaves the pacing interval, except that `set_timing_advance` sets it; and the time up to which checks are charged, except
+-- for the charge of a check.
+use Rattle.std.proofs.Common.{◌≡◌, ℕ, ◌==◌, Bool, true, false, List, Option, Some, None, Ok, Err, inl, inr, ap, ◌∙◌, ◌&&◌, max, refl, sym, if◌then◌else◌}
 use Rattle.std.specs.List.{list_any}
+use Rattle.std.specs.Option.{option_map_or}
 use Rattle.std.specs.Prelude.{MatchBool, MatchOption}
 use Rattle.rand_core.specs.Stream.{Stream}
-use Rattle.is_proto.specs.Lists.{same}
+use Rattle.is_proto.specs.Times.{later}
 use Rattle.is_candidate.specs.Candidates.{CandidateRecord, candidate_at}
 use Rattle.is_pair.specs.Multiset.{is_valid_at}
 use Rattle.is_pair.specs.Pairs.{PairRecord}
@@ -14,6 +16,7 @@ use Rattle.is_stun.specs.declared.timing.StunTiming.{StunTiming}
 use Rattle.is_rules.specs.Accepting.{Takes}
 use Rattle.is_rules.specs.Agent.{AgentRecord}
 use Rattle.is_rules.specs.Answers.{HandlesSuccess, HandlesFailure}
+use Rattle.is_rules.specs.Charging.{CHARGE, charged_after}
 use Rattle.is_rules.specs.Checking.{all_asked, ChecksTop, MayCheck}
 use Rattle.is_rules.specs.declared.credentials.IceCreds.{IceCreds}
 use Rattle.is_rules.specs.declared.places.RemotePlace.{RemotePlace}
@@ -24,11 +27,13 @@ use Rattle.is_rules.specs.declared.emitted.Emitted.{Emitted}
 use Rattle.is_rules.specs.declared.emitted.Issued.{Issued}
 use Rattle.is_rules.specs.declared.emitted.Path.{Path}
 use Rattle.is_rules.specs.Discarding.{local_to_discard, remote_to_discard, InvalidatesAt}
+use Rattle.is_rules.specs.Emitted.{issued_as}
 use Rattle.is_rules.specs.Forming.{formed, with_pair, Combination, FormsAll}
 use Rattle.is_rules.specs.Nominating.{followed, remains, selection_of, Nominates}
 use Rattle.is_rules.specs.Places.{local_place}
 use Rattle.is_rules.specs.Request.{RequestRecord, request_in}
 use Rattle.is_rules.specs.Roles.{conflict_of, switched}
+use Rattle.is_rules.specs.Sending.{path_of}
 use Rattle.is_rules.specs.Settling.{loses_selected, Reselects}
 use Rattle.is_rules.specs.Serving.{is_misled, is_for_other_peer, pair_served, request_counted, selects_at_requests, with_sender, with_sender_at, Drops, Queues, RecordsAndResponds, FindsOrAddsPair, AddsUnknownSender, CountsAndServes, ResolvesRoleConflictBy, ResolvesRoleConflict, Serves}
 use Rattle.is_rules.specs.Steps.{SetMtu, SetControlTieBreaker, SetMaxCandidatePairs, SetMaxDiscovered, SetIceLite, SetRenomination, SetConsent, SetProfile, SetTimingAdvance, SetInitialStunRto, SetMaxStunRto, SetMaxStunRetransmits, SetLiteTimeout, SetLocalPreference, SetControlling, SetLocalCredentials, SetRemoteCredentials, SkipPairIds, AddLocalCandidate, AddRemoteCandidate, InvalidateCandidate, RestartIce, RecreateCandidatePairs, ReceivePacket, HandleTimeout, PollTransmit, PollTimeout, PollEvent, Entry, Becomes, Receives, NotCalled, quiet}
@@ -40,7 +45,8 @@ use Rattle.is_theorems.proofs.RuleEffects.UnchangedSettings.{either}
 use Rattle.is_theorems.proofs.RuleEffects.NominatedPairs.{SelectsPath, selects_path}
 use Rattle.is_theorems.proofs.CallEffects.FailedCallsAndNewAgents.{mtu_kept, local_kept, remote_kept, restart_kept, recreation_kept, enrolment_kept, storing_kept}
 use Rattle.is_theorems.specs.Pacing.{PacingIsSet}
-use Rattle.is_theorems.proofs.RuleEffects.NotedErrors.{recoded, by_failure}
+use Rattle.is_theorems.specs.Pending.{is_request}
+use Rattle.is_theorems.proofs.RuleEffects.NotedErrors.{by_failure}
 use Rattle.is_rules.specs.Leaving.{path_left}
 
 -- what the times of timeouts depend on, pairs aside
@@ -52,13 +58,24 @@ pub record Clock : Type 0 where
 pub record Pace : Type 0 where
   pub timing_advance : ℕ
   pub clock : Clock
+  pub charged_until : ℕ
+
+abbrev is_check : Option Issued → Bool
+is_check issued = option_map_or (λ (x : Issued). is_request x.class) issued false
+
+-- with the charge of this check, if one is issued
+abbrev paid : ℕ → Option Issued → Pace → Pace
+paid now issued p = record p { charged_until = if is_check issued then later (max now p.charged_until) CHARGE else p.charged_until }
 
 module _ {H P : Type 0} where
   abbrev pub clock_of : AgentRecord H P → Clock
   clock_of a = record { lite = a.lite; timing = a.timing; last_time = a.last_time }
 
   abbrev pub pace_of : AgentRecord H P → Pace
-  pace_of a = record { timing_advance = a.timing_advance; clock = clock_of a }
+  pace_of a = record { timing_advance = a.timing_advance; clock = clock_of a; charged_until = a.charged_until }
+
+  abbrev pub charged : ℕ → Option Issued → AgentRecord H P → AgentRecord H P
+  charged now issued a = record a { charged_until = if is_check issued then charged_after now a else a.charged_until }
 
   abbrev Same : AgentRecord H P → AgentRecord H P → Type 0
   Same old new = pace_of new ≡ pace_of old
@@ -159,19 +176,24 @@ module _ {H P : Type 0} where
 
     -- ---- the `handle_timeout` call
 
-    tops : (now : ℕ) (peer : IceCreds) (next : Option PairRecord) (old new : AgentRecord H P) (s t : Stream) (issued : Option Issued) → ChecksTop mac now peer next old s issued new t → Same old new
-    tops now peer None old new s t issued h = made-of old new h.1
-    tops now peer (Some p) old new s t issued (id, drawn, values, is, made) = made-of _ new made
+    issues : (now : ℕ) (given issued : Option Issued) (old : AgentRecord H P) → issued ≡ given → pace_of (charged now given old) ≡ pace_of (charged now issued old)
+    issues now given issued old is = ap (λ o. pace_of (charged now o old)) (sym is)
 
-    checks : (now : ℕ) (remote : Option IceCreds) (old new : AgentRecord H P) (s t : Stream) (issued : Option Issued) → MayCheck mac now remote old s issued new t → Same old new
-    checks now None old new s t issued h = made-of old new h.1
+    tops : (now : ℕ) (peer : IceCreds) (next : Option PairRecord) (old new : AgentRecord H P) (s t : Stream) (issued : Option Issued) → ChecksTop mac now peer next old s issued new t → Same (charged now issued old) new
+    tops now peer None old new s t issued h = made-of old new h.1 ∙ issues now None issued old h.0
+    tops now peer (Some p) old new s t issued (id, drawn, values, is, made) = made-of _ new made ∙ issues now (Some (issued_as (path_of old p) class.Request id)) issued old is
+
+    checks : (now : ℕ) (remote : Option IceCreds) (old new : AgentRecord H P) (s t : Stream) (issued : Option Issued) → MayCheck mac now remote old s issued new t → Same (charged now issued old) new
+    checks now None old new s t issued h = made-of old new h.1 ∙ issues now None issued old h.0
     checks now (Some peer) old new s t issued h = either old.lite h
-        (λ _ k. made-of _ new k.1)
+        (λ _ k. made-of _ new k.1 ∙ issues now None issued old k.0)
         (λ _ k. tops now peer k.0 (all_asked now old) new s t issued k.2)
 
-    pub maintains : (now : ℕ) (old new : AgentRecord H P) (s t : Stream) (emitted : Emitted) → MaintainsPairs mac now old s emitted new t → Same (at_timeout now old) new
+    pub maintains : (now : ℕ) (old new : AgentRecord H P) (s t : Stream) (emitted : Emitted) → MaintainsPairs mac now old s emitted new t → Same (charged now emitted.issued (at_timeout now old)) new
     maintains now old new s t emitted (first, second, issued, named, kept, nominating, giving, checking, is) =
-        checks now kept.remote_creds kept new s t issued checking ∙ (gives-up-same now named kept second giving ∙ nominates-same (path_left now (at_timeout now old)) named first nominating)
+        let stays = gives-up-same now named kept second giving ∙ nominates-same (path_left now (at_timeout now old)) named first nominating in
+        checks now kept.remote_creds kept new s t issued checking ∙ (ap (λ p. paid now issued p) stays
+        ∙ issues now issued emitted.issued (at_timeout now old) (ap (λ (x : Emitted). x.issued) is))
 
     times-out : (now : ℕ) (request : Option RequestRecord) (old new : AgentRecord H P) (s t : Stream) (emitted : Emitted)
         → MatchOption request (MaintainsPairs mac now old s emitted new t) (λ q. ServesQueued mac q (at_request now old) s emitted new t) → new.timing_advance ≡ old.timing_advance

@@ -72,7 +72,7 @@ use Rattle.is_theorems.proofs.RenominatedPaths.OnePathAtBothAgents.{followed-sel
 use Rattle.is_theorems.proofs.RuleEffects.ChangedPairs.{eligible_valid, one_changed, parts_of}
 use Rattle.is_theorems.proofs.RuleEffects.EarlierAndNewPairs.{numbered_before, path_in, pushed}
 use Rattle.is_theorems.proofs.RuleEffects.UnchangedSettings.{either}
-use Rattle.is_theorems.proofs.RuleEffects.NotedErrors.{recoded, by_failure}
+use Rattle.is_theorems.proofs.RuleEffects.NotedErrors.{by_failure}
 
 -- a number equals itself
 differ : (x y : ℕ) → (x == y) ≡ false → x ≡ y → ⊥

@@ -4,7 +4,7 @@ use Rattle.std.specs.Prelude.{slice_set, MatchOption}
 use Rattle.std.specs.List.{list_any}
 use Rattle.std.proofs.lemmas.Bool.{eqb-true, eq-eqb}
 use Rattle.rand_core.specs.Stream.{Stream}
-use Rattle.is_proto.specs.Lists.{Has, same}
+use Rattle.is_proto.specs.Lists.{Has}
 use Rattle.is_proto.specs.declared.error.IceError.{IceError}
 use Rattle.is_candidate.specs.Candidates.{CandidateRecord, IsBased, base_of, candidate_at}
 use Rattle.is_pair.specs.Multiset.{change_at, change_pair, is_valid_at, IsPairBetween}
@@ -53,7 +53,7 @@ use Rattle.is_theorems.proofs.BasicLemmas.VacantIndices.{known-in, vacant-at, pu
 use Rattle.is_theorems.proofs.BasicLemmas.CandidatesByIndex.{at-end}
 use Rattle.is_theorems.proofs.RuleEffects.TriggeredPairs.{triggered_by, by_trigger}
 use Rattle.is_theorems.proofs.BasicLemmas.ServedPairs.{numbered-by}
-use Rattle.is_theorems.proofs.RuleEffects.NotedErrors.{recoded, by_failure}
+use Rattle.is_theorems.proofs.RuleEffects.NotedErrors.{by_failure}
 use Rattle.is_rules.specs.Leaving.{path_left}
 
 -- a request leaves the number and the indices of its pair

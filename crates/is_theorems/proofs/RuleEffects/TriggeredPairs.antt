@@ -1,5 +1,5 @@
 -- A request that triggers a check changes only when its pair is due.
-use Rattle.std.proofs.Common.{◌≡◌, ℕ, ◌&&◌, Bool, true, false, Option, Some, None, min, refl, sym, subst, if◌then◌else◌}
+use Rattle.std.proofs.Common.{◌≡◌, ℕ, ◌&&◌, Bool, true, false, Option, min, refl, sym, subst, if◌then◌else◌}
 use Rattle.std.specs.Prelude.{option_map}
 use Rattle.is_stun.specs.Timing.{is_modern}
 use Rattle.is_pair.specs.Pairs.{PairRecord}

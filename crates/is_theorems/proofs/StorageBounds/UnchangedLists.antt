@@ -1,5 +1,5 @@
 -- The rules that do not change the lists that a limit bounds.
-use Rattle.std.proofs.Common.{◌≡◌, ℕ, Bool, true, false, List, Option, Some, None, refl, ap, ◌∙◌, ◌&&◌, not}
+use Rattle.std.proofs.Common.{◌≡◌, ℕ, Bool, true, false, List, Option, Some, None, refl, ap, ◌∙◌}
 use Rattle.std.specs.List.{list_any}
 use Rattle.rand_core.specs.Stream.{Stream}
 use Rattle.is_pair.specs.Pairs.{PairRecord}
@@ -18,7 +18,7 @@ use Rattle.is_rules.specs.Timeouts.{RemovesExpired, MaintainsPairs, at_timeout, 
 use Rattle.is_theorems.proofs.RuleEffects.Reselection.{by-reselecting}
 use Rattle.is_theorems.proofs.RuleEffects.UnchangedSettings.{either}
 use Rattle.is_theorems.proofs.StorageBounds.BoundedLists.{Lists}
-use Rattle.is_theorems.proofs.RuleEffects.NotedErrors.{recoded, by_failure}
+use Rattle.is_theorems.proofs.RuleEffects.NotedErrors.{by_failure}
 use Rattle.is_rules.specs.Leaving.{path_left}
 
 module _ {H P : Type 0} where

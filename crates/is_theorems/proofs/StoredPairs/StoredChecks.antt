@@ -16,7 +16,7 @@ use Rattle.is_candidate.specs.Addresses.{same_address}
 use Rattle.is_candidate.specs.Candidates.{CandidateRecord, candidate_at}
 use Rattle.is_pair.specs.Multiset.{change_at, change_pair}
 use Rattle.is_pair.specs.Checks.{Check, has_id, is_kept}
-use Rattle.is_pair.specs.Pairs.{PairRecord, check_of, checked, renominated}
+use Rattle.is_pair.specs.Pairs.{PairRecord, check_of, renominated}
 use Rattle.is_stun.specs.declared.header.Class.{Class}
 use Rattle.is_stun.specs.declared.header.Class.TheVariants as class
 use Rattle.is_stun.specs.Theorems.{IsPut}

@@ -1,5 +1,5 @@
 -- A pair on which a request was served is urgent in rounds until its path is answered: so it is checked like any urgent pair.
-use Rattle.std.proofs.Common.{◌≡◌, ℕ, ◌<◌, ◌≤◌, ◌&&◌, ◌||◌, Bool, true, false, not, List, [], ◌∷◌, ◌++◌, length, nat_lt, Some, None, is_some, inl, inr, ◌⊎◌, refl, ap, sym, ◌∙◌, subst, arith}
+use Rattle.std.proofs.Common.{◌≡◌, ℕ, ◌&&◌, ◌||◌, Bool, true, false, not, List, [], ◌∷◌, ◌++◌, length, nat_lt, Some, inl, inr, ◌⊎◌, refl, ap, sym, ◌∙◌, subst, arith}
 use Rattle.rand_core.specs.Stream.{Stream}
 use Rattle.is_proto.specs.Lists.{Has}
 use Rattle.is_stun.specs.Timing.{is_modern}
@@ -19,19 +19,19 @@ use Rattle.is_theorems.specs.Asked.{IsAnsweredIn}
 use Rattle.is_theorems.specs.AskedExecutions.{Ends}
 use Rattle.is_theorems.specs.KindsInTurn.{WaitsInRounds}
 use Rattle.is_theorems.specs.Logs.{Logged}
-use Rattle.is_theorems.specs.Reached.{ChecksIn, IsEndedIn, IsPassing, is_in_round, selects}
+use Rattle.is_theorems.specs.Reached.{IsEndedIn, IsPassing, is_in_round, selects}
 use Rattle.is_theorems.specs.Rounds.{LoggedRound, RunsOn, began_at, entries_of}
 use Rattle.is_theorems.specs.Runs.{IsFresh, Run}
 use Rattle.is_theorems.specs.ServedSoon.{IsServed, ServedAreCheckedSoon}
 use Rattle.is_theorems.specs.Staying.{Stays}
-use Rattle.is_theorems.specs.UrgentFirst.{PutsUrgentFirst, PutUrgentFirstIn, IsOvertakenIn}
+use Rattle.is_theorems.specs.UrgentFirst.{PutsUrgentFirst, PutUrgentFirstIn}
 use Rattle.is_theorems.proofs.CallEffects.PathAndTradeEffects.{path_theorem}
 use Rattle.is_theorems.proofs.DuePairs.AfterNominationAndRemoval.{answered_at, lasts-young}
 use Rattle.is_theorems.proofs.DuePairs.NoNominationDue.{lite_stays}
 use Rattle.is_theorems.proofs.ExecutionLogs.LogSegments.{run-on}
 use Rattle.is_theorems.proofs.ExecutionLogs.LogTheorems.{runs_sound}
 use Rattle.is_theorems.proofs.ExecutionLogs.SegmentsAsExecutions.{ended-fits, split-ended, split-run}
-use Rattle.is_theorems.proofs.PollingRounds.DuePairsInLogs.{answered-later, has-following, lasts-at}
+use Rattle.is_theorems.proofs.PollingRounds.DuePairsInLogs.{answered-later, lasts-at}
 use Rattle.is_theorems.proofs.PollingRounds.WaitingPairs.{begins, total_at}
 use Rattle.is_theorems.proofs.RuleEffects.SelectedPaths.{one_pair}
 use Rattle.is_rules.proofs.PairLists.RisingNumbers.{rising-each}

@@ -6,7 +6,6 @@ use Rattle.rand_core.specs.Stream.{Stream}
 use Rattle.is_proto.specs.Lists.{Has}
 use Rattle.is_proto.specs.Times.{MAX}
 use Rattle.is_candidate.specs.Candidates.{CandidateRecord}
-use Rattle.is_pair.specs.Checks.{unanswered_count}
 use Rattle.is_pair.specs.Due.{is_urgent}
 use Rattle.is_pair.specs.Multiset.{is_named_by}
 use Rattle.is_pair.specs.Pairs.{PairRecord}
@@ -31,11 +30,9 @@ use Rattle.is_theorems.specs.Runs.{IsFresh, Run}
 use Rattle.is_theorems.specs.UrgentFirst.{IsOvertaken, IsOvertakenIn, PutsUrgentFirst, PutUrgentFirstIn, UrgentPairsAreReached}
 use Rattle.is_theorems.proofs.CallEffects.PathAndTradeEffects.{path_theorem}
 use Rattle.is_theorems.proofs.DuePairs.AfterNominationAndRemoval.{Base, answered_at, stays-young, keeps-young}
-use Rattle.is_theorems.proofs.DuePairs.ChecksAhead.{calls_left, times}
 use Rattle.is_theorems.proofs.DuePairs.FirstDuePair.{timeout-follows}
 use Rattle.is_theorems.proofs.DuePairs.PollingCycles.{distinct-sound, maintains_pairs-from}
 use Rattle.is_theorems.proofs.EarlierChecks.BetweenTimeouts.{Ground}
-use Rattle.is_theorems.proofs.EarlierChecks.ChecksOfOtherPairs.{all-but, leads}
 use Rattle.is_theorems.proofs.ExecutionLogs.LogSegments.{passed as passed-at, run-on}
 use Rattle.is_theorems.proofs.ExecutionLogs.LogTheorems.{runs_sound}
 use Rattle.is_theorems.proofs.ExecutionLogs.SegmentsAsExecutions.{split-ended, split-run}

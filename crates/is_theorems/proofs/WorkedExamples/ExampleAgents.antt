@@ -73,6 +73,7 @@ module _ {H P : Type 0} (mac : H → List ℕ → List ℕ → List ℕ) (provid
     events = IceRestart creds_1 ∷ IceConnectionStateChange Checking ∷ [];
     last_time = Some 0;
     ahead_turn = true;
+    charged_until = milliseconds 25;
     pairs = record (new_pair 0 0 0 9151313343271665150) {
       checks = record { id = id; sent = 0; answered = None; nominated = false; controlling = true } ∷ [];
       checks_sent = 1;

@@ -77,7 +77,7 @@ host_next : (q : PairRecord) → Has due_pairs q → TurnsBefore (own_1 ∷ []) 
 host_next q (inl same) =
     subst (λ x. TurnsBefore (own_1 ∷ []) remote_candidates urgent_ahead 4 0 modern_timing (asked 0 modern_timing host_pair) x) same (inr (refl, inr (refl, omega arith)))
 host_next q (inr (inl same)) =
-    let earlier : 10 < 22 = omega arith in
+    let earlier : 10 < 15 = omega arith in
     subst (λ x. TurnsBefore (own_1 ∷ []) remote_candidates urgent_ahead 4 0 modern_timing (asked 0 modern_timing host_pair) x) same (inl earlier)
 host_next q (inr (inr none)) = absurd none
 

@@ -3,7 +3,7 @@ use Rattle.is.proofs.AgentLogs.UnacceptedBytes.{packets_are_settled}
 use Rattle.is.proofs.AgentLogs.PollingOrder.{others_issue_none, queues_are_kept}
 use Rattle.is.proofs.AgentLogs.PlainAgents.{plain_never_lite, headline}
 use Rattle.is.proofs.AgentLogs.StoredAndQueued.{queues_stay_short, discoveries_are_few}
-use Rattle.is.proofs.AgentLogs.SentChecks.{checks_stay_paced, seconds_stay_short, silent_pairs_stay_few}
+use Rattle.is.proofs.AgentLogs.SentChecks.{asked_pairs_stay_few, checks_stay_paced, seconds_stay_short, silent_pairs_stay_few}
 use Rattle.is.proofs.AgentLogs.ReportedPaths.{queued_are_selected, polled_are_selected, polled_are_answered, polled_are_nominated_by_peer, settings_are_those_set}
 use Rattle.is.proofs.runs.run.Goals as goal
 
@@ -117,3 +117,6 @@ returns-clause-seconds g c fresh = seconds_stay_short _ _ _ _ _ fresh c.checks_a
 
 pub returns-clause-silent : goal.returns-clause-silent
 returns-clause-silent g c fresh = silent_pairs_stay_few _ _ _ _ _ fresh c.silent_pairs_get_few.ensures.few
+
+pub returns-clause-asked : goal.returns-clause-asked
+returns-clause-asked g c fresh = asked_pairs_stay_few _ _ _ _ _ fresh c.silent_pairs_get_few.ensures.asked

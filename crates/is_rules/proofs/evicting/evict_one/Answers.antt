@@ -28,7 +28,7 @@ counts-least kinds kind pairs p its is = let one : one_if (is_of_kind kinds kind
 
 pub overflow_sub-counts : goal.overflow_sub-counts
 overflow_sub-counts c =
-    let kinds = kind_of c.args.kinds.now.local.now c.args.remote.now in
+    let kinds = kind_of c.args.kinds.now.local.now c.args.kinds.now.remote.now in
     let pairs = multiset_of c.args.pairs.now in
     let kind = c.most_numerous-kind.result in
     let least : IsLeastOfKind kinds kind pairs (Some c.in-Some.least.now) = c.in-Some.ensures in
@@ -40,25 +40,25 @@ overflow_sub-counts c =
 
 pub returns-in-None-clause-none : goal.returns-in-None-clause-none
 returns-in-None-clause-none c = λ is.
-    let kinds = kind_of c.args.kinds.now.local.now c.args.remote.now in
+    let kinds = kind_of c.args.kinds.now.local.now c.args.kinds.now.remote.now in
     let pairs = multiset_of c.args.pairs.now in
     let kind = c.most_numerous-kind.result in
     let none : pairs ≡ [] = lowest-of-most kinds kind pairs None
-    (most-counted c.args.kinds.now.local.now c.args.remote.now pairs c.args.counts.now kind c.requires.counted c.most_numerous-kind.ensures.within c.most_numerous-kind.ensures.most) c.in-None.ensures in
+    (most-counted c.args.kinds.now.local.now c.args.kinds.now.remote.now pairs c.args.counts.now kind c.requires.counted c.most_numerous-kind.ensures.within c.most_numerous-kind.ensures.most) c.in-None.ensures in
     (none, none)
 
 pub returns-in-Some-clause-one : goal.returns-in-Some-clause-one
 returns-in-Some-clause-one c = λ is.
-    let kinds = kind_of c.args.kinds.now.local.now c.args.remote.now in
+    let kinds = kind_of c.args.kinds.now.local.now c.args.kinds.now.remote.now in
     let pairs = multiset_of c.args.pairs.now in
     let kind = c.most_numerous-kind.result in
     let p = c.in-Some.least.now in
-    let most = most-counted c.args.kinds.now.local.now c.args.remote.now pairs c.args.counts.now kind c.requires.counted c.most_numerous-kind.ensures.within c.most_numerous-kind.ensures.most in
+    let most = most-counted c.args.kinds.now.local.now c.args.kinds.now.remote.now pairs c.args.counts.now kind c.requires.counted c.most_numerous-kind.ensures.within c.most_numerous-kind.ensures.most in
     (p, lowest-of-most kinds kind pairs (Some p) most c.in-Some.ensures, c.remove.ensures.left ∙ ap (λ n. without (is_numbered n) pairs) c.id-number.ensures)
 
 pub returns-in-Some-clause-counted : goal.returns-in-Some-clause-counted
 returns-in-Some-clause-counted c = λ other less.
-    let kinds = kind_of c.args.kinds.now.local.now c.args.remote.now in
+    let kinds = kind_of c.args.kinds.now.local.now c.args.kinds.now.remote.now in
     let pairs = multiset_of c.args.pairs.now in
     let kind = c.most_numerous-kind.result in
     let least : IsLeastOfKind kinds kind pairs (Some c.in-Some.least.now) = c.in-Some.ensures in

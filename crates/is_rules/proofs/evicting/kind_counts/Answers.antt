@@ -19,7 +19,7 @@ raised counts k kind within = by (k == kind) refl where
 
 pub loop-pair-preserved : goal.loop-pair-preserved
 loop-pair-preserved c =
-    let kinds = kind_of c.args.kinds.now.local.now c.args.remote.now in
+    let kinds = kind_of c.args.kinds.now.local.now c.args.kinds.now.remote.now in
     let items = c.as_slice-pair-items.result.now in
     let i = c.loop-pair.pair-index in
     let x = c.pair-item.result in
@@ -34,5 +34,5 @@ loop-pair-preserved c =
           let its : one_if (c.kind_of.result == kind) ≡ one_if (kinds x == kind) = ap (λ k. one_if (k == kind)) c.kind_of.ensures.kind in
           omega (arith, was, head, up, its);
       long = length-set c.loop-pair.counts c.kind_of.result (slice_index_or c.loop-pair.counts c.kind_of.result 0 + 1) ∙ long;
-      placed = (placed-first c.args.kinds.now.local.now c.args.remote.now x (drop i items) (drop (i + 1) items) more c.loop-pair.invariant.placed).1;
+      placed = (placed-first c.args.kinds.now.local.now c.args.kinds.now.remote.now x (drop i items) (drop (i + 1) items) more c.loop-pair.invariant.placed).1;
     }

@@ -9,7 +9,7 @@ use Rattle.is_rules.proofs.evicting.kind_counts.Given as goal
 abbrev pub invariant-loop-pair : goal.invariant-loop-pair
 invariant-loop-pair l = record {
   counted : (kind : ℕ) → kind < KINDS
-      → slice_index l.counts kind + kind_count (kind_of l.kinds.local.now l.remote) (drop l.pair-index l.pair-items) kind ≡ kind_count (kind_of l.kinds.local.now l.remote) (multiset_of l.pairs) kind;
+      → slice_index l.counts kind + kind_count (kind_of l.kinds.local.now l.kinds.remote.now) (drop l.pair-index l.pair-items) kind ≡ kind_count (kind_of l.kinds.local.now l.kinds.remote.now) (multiset_of l.pairs) kind;
   long : length l.counts ≡ KINDS;
-  placed : are_placed l.kinds.local.now l.remote (drop l.pair-index l.pair-items) ≡ true;
+  placed : are_placed l.kinds.local.now l.kinds.remote.now (drop l.pair-index l.pair-items) ≡ true;
 }

@@ -10,7 +10,7 @@ use Rattle.is_rules.proofs.lowest.evict_together.Goals as goal
 pub returns-clause-evicted : goal.returns-clause-evicted
 returns-clause-evicted c =
     let local = c.args.kinds.now.local.now in
-    let remote = c.args.remote.now in
+    let remote = c.args.kinds.now.remote.now in
     let old = multiset_of c.args.pairs.now in
     let last = c.last_of_each-last.result in
     let counts = c.args.counts.now in
@@ -23,6 +23,6 @@ returns-clause-evicted c =
 pub returns-clause-placed : goal.returns-clause-placed
 returns-clause-placed c =
     let local = c.args.kinds.now.local.now in
-    let remote = c.args.remote.now in
+    let remote = c.args.kinds.now.remote.now in
     let last = c.last_of_each-last.result in
     rw (c.remove_by_priority.ensures.left) (placed-without local remote (is_low_of_kind local remote last.priorities last.numbers) (multiset_of c.args.pairs.now) c.requires.placed)

@@ -48,9 +48,9 @@ one-own k j same = by (j == k) refl where
 
 pub overflow_add-counts : goal.overflow_add-counts
 overflow_add-counts c =
-    let kinds = kind_of c.args.going.now.kinds.now.local.now c.args.going.now.remote.now in
+    let kinds = kind_of c.args.going.now.kinds.now.local.now c.args.going.now.kinds.now.remote.now in
     let last = c.args.going.now.last.now in
-    let t = is_low_of_kind c.args.going.now.kinds.now.local.now c.args.going.now.remote.now last.priorities last.numbers in
+    let t = is_low_of_kind c.args.going.now.kinds.now.local.now c.args.going.now.kinds.now.remote.now last.priorities last.numbers in
     let items = c.as_slice-pair-items.result.now in
     let i = c.loop-pair.pair-index in
     let x = c.pair-item.result in
@@ -67,7 +67,7 @@ overflow_add-counts c =
 pub loop-pair-preserved : goal.loop-pair-preserved
 loop-pair-preserved c =
     let local = c.args.going.now.kinds.now.local.now in
-    let remote = c.args.going.now.remote.now in
+    let remote = c.args.going.now.kinds.now.remote.now in
     let kinds = kind_of local remote in
     let last = c.args.going.now.last.now in
     let t = is_low_of_kind local remote last.priorities last.numbers in

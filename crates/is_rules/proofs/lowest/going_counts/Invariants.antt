@@ -11,10 +11,10 @@ abbrev pub invariant-loop-pair : goal.invariant-loop-pair
 invariant-loop-pair l = record {
   counted : (kind : ℕ) → kind < KINDS
       → slice_index l.counts kind
-      + kind_count (kind_of l.going.kinds.now.local.now l.going.remote.now)
-      (filter (is_low_of_kind l.going.kinds.now.local.now l.going.remote.now l.going.last.now.priorities l.going.last.now.numbers) (drop l.pair-index l.pair-items)) kind
-      ≡ kind_count (kind_of l.going.kinds.now.local.now l.going.remote.now)
-      (filter (is_low_of_kind l.going.kinds.now.local.now l.going.remote.now l.going.last.now.priorities l.going.last.now.numbers) (multiset_of l.pairs)) kind;
+      + kind_count (kind_of l.going.kinds.now.local.now l.going.kinds.now.remote.now)
+      (filter (is_low_of_kind l.going.kinds.now.local.now l.going.kinds.now.remote.now l.going.last.now.priorities l.going.last.now.numbers) (drop l.pair-index l.pair-items)) kind
+      ≡ kind_count (kind_of l.going.kinds.now.local.now l.going.kinds.now.remote.now)
+      (filter (is_low_of_kind l.going.kinds.now.local.now l.going.kinds.now.remote.now l.going.last.now.priorities l.going.last.now.numbers) (multiset_of l.pairs)) kind;
   long : length l.counts ≡ KINDS;
-  placed : are_placed l.going.kinds.now.local.now l.going.remote.now (drop l.pair-index l.pair-items) ≡ true;
+  placed : are_placed l.going.kinds.now.local.now l.going.kinds.now.remote.now (drop l.pair-index l.pair-items) ≡ true;
 }

@@ -1,4 +1,5 @@
-use Rattle.is_theorems.proofs.CheckCounts.PacedChecks.{checks-are-paced, seconds-have-few}
+use Rattle.is_theorems.proofs.CheckCounts.ChecksInSecond.{seconds-have-few}
+use Rattle.is_theorems.proofs.CheckCounts.PacedChecks.{checks-are-paced}
 use Rattle.is_theorems.proofs.counting.checks_are_paced.Goals as goal
 
 pub returns-clause-paced : goal.returns-clause-paced

@@ -1,8 +1,5 @@
 use Rattle.std.proofs.Common.{ℕ, List, [], ◌∷◌, map}
-use Rattle.is_turn.specs.Worlds.{Acceptance, World, IsRun}
-use Rattle.is_turn_theorems.specs.Limits.{Limits}
-use Rattle.is_turn_theorems.specs.Timely.{Entry, due_since, IsTimelyFrom}
-use Rattle.is_proto.specs.Times.{MAX}
+use Rattle.is_turn_theorems.proofs.Common.{Acceptance, due_since, Entry, IsRun, IsTimelyFrom, Limits, MAX, World}
 use Rattle.is_turn_theorems.proofs.lapsing.timely_calls_are_a_run.Goals as goal
 
 is_run : (k : Limits) (mac : List ℕ → List ℕ → List ℕ) (accepted : List Acceptance) (due : ℕ) (w : World) (run : List Entry)

@@ -12,8 +12,8 @@ returns-clause-checked g c peer p known numbered found drafted =
     let kind = c.next_kind_after-self.ensures c.args.now.0 p turn found in
     (c.new_attempt-id.result.0, c.new_attempt-id.ensures.drawn, put, search rules, search rules)
 
-pub invariant_of-self-2-clause-placed : goal.invariant_of-self-2-clause-placed
-invariant_of-self-2-clause-placed g c =
+pub invariant_of-self-3-clause-placed : goal.invariant_of-self-3-clause-placed
+invariant_of-self-3-clause-placed g c =
     let self = c.args.self.now in
     rw (c.new_attempt-id.ensures.sent)
     (placed-changed self.local.items self.remote.items c.args.number _ (multiset_of c.begin_nomination.new.pairs) (checked-places c.args.now.0 self.timing self.controlling c.new_attempt-id.result.0)

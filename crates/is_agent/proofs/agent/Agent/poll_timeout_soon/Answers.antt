@@ -3,11 +3,12 @@ use Rattle.std.specs.Prelude.{min, max, MatchBool, option_map}
 use Rattle.is_proto.specs.Times.{SECOND, later}
 use Rattle.is_proto.specs.declared.proto.Instant.{Instant}
 use Rattle.is_rules.specs.Polls.{LEAST_TA, earliest_call, is_idle, is_waiting, soon}
+use Rattle.is_agent.specs.Polls.{sooner}
 use Rattle.is_agent.specs.View.{record_of}
 use Rattle.is_agent.proofs.agent.Agent.poll_timeout_soon.Goals as goal
 
 pub returns-in-Some-clause-polled : goal.returns-in-Some-clause-polled
-returns-in-Some-clause-polled g c = (Some c.timeout_at.result.0, search rules, search rules)
+returns-in-Some-clause-polled g c = (Some c.timeout_at-at.result.0, search rules, search rules)
 
 -- whatever decides the next timeout: it is one pacing interval after the last call, or three seconds, or later
 paced : (A B C : Type 0) (waits idles : Bool) (soon least three earliest at : ℕ) → least ≤ three
@@ -19,14 +20,19 @@ paced A B C false false soon least three earliest at below (is, _) = omega arith
 known : (o : Option Instant) (l : Instant) (n : ℕ) → o ≡ Some l → option_map (λ (at : Instant). at.0) o ≡ Some n → l.0 ≡ n
 known o l n is e = let i = ap (option_map (λ (at : Instant). at.0)) is in (cc)
 
+-- and no sooner with credit
+sooner-paced : (credit : Bool) (last at by : ℕ) → by ≤ min at (later last LEAST_TA) → by ≤ sooner credit last at
+sooner-paced true last at by le = le
+sooner-paced false last at by le = omega (arith, le)
+
 three-seconds : (last : ℕ) → later last LEAST_TA ≤ later last (3 * SECOND)
 three-seconds last = omega arith
 
 pub returns-in-Some-clause-paced : goal.returns-in-Some-clause-paced
 returns-in-Some-clause-paced g c =
-    let a = record_of c.args.self.now in let l = c.in-Some.last.0 in let at = c.timeout_at.result.0 in
-    let is : c.min.result.0 ≡ min at (later l LEAST_TA) = search rules in
+    let a = record_of c.args.self.now in let l = c.in-Some.last.0 in let at = c.timeout_at-at.result.0 in
     let by : min (soon a l) (later l LEAST_TA) ≤ min at (later l LEAST_TA) =
-    paced _ _ _ (is_waiting a) (is_idle a) (soon a l) (later l LEAST_TA) (later l (3 * SECOND)) (earliest_call a l) at (three-seconds l) c.timeout_at.ensures in
-    let here : min (soon a l) (later l LEAST_TA) ≤ c.min.result.0 = rw is by in
-    λ last e. subst (λ (k : ℕ). min (soon a k) (later k LEAST_TA) ≤ c.min.result.0) (known c.args.self.now.last_time c.in-Some.last last c.in-Some.is e) here
+    paced _ _ _ (is_waiting a) (is_idle a) (soon a l) (later l LEAST_TA) (later l (3 * SECOND)) (earliest_call a l) at (three-seconds l) c.timeout_at-at.ensures in
+    let here : min (soon a l) (later l LEAST_TA) ≤ c.sooner.result.0 =
+    rw (c.sooner.ensures) (sooner-paced c.has_credit-credit.result l at (min (soon a l) (later l LEAST_TA)) by) in
+    λ last e. subst (λ (k : ℕ). min (soon a k) (later k LEAST_TA) ≤ c.sooner.result.0) (known c.args.self.now.last_time c.in-Some.last last c.in-Some.is e) here

@@ -1,4 +1,5 @@
-use Rattle.std.proofs.Common.{◌^◌, ◌<◌, IfSome, ap, subst, arith}
+use Rattle.std.proofs.Common.{◌^◌, ◌<◌, Option, IfSome, ap, subst, arith}
+use Rattle.std.specs.declared.net.socket_addr.SocketAddr.{SocketAddr}
 use Rattle.is_candidate.specs.Candidates.{CandidateRecord}
 use Rattle.is_candidate.specs.Priorities.{candidate_priority}
 use Rattle.is_candidate.specs.RoundTrips.{PartsFit}
@@ -12,5 +13,5 @@ returns c =
     let component : reported.component < 2 ^ 16 = omega (arith, ap (λ (v : CandidateRecord). v.component) view) in
     let priority : candidate_priority reported < 2 ^ 32 = omega (arith, c.prio-priority.ensures) in
     let addr : PartsFit reported.addr = subst (λ (v : CandidateRecord). PartsFit v.addr) view c.parts_fit.ensures in
-    let raddr : IfSome reported.raddr PartsFit = subst (λ (v : CandidateRecord). IfSome v.raddr PartsFit) view c.related_parts_fit.ensures in
+    let raddr : IfSome reported.raddr PartsFit = subst (λ (v : Option SocketAddr). IfSome v PartsFit) c.raddr.ensures c.related_parts_fit.ensures in
     reads_back reported component priority addr raddr

@@ -3,9 +3,11 @@ use Rattle.std.specs.Option.{option_copied}
 use Rattle.is_pair.specs.Pairs.{PairRecord}
 use Rattle.is_pair.specs.Checklists.{multiset_of}
 use Rattle.is_rules.proofs.FunctionProofs.NextAhead.{IsVisited}
-use Rattle.is_rules.proofs.kinds.next_by_turns.Given as goal
+use Rattle.is_rules.proofs.kinds.first_in_round.Given as goal
 
 -- the first among the pairs visited so far
 abbrev pub invariant-loop-pair : goal.invariant-loop-pair
 invariant-loop-pair l =
-    (done : List PairRecord) × IsVisited l.local l.remote l.fn.precedence l.next l.fn.now.0 l.timing (multiset_of l.pairs) done (drop l.pair-index l.pair-items) (option_copied l.first)
+    (done : List PairRecord)
+    × IsVisited l.round.kinds.now.local.now l.round.kinds.now.remote.now l.round.precedence l.round.next l.round.time.0 l.round.timing.now (multiset_of l.pairs) done
+    (drop l.pair-index l.pair-items) (option_copied l.first)

@@ -1,0 +1,11 @@
+use Rattle.std.proofs.Common.{◌≡◌, ℕ, ◌<◌, length, slice_index}
+use Rattle.is_candidate.specs.Candidates.{candidate_at}
+use Rattle.is_rules.specs.Kinds.{remote_rank}
+use Rattle.is_rules.proofs.kind_table.ranks_of.Given as goal
+
+-- those before the place are right
+abbrev pub invariant-loop-place : goal.invariant-loop-place
+invariant-loop-place l = record {
+  filled : (place : ℕ) → place < l.place → slice_index l.ranks place ≡ remote_rank (candidate_at l.remote place);
+  long : length l.ranks ≡ 128;
+}
