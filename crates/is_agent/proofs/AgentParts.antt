@@ -2,10 +2,11 @@
 pub mod PairsByNumber
 pub mod DuePairsAfterRemoval
 pub mod EarlyRequests
-pub mod RecomputedPriorities
 pub mod ReceivedResponses
 pub mod UsernameLength
 pub mod PairsInLists
 pub mod SelectedAgain
 pub mod LiveCandidates
 pub mod RequestsWithoutResponse
+pub mod SenderPlaces
+pub mod StepsOfServing

@@ -152,6 +152,6 @@ impl<H: Sha1HmacProvider + Drop, P: LocalPreference> Agent<H, P> {
         };
         self.reserve_serving_room(4)?;
         let waiting = self.begin_with_request(now, start, expired);
-        Ok(self.resolve_role_conflict(&waiting.request(), at, supplies))
+        Ok(self.serve_at(&waiting.request(), at, supplies))
     }
 }

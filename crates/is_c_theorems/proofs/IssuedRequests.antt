@@ -25,10 +25,12 @@ use Rattle.is_rules.specs.Places.{local_place}
 use Rattle.is_rules.specs.Queue.{request_at}
 use Rattle.is_rules.specs.Request.{RequestRecord, request_in}
 use Rattle.is_rules.specs.Roles.{conflict_of, switched}
-use Rattle.is_rules.specs.Serving.{Serves, RecordsAndResponds, Joins, AddsUnknownSender, FindsSender, CountsAndServes, ResolvesRoleConflictBy, is_misled, is_for_other_peer, request_counted, with_sender, with_sender_at}
+use Rattle.is_rules.specs.Serving.{is_for_other_peer, is_misled, request_counted, with_sender, with_sender_at, Serves}
 use Rattle.is_rules.specs.Steps as agent
 use Rattle.is_rules.specs.Steps.{Call, Entry, Step, Receives, MaySelect}
 use Rattle.is_rules.specs.Timeouts.{TimesOut}
+use Rattle.is_rules.proofs.ServedRequests.RulesInTurn.{in_turn, AddsUnknownSender, CountsAndServes, FindsSender, Joins, RecordsAndResponds}
+use Rattle.is_rules.proofs.ServedRequests.RulesInTurn.{ResolvesRoleConflictBy}
 
 either : (b : Bool) {X Y Z : Type 0} → (X → Z) → (Y → Z) → MatchBool b X Y → Z
 either true f g h = f h
@@ -92,7 +94,7 @@ module _ {H P : Type 0} (mac : H → List ℕ → List ℕ → List ℕ) where
 
   serves : (q : RequestRecord) (s new : AgentRecord H P) (emitted : Emitted) → Serves mac q s emitted new → issues_check emitted.issued ≡ false
   serves q s new emitted h = either (is_for_other_peer s q) (silent emitted)
-      (λ k. optional (local_place s.local q) _ (silent emitted) (λ l j. resolves (conflict_of s q) q l s new emitted j) k) h
+      (λ k. optional (local_place s.local q) _ (silent emitted) (λ l j. resolves (conflict_of s q) q l s new emitted j) k) (in_turn mac q s new emitted h)
 
   fails : (old new : AgentRecord H P) (via : Path) (m : Message) (emitted : Emitted) → HandlesFailure old via m emitted new → issues_check emitted.issued ≡ false
   fails old new via m emitted (p, has, kept, h) = either (is_role_conflict m) (λ (c, has_it, is, k). either _ (silent emitted) (silent emitted) k) (silent emitted) h

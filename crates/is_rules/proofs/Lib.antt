@@ -1,3 +1,4 @@
 pub mod PairLists
 pub mod PollsAndResponses
+pub mod ServedRequests
 mod FunctionProofs

@@ -15,7 +15,7 @@ use Rattle.is_rules.specs.Settling as settling
 use Rattle.is_rules.specs.declared.event.IceAgentEvent.TheVariants.{IceRestart}
 use Rattle.is_rules.specs.declared.event.IceConnectionState.TheVariants.{New}
 use Rattle.is_rules.specs.TimeoutStart.{with_start, start_event, outdated}
-use Rattle.is_rules.specs.Timeouts.{timeout_begun, start_emitted, MayFailAtTimeout}
+use Rattle.is_rules.specs.Timeouts.{at_request, timeout_begun, start_emitted, MayFailAtTimeout}
 use Rattle.is_rules.specs.declared.serving.Places.{Places}
 use Rattle.is_rules.specs.declared.serving.Supplies.{Supplies}
 use Rattle.is_agent.specs.Ready.{IsPlan}
@@ -125,6 +125,12 @@ module _ {H P : Type 0} where
   rejected-timeout_begun now a q CredentialsTooLong may = may
   rejected-timeout_begun now a q PriorityTooHigh may = may
   rejected-timeout_begun now a q LiteStaysControlled may = may
+
+  -- nor anything that a plan depends on
+  pub planned-still : (now : ℕ) (a : AgentRecord H P) (q : RequestRecord) (plan : Option (Places × Supplies)) → IsPlan a q plan
+      → IsPlan (first_taken (at_request now (timeout_begun now a))) q plan
+  planned-still now a q None is = is
+  planned-still now a q (Some plan) is = is
 
   -- why the call that serves this request fails
   pub rejected-late : (now : ℕ) (a : AgentRecord H P) (o : Option RequestRecord) (error : IceError) → o ≡ request_at now a

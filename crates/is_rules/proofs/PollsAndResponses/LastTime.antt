@@ -24,12 +24,13 @@ use Rattle.is_rules.specs.Queue.{request_at}
 use Rattle.is_rules.specs.Leaving.{path_left}
 use Rattle.is_rules.specs.Request.{RequestRecord}
 use Rattle.is_rules.specs.Roles.{conflict_of, switched}
-use Rattle.is_rules.specs.Serving.{is_misled, is_for_other_peer, pair_served, request_counted, selects_at_requests, with_sender, with_sender_at, Drops}
-use Rattle.is_rules.specs.Serving.{AddsUnknownSender, CountsAndServes, FindsOrAddsPair, RecordsAndResponds, ResolvesRoleConflict, ResolvesRoleConflictBy, Serves}
+use Rattle.is_rules.specs.Serving.{is_for_other_peer, is_misled, pair_served, request_counted, selects_at_requests, with_sender, with_sender_at, Drops, Serves}
 use Rattle.is_rules.specs.TimeoutTimes.{CallsAreFollowed, CallsAreNoted}
 use Rattle.is_rules.specs.Timeouts.{at_request, at_timeout, expired_gone, is_expired, timeout_begun, MaintainsPairs, RemovesExpired, ServesQueued, TimesOut}
 use Rattle.is_rules.specs.Polls.{NextTimeoutFrom}
 use Rattle.is_rules.proofs.PollsAndResponses.NextTimeout.{either, paced, paced-from}
+use Rattle.is_rules.proofs.ServedRequests.RulesInTurn.{in_turn, AddsUnknownSender, CountsAndServes, FindsOrAddsPair, RecordsAndResponds, ResolvesRoleConflict}
+use Rattle.is_rules.proofs.ServedRequests.RulesInTurn.{ResolvesRoleConflictBy}
 
 either-request : (o : Option RequestRecord) {A R : Type 0} {B : RequestRecord → Type 0} → MatchOption o A B → (A → R) → ((q : RequestRecord) → B q → R) → R
 either-request None h f g = f h
@@ -107,7 +108,7 @@ module _ {H P : Type 0} where
       here (Some l) s new emitted h = resolves (conflict_of s q) l s new emitted h
 
       serves : (s new : AgentRecord H P) (emitted : Emitted) → Serves mac q s emitted new → Keeps s new
-      serves s new emitted h = either (is_for_other_peer s q) h (λ _ k. same s new k.1) (λ _ k. here (local_place s.local q) s new emitted k)
+      serves s new emitted h = either (is_for_other_peer s q) (in_turn mac q s new emitted h) (λ _ k. same s new k.1) (λ _ k. here (local_place s.local q) s new emitted k)
 
     -- ---- the call
 

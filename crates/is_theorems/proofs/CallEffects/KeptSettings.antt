@@ -29,7 +29,8 @@ use Rattle.is_rules.specs.Places.{local_place}
 use Rattle.is_rules.specs.Request.{RequestRecord, request_in}
 use Rattle.is_rules.specs.Roles.{conflict_of, switched}
 use Rattle.is_rules.specs.Settling.{loses_selected, Reselects}
-use Rattle.is_rules.specs.Serving.{is_misled, is_for_other_peer, pair_served, request_counted, selects_at_requests, with_sender, with_sender_at, Drops, Queues, RecordsAndResponds, FindsOrAddsPair, AddsUnknownSender, CountsAndServes, ResolvesRoleConflictBy, ResolvesRoleConflict, Serves}
+use Rattle.is_rules.specs.Serving.{is_for_other_peer, is_misled, pair_served, request_counted, selects_at_requests, with_sender, with_sender_at, Drops, Queues}
+use Rattle.is_rules.specs.Serving.{Serves}
 use Rattle.is_rules.specs.Steps.{SetMtu, SetControlTieBreaker, SetMaxCandidatePairs, SetMaxDiscovered, SetIceLite, SetRenomination, SetProfile, SetConsent, SetTimingAdvance, SetInitialStunRto, SetMaxStunRto, SetMaxStunRetransmits, SetLiteTimeout, SetLocalPreference, SetControlling, SetLocalCredentials, SetRemoteCredentials, SkipPairIds, AddLocalCandidate, AddRemoteCandidate, InvalidateCandidate, RestartIce, RecreateCandidatePairs, ReceivePacket, HandleTimeout, PollTransmit, PollTimeout, PollEvent, Entry, Becomes, Receives, NotCalled, Done, Rejected, is_done, quiet}
 use Rattle.is_rules.specs.Settings.{settings_of, with_retransmits}
 use Rattle.is_rules.specs.Timeouts.{at_request, at_timeout, is_expired, expired_gone, timeout_begun, RemovesExpired, MaintainsPairs, ServesQueued}
@@ -41,6 +42,8 @@ use Rattle.is_theorems.proofs.CallEffects.FailedCallsAndNewAgents.{mtu_kept, loc
 use Rattle.is_theorems.specs.Settings.{SettingsRecord, all_settings_of, SettingsAreSet}
 use Rattle.is_theorems.proofs.RuleEffects.NotedErrors.{by_failure}
 use Rattle.is_rules.specs.Leaving.{path_left}
+use Rattle.is_rules.proofs.ServedRequests.RulesInTurn.{in_turn, AddsUnknownSender, CountsAndServes, FindsOrAddsPair, RecordsAndResponds, ResolvesRoleConflict}
+use Rattle.is_rules.proofs.ServedRequests.RulesInTurn.{ResolvesRoleConflictBy}
 
 module _ {H P : Type 0} where
   abbrev Same : AgentRecord H P → AgentRecord H P → Type 0
@@ -116,7 +119,7 @@ module _ {H P : Type 0} where
       here (Some l) s new emitted h = resolves (conflict_of s q) l s new emitted h
 
       serves : (s new : AgentRecord H P) (emitted : Emitted) → Serves mac q s emitted new → Same s new
-      serves s new emitted h = either (is_for_other_peer s q) h
+      serves s new emitted h = either (is_for_other_peer s q) (in_turn mac q s new emitted h)
           (λ _ k. made-of s new k.1)
           (λ _ k. here (local_place s.local q) s new emitted k)
 

@@ -23,7 +23,8 @@ use Rattle.is_rules.specs.Queue.{first_taken, request_at}
 use Rattle.is_rules.specs.Request.{RequestRecord, request_in}
 use Rattle.is_rules.specs.Restarting.{cleared, emptied, events_kept, is_selection, restarted, unpaired}
 use Rattle.is_rules.specs.Roles.{conflict_of, switched}
-use Rattle.is_rules.specs.Serving.{AddsUnknownSender, CountsAndServes, Drops, FindsOrAddsPair, Queues, RecordsAndResponds, ResolvesRoleConflict, ResolvesRoleConflictBy, Serves, is_misled, is_for_other_peer, pair_served, request_counted, selects_at_requests, trigger_time, with_sender, with_sender_at}
+use Rattle.is_rules.specs.Serving.{is_for_other_peer, is_misled, pair_served, request_counted, selects_at_requests, trigger_time, with_sender, with_sender_at}
+use Rattle.is_rules.specs.Serving.{Drops, Queues, Serves}
 use Rattle.is_rules.specs.Settings.{with_retransmits}
 use Rattle.is_rules.specs.Settling.{Reselects, loses_selected, settled, started, state_at_start, state_settled}
 use Rattle.is_rules.specs.States.{evaluated, has_nominated, has_possible, next_state, same_state, with_state}
@@ -50,6 +51,8 @@ use Rattle.std.specs.List.{list_any}
 use Rattle.std.specs.Prelude.{MatchBool, MatchOption}
 use Rattle.is_theorems.proofs.RuleEffects.NotedErrors.{recoded, by_failure}
 use Rattle.is_rules.specs.Leaving.{path_left}
+use Rattle.is_rules.proofs.ServedRequests.RulesInTurn.{in_turn, AddsUnknownSender, CountsAndServes, FindsOrAddsPair, RecordsAndResponds, ResolvesRoleConflict}
+use Rattle.is_rules.proofs.ServedRequests.RulesInTurn.{ResolvesRoleConflictBy}
 
 abbrev pub is_other : IceAgentEvent → Bool
 is_other (NominatedSend proto source destination) = false
@@ -226,7 +229,7 @@ module _ {H P : Type 0} (In : Path → Type 0) where
     here (Some l) s new h = resolves (conflict_of s q) l s new h
 
     serves_adds : (s new : AgentRecord H P) → Serves mac q s emitted new → Adds s new
-    serves_adds s new h = either (is_for_other_peer s q) h (λ _ k. kept s new k.1) (λ _ k. here (local_place s.local q) s new k)
+    serves_adds s new h = either (is_for_other_peer s q) (in_turn mac q s new emitted h) (λ _ k. kept s new k.1) (λ _ k. here (local_place s.local q) s new k)
 
     requested_adds : (remote : Option IceCreds) (s new : AgentRecord H P) → MatchOption remote (Queues q s emitted new) (λ _. Serves mac q s emitted new) → Adds s new
     requested_adds None s new h = same s new (ap (λ (a : AgentRecord H P). a.events) h.1)

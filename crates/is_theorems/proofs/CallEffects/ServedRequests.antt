@@ -32,9 +32,12 @@ use Rattle.is_rules.specs.Sending.{path_between, path_of, carried}
 use Rattle.is_rules.specs.Forming.{formed, with_pair}
 use Rattle.is_rules.specs.Nominating.{nominated_by_self, followed, remains, selection_of, NominatesWhere, numbers}
 use Rattle.is_rules.specs.Roles.{conflict_of, switched, switched_sides, with_priority_in}
-use Rattle.is_rules.specs.Serving.{selects_at_requests, after_request, validated_by_peer, nominated_by_peer, served, with_sender, with_sender_at, sender_candidate, request_counted, pair_served, is_misled, Drops, is_for_other_peer, RecordsAndResponds, FindsOrAddsPair, AddsUnknownSender, CountsAndServes, ResolvesRoleConflictBy, ResolvesRoleConflict, Serves, as_taken, numbered_by_peer}
+use Rattle.is_rules.specs.Serving.{after_request, as_taken, is_for_other_peer, is_misled, nominated_by_peer, numbered_by_peer, pair_served, request_counted}
+use Rattle.is_rules.specs.Serving.{selects_at_requests, sender_candidate, served, validated_by_peer, with_sender, with_sender_at, Drops, Serves}
 use Rattle.is_theorems.specs.Numbered.{given, number_taken}
 use Rattle.is_rules.proofs.PairLists.CountedPairs.{less-or}
+use Rattle.is_rules.proofs.ServedRequests.RulesInTurn.{in_turn, AddsUnknownSender, CountsAndServes, FindsOrAddsPair, RecordsAndResponds, ResolvesRoleConflict}
+use Rattle.is_rules.proofs.ServedRequests.RulesInTurn.{ResolvesRoleConflictBy}
 use Rattle.is_rules.specs.Limit.{is_vacant, IsSenderPlace}
 use Rattle.is_theorems.proofs.BasicLemmas.VacantIndices.{known-in, vacant-at, off-vacant, length-put, put-here, put-elsewhere}
 use Rattle.is_theorems.proofs.RuleEffects.UnchangedSettings.{Frame, either, admits, where_frame, packet_along}
@@ -660,6 +663,6 @@ module _ (asks : Path → ℕ → Type 0) (met : Path → Type 0) (sent : Path �
       -- a request that is served: its effect on the pairs, and each selected path was valid before
       pub serves_does : (s new : AgentRecord H P) (emitted : Emitted) → ((c : CandidateRecord) → Has s.local c → IsBased c) → Fit (parts_of asks met sent s)
           → (conflict_of s q ≡ Absent → AcceptedNominations s) → (conflict_of s q ≡ SwitchRole → new.controlling ≡ not s.controlling → AcceptedNominations (switched s)) → Serves mac q s emitted new → DoesOrSends487 s emitted new
-      serves_does s new emitted based fit stays turns h = either (is_for_other_peer s q) h
+      serves_does s new emitted based fit stays turns h = either (is_for_other_peer s q) (in_turn mac q s new emitted h)
           (λ _ k. or_sends_487 s new emitted (drops_does s new emitted fit k))
           (λ _ k. here_does (local_place s.local q) s new emitted refl based fit stays turns k)

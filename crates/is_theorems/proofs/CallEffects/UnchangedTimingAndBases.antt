@@ -22,12 +22,14 @@ use Rattle.is_pair.specs.Multiset.{is_valid_at}
 use Rattle.is_rules.specs.Forming.{formed, with_pair}
 use Rattle.is_rules.specs.Nominating.{Nominates, NominatesWhere, with_selection, nominated_emitted}
 use Rattle.is_rules.specs.Roles.{conflict_of, switched}
-use Rattle.is_rules.specs.Serving.{selects_at_requests, Drops, is_misled, is_for_other_peer, pair_served, request_counted, with_sender, with_sender_at, RecordsAndResponds, FindsOrAddsPair, AddsUnknownSender, CountsAndServes, ResolvesRoleConflictBy, ResolvesRoleConflict, Serves}
+use Rattle.is_rules.specs.Serving.{is_for_other_peer, is_misled, pair_served, request_counted, selects_at_requests, with_sender, with_sender_at, Drops, Serves}
 use Rattle.is_rules.specs.Settling.{Reselects}
 use Rattle.is_rules.specs.Checking.{all_asked, ChecksTop, MayCheck}
 use Rattle.is_rules.specs.Timeouts.{is_expired, expired_gone, RemovesExpired, at_timeout, MaintainsPairs}
 use Rattle.is_theorems.proofs.RuleEffects.UnchangedSettings.{either}
 use Rattle.is_rules.specs.Leaving.{path_left}
+use Rattle.is_rules.proofs.ServedRequests.RulesInTurn.{in_turn, AddsUnknownSender, CountsAndServes, FindsOrAddsPair, RecordsAndResponds, ResolvesRoleConflict}
+use Rattle.is_rules.proofs.ServedRequests.RulesInTurn.{ResolvesRoleConflictBy}
 
 pub record Rest : Type 0 where
   pub local : List CandidateRecord
@@ -107,7 +109,7 @@ module _ {H P : Type 0} where
     here (Some l) s new emitted h = resolves_by (conflict_of s q) l s new emitted h
 
     pub serves_rest : (s new : AgentRecord H P) (emitted : Emitted) → Serves mac q s emitted new → Rests s new
-    serves_rest s new emitted h = either (is_for_other_peer s q) h (λ _ k. same s new k.1) (λ _ k. here (local_place s.local q) s new emitted k)
+    serves_rest s new emitted h = either (is_for_other_peer s q) (in_turn mac q s new emitted h) (λ _ k. same s new k.1) (λ _ k. here (local_place s.local q) s new emitted k)
 
 -- ---- based candidates
 

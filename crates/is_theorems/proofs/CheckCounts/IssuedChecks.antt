@@ -26,12 +26,14 @@ use Rattle.is_rules.specs.Places.{local_place}
 use Rattle.is_rules.specs.Queue.{request_at}
 use Rattle.is_rules.specs.Request.{RequestRecord, request_in}
 use Rattle.is_rules.specs.Roles.{conflict_of, switched}
-use Rattle.is_rules.specs.Serving.{is_misled, is_for_other_peer, request_counted, with_sender, with_sender_at, AddsUnknownSender, CountsAndServes, Drops, FindsOrAddsPair, Queues, RecordsAndResponds, ResolvesRoleConflict, ResolvesRoleConflictBy, Serves}
+use Rattle.is_rules.specs.Serving.{is_for_other_peer, is_misled, request_counted, with_sender, with_sender_at, Drops, Queues, Serves}
 use Rattle.is_rules.specs.Steps.{Call, SetMtu, SetControlTieBreaker, SetMaxCandidatePairs, SetMaxDiscovered, SetIceLite, SetRenomination, SetConsent, SetProfile, SetTimingAdvance, SetInitialStunRto, SetMaxStunRto, SetMaxStunRetransmits, SetLiteTimeout, SetLocalPreference, SetControlling, SetLocalCredentials, SetRemoteCredentials, SkipPairIds, AddLocalCandidate, AddRemoteCandidate, InvalidateCandidate, RestartIce, RecreateCandidatePairs, ReceivePacket, HandleTimeout, PollTransmit, PollTimeout, PollEvent, Entry, Receives, Step}
 use Rattle.is_rules.specs.Timeouts.{at_request, timeout_begun, MaintainsPairs, ServesQueued}
 use Rattle.is_theorems.specs.CheckRate.{sends_check}
 use Rattle.is_theorems.specs.NotStarved.{is_timeout}
 use Rattle.is_theorems.specs.Pending.{is_request}
+use Rattle.is_rules.proofs.ServedRequests.RulesInTurn.{in_turn, AddsUnknownSender, CountsAndServes, FindsOrAddsPair, RecordsAndResponds, ResolvesRoleConflict}
+use Rattle.is_rules.proofs.ServedRequests.RulesInTurn.{ResolvesRoleConflictBy}
 use Rattle.is_theorems.proofs.CallEffects.CallsThatEmitNothing.{calm, is_calm}
 use Rattle.is_theorems.proofs.PunctualTimeouts.UnchangedPacing.{Pace, maintains, serves}
 use Rattle.is_theorems.proofs.RuleEffects.NotedErrors.{by_failure}
@@ -81,7 +83,7 @@ module _ {H P : Type 0} where
     here (Some l) s new emitted h = resolves (conflict_of s q) l s new emitted h
 
     responds : (s new : AgentRecord H P) (emitted : Emitted) → Serves mac q s emitted new → asks emitted ≡ false
-    responds s new emitted h = either (is_for_other_peer s q) h
+    responds s new emitted h = either (is_for_other_peer s q) (in_turn mac q s new emitted h)
         (λ _ k. drops s new emitted k)
         (λ _ k. here (local_place s.local q) s new emitted k)
 

@@ -34,7 +34,8 @@ use Rattle.is_rules.specs.Nominating.{followed, nominated_by_self, Nominates, No
 use Rattle.is_rules.specs.Places.{local_place}
 use Rattle.is_rules.specs.Request.{RequestRecord, request_in}
 use Rattle.is_rules.specs.Roles.{conflict_of, switched, switched_sides, with_priority_in}
-use Rattle.is_rules.specs.Serving.{after_request, AddsUnknownSender, as_taken, CountsAndServes, Drops, FindsOrAddsPair, is_misled, is_for_other_peer, nominated_by_peer, numbered_by_peer, pair_served, Queues, RecordsAndResponds, request_counted, ResolvesRoleConflict, ResolvesRoleConflictBy, selects_at_requests, served, Serves, trigger_time, with_sender, with_sender_at}
+use Rattle.is_rules.specs.Serving.{after_request, as_taken, is_for_other_peer, is_misled, nominated_by_peer, numbered_by_peer, pair_served, request_counted}
+use Rattle.is_rules.specs.Serving.{selects_at_requests, served, trigger_time, with_sender, with_sender_at, Drops, Queues, Serves}
 use Rattle.is_rules.specs.Settling.{settled, Reselects}
 use Rattle.is_rules.specs.States.{evaluated}
 use Rattle.is_rules.specs.Steps.{Entry, Receives}
@@ -42,6 +43,8 @@ use Rattle.is_rules.specs.Timeouts.{expired_gone, is_expired, RemovesExpired}
 use Rattle.is_rules.proofs.PairLists.ChosenPair.{chosen-able}
 use Rattle.is_rules.proofs.PairLists.RemovedInTurn.{removes, RemovesInTurn}
 use Rattle.is_rules.proofs.PairLists.RisingNumbers.{AllBelow, AreRising}
+use Rattle.is_rules.proofs.ServedRequests.RulesInTurn.{in_turn, AddsUnknownSender, CountsAndServes, FindsOrAddsPair, RecordsAndResponds, ResolvesRoleConflict}
+use Rattle.is_rules.proofs.ServedRequests.RulesInTurn.{ResolvesRoleConflictBy}
 use Rattle.is_theorems.proofs.BasicLemmas.ServedPairs.{taken-time}
 use Rattle.is_theorems.proofs.CallEffects.ChecksAndResponses.{Has-get, put_at}
 use Rattle.is_theorems.proofs.RuleEffects.ChangedPairs.{eligible_valid, Has-map, self_kept}
@@ -363,7 +366,7 @@ module _ (floor clock : ℕ) (Q : PairRecord → Type 0) where
         here (Some l) a new emitted h k = resolves-by (conflict_of a q) l a new emitted h k
 
         pub serves-kept : (a new : AgentRecord H P) (emitted : Emitted) → Serves mac q a emitted new → Leads a new
-        serves-kept a new emitted h k = either (is_for_other_peer a q) h (λ _ j. made-kept a new j.1 k) (λ _ j. here (local_place a.local q) a new emitted j k)
+        serves-kept a new emitted h k = either (is_for_other_peer a q) (in_turn mac q a new emitted h) (λ _ j. made-kept a new j.1 k) (λ _ j. here (local_place a.local q) a new emitted j k)
 
         requested : (remote : Option IceCreds) (a new : AgentRecord H P) (emitted : Emitted) → MatchOption remote (Queues q a emitted new) (λ _. Serves mac q a emitted new) → Leads a new
         requested None a new emitted h k = made-kept _ new h.1 k

@@ -45,7 +45,7 @@ use Rattle.is_rules.specs.Request.{RequestRecord, request_in, rival_in}
 use Rattle.is_rules.specs.Roles.{conflict_by, conflict_of, keeps_role, switched, switched_sides, with_priority_in}
 use Rattle.is_rules.specs.Sending.{carried, path_between}
 use Rattle.is_rules.specs.Forming.{formed, SidesRecord, with_pair}
-use Rattle.is_rules.specs.Serving.{is_misled, is_for_other_peer, request_counted, with_sender, with_sender_at, Drops, Queues, HandlesRequest, RecordsAndResponds, AddsPairAndResponds, FindsOrAddsPair, AddsUnknownSender, FindsSender, CountsAndServes, ResolvesRoleConflictBy, ResolvesRoleConflict, ServesHere, Serves}
+use Rattle.is_rules.specs.Serving.{is_for_other_peer, is_misled, request_counted, with_sender, with_sender_at, Drops, HandlesRequest, Queues, Serves}
 use Rattle.is_rules.specs.Sound.{IsSound}
 use Rattle.is_rules.specs.Steps.{answer_by, Call, Entry, Flag, ReceivePacket, Receives, is_rejection}
 use Rattle.is_rules.specs.Emitted.{issued_as, reversed}
@@ -55,6 +55,8 @@ use Rattle.is_theorems.proofs.CallEffects.PathAndTradeEffects.{issues, trade_the
 use Rattle.is_theorems.proofs.BasicLemmas.UsernamesAndFirstMatches.{splits, first_found, any_has}
 use Rattle.is_theorems.proofs.CallEffects.PathEffects.{path_effect}
 use Rattle.is_rules.proofs.PollsAndResponses.AddressesInResponses.{plain-reply}
+use Rattle.is_rules.proofs.ServedRequests.RulesInTurn.{resolved_in_turn, AddsPairAndResponds, AddsUnknownSender, CountsAndServes, FindsOrAddsPair, FindsSender}
+use Rattle.is_rules.proofs.ServedRequests.RulesInTurn.{RecordsAndResponds, ResolvesRoleConflictBy}
 use Rattle.is_theorems.proofs.RuleEffects.SelectedPaths.{some_is}
 use Rattle.is_theorems.proofs.BasicLemmas.CandidatesByIndex.{found-at, is-listed}
 
@@ -251,17 +253,12 @@ module _ {H P : Type 0} (mac : H → List ℕ → List ℕ → List ℕ) (answer
     still-room s (inr (k, lt, vacant)) =
         inr (k, omega (arith, lt), subst (λ b. (is_temporary (candidate_at s.remote k) && not b) ≡ true) (sym (still-free (switched_sides s) k s.pairs)) vacant)
 
-    resolved : (s new : AgentRecord H P) (emitted : Emitted) → is_for_other_peer s q ≡ false → (l : ℕ) → local_place s.local q ≡ Some l → Serves mac q s emitted new → ResolvesRoleConflict mac q l s emitted new
-    resolved s new emitted named l place h =
-        let k : ServesHere mac q s emitted new = subst (λ b. MatchBool b (Drops s emitted new) (ServesHere mac q s emitted new)) named h in
-        subst (λ o. MatchOption o (Drops s emitted new) (λ l. ResolvesRoleConflict mac q l s emitted new)) place k
-
     -- the roles differ
     serves : (s new : AgentRecord H P) (emitted : Emitted) → is_for_other_peer s q ≡ false → IsReachedBy s q.path → conflict_of s q ≡ Absent
         → is_misled s.controlling q ≡ false → Serves mac q s emitted new → Replied emitted
     serves s new emitted named reached apart led h =
         let place = live_place s q reached.there in
-        admitted place.0 s new emitted place.2 reached.from reached.room led (subst (λ c. ResolvesRoleConflictBy mac c q place.0 s emitted new) apart (resolved s new emitted named place.0 place.1 h))
+        admitted place.0 s new emitted place.2 reached.from reached.room led (subst (λ c. ResolvesRoleConflictBy mac c q place.0 s emitted new) apart (resolved_in_turn mac q s new emitted place.0 named place.1 h))
 
     -- the agent switches its role
     serves-switched : (s new : AgentRecord H P) (emitted : Emitted) → is_for_other_peer s q ≡ false → IsReachedBy s q.path → conflict_of s q ≡ SwitchRole
@@ -269,7 +266,7 @@ module _ {H P : Type 0} (mac : H → List ℕ → List ℕ → List ℕ) (answer
     serves-switched s new emitted named reached switches led h =
         let place = live_place s q reached.there in
         admitted place.0 (switched s) new emitted place.2 reached.from (still-room s reached.room) led
-        (subst (λ c. ResolvesRoleConflictBy mac c q place.0 s emitted new) switches (resolved s new emitted named place.0 place.1 h))
+        (subst (λ c. ResolvesRoleConflictBy mac c q place.0 s emitted new) switches (resolved_in_turn mac q s new emitted place.0 named place.1 h))
 
   -- ---- the result of a packet
 

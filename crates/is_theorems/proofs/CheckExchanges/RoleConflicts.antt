@@ -1,6 +1,6 @@
 -- One check resolves a role conflict.
 use Rattle.std.proofs.Common.{◌≡◌, ◌⊎◌, ℕ, ◌<◌, ◌≤◌, ◌==◌, ◌||◌, nat_le, Bool, true, false, not, List, length, Option, Some, None, is_some, inl, inr, refl, ap, sym, ◌∙◌, subst, arith, if◌then◌else◌}
-use Rattle.std.specs.Prelude.{MatchBool, MatchOption, IsSomeAnd}
+use Rattle.std.specs.Prelude.{IsSomeAnd}
 use Rattle.std.specs.List.{list_any}
 use Rattle.std.specs.Option.{option_map_or}
 use Rattle.std.proofs.lemmas.Bool.Decides.{leb_tells}
@@ -30,10 +30,11 @@ use Rattle.is_rules.specs.Issuing.{Says, key_for, via_out}
 use Rattle.is_rules.specs.Places.{local_place}
 use Rattle.is_rules.specs.Request.{RequestRecord, request_in, rival_in}
 use Rattle.is_rules.specs.Roles.{conflict_by, conflict_of, keeps_role}
-use Rattle.is_rules.specs.Serving.{is_for_other_peer, Drops, SendsRoleConflict, ResolvesRoleConflictBy, ResolvesRoleConflict, ServesHere, Serves}
+use Rattle.is_rules.specs.Serving.{is_for_other_peer, SendsRoleConflict, Serves}
 use Rattle.is_rules.specs.Sound.{IsSound}
 use Rattle.is_rules.specs.Steps.{Entry, HandleTimeout, Step}
 use Rattle.is_rules.specs.Emitted.{issued_as, reversed}
+use Rattle.is_rules.proofs.ServedRequests.RulesInTurn.{resolved_in_turn, ResolvesRoleConflictBy}
 use Rattle.is_theorems.proofs.CheckExchanges.DeliveredChecks.{Comes, same_reading, took, check-comes, emitted_as, issued_packet, live_place, goes-back, brought-by}
 use Rattle.is_theorems.proofs.CallEffects.PathAndTradeEffects.{trade_theorem}
 use Rattle.is_theorems.proofs.CheckExchanges.ReturnedResponses.{known-on, keys-between, sound-sent, known-sender}
@@ -52,9 +53,8 @@ module _ {H P : Type 0} (mac : H → List ℕ → List ℕ → List ℕ) (answer
   conflict_sent : (q : RequestRecord) (s new : AgentRecord H P) (emitted : Emitted) (l : ℕ) → is_for_other_peer s q ≡ false → local_place s.local q ≡ Some l
       → conflict_of s q ≡ Send487 → Serves mac q s emitted new → emitted.issued ≡ Some (issued_as (reversed q.path) class.Failure q.id)
   conflict_sent q s new emitted l named place is h =
-      let k : ServesHere mac q s emitted new = subst (λ b. MatchBool b (Drops s emitted new) (ServesHere mac q s emitted new)) named h in
-      let m : ResolvesRoleConflict mac q l s emitted new = subst (λ o. MatchOption o (Drops s emitted new) (λ l. ResolvesRoleConflict mac q l s emitted new)) place k in
-      let n : SendsRoleConflict mac q s emitted new = subst (λ c. ResolvesRoleConflictBy mac c q l s emitted new) is m in
+      let n : SendsRoleConflict mac q s emitted new =
+      subst (λ c. ResolvesRoleConflictBy mac c q l s emitted new) is (resolved_in_turn mac q s new emitted l named place h) in
       ap (λ (t : Emitted). t.issued) n.1
 
   module _ (read : (m : List ℕ → List ℕ → List ℕ) (key : List ℕ) (x : Message) → WrittenIsRead m key x)

@@ -35,12 +35,15 @@ use Rattle.is_rules.specs.Places.{local_place}
 use Rattle.is_rules.specs.Queue.{first_taken, request_at}
 use Rattle.is_rules.specs.Request.{RequestRecord, request_in}
 use Rattle.is_rules.specs.Roles.{conflict_of, switched, switched_sides, with_priority_in}
-use Rattle.is_rules.specs.Serving.{after_request, AddsUnknownSender, CountsAndServes, Drops, FindsOrAddsPair, is_misled, is_for_other_peer, pair_served, Queues, RecordsAndResponds, request_counted, ResolvesRoleConflict, ResolvesRoleConflictBy, selects_at_requests, served, Serves, with_sender, with_sender_at, as_taken, nominated_by_peer}
+use Rattle.is_rules.specs.Serving.{after_request, as_taken, is_for_other_peer, is_misled, nominated_by_peer, pair_served, request_counted, selects_at_requests}
+use Rattle.is_rules.specs.Serving.{served, with_sender, with_sender_at, Drops, Queues, Serves}
 use Rattle.is_rules.specs.States.{evaluated}
 use Rattle.is_rules.specs.Steps.{Entry, Receives}
 use Rattle.is_rules.specs.Settling.{settled, Reselects}
 use Rattle.is_rules.specs.Timeouts.{at_request, at_timeout, expired_gone, is_expired, MaintainsPairs, RemovesExpired, timeout_begun, TimesOut}
 use Rattle.is_rules.proofs.PairLists.RemovedInTurn.{removes, RemovesInTurn}
+use Rattle.is_rules.proofs.ServedRequests.RulesInTurn.{in_turn, AddsUnknownSender, CountsAndServes, FindsOrAddsPair, RecordsAndResponds, ResolvesRoleConflict}
+use Rattle.is_rules.proofs.ServedRequests.RulesInTurn.{ResolvesRoleConflictBy}
 use Rattle.is_theorems.proofs.CallEffects.ChecksAndResponses.{Has-set}
 use Rattle.is_theorems.proofs.RuleEffects.ChangedPairs.{Has-map}
 use Rattle.is_theorems.proofs.RuleEffects.EarlierAndNewPairs.{choose, Has-filter, Has-push}
@@ -282,7 +285,7 @@ module _ {H P : Type 0} where
     here (Some l) s new emitted h f = resolves-by (conflict_of s q) l s new emitted h f
 
     serves : (s new : AgentRecord H P) (emitted : Emitted) → Serves mac q s emitted new → Keeps s new
-    serves s new emitted h f = either (is_for_other_peer s q) h (λ _ k. made-firm s new k.1 f) (λ _ k. here (local_place s.local q) s new emitted k f)
+    serves s new emitted h f = either (is_for_other_peer s q) (in_turn mac q s new emitted h) (λ _ k. made-firm s new k.1 f) (λ _ k. here (local_place s.local q) s new emitted k f)
 
     requested : (remote : Option IceCreds) (s new : AgentRecord H P) (emitted : Emitted) → MatchOption remote (Queues q s emitted new) (λ _. Serves mac q s emitted new) → Keeps s new
     requested None s new emitted h f = subst (λ (a : AgentRecord H P). IsFirm a) (sym h.1) f

@@ -21,7 +21,10 @@ use Rattle.is_rules.specs.Places.{local_place}
 use Rattle.is_rules.specs.Request.{RequestRecord}
 use Rattle.is_rules.specs.Roles.{conflict_of, switched, switched_sides, with_priority_in}
 use Rattle.is_rules.specs.Sending.{path_between}
-use Rattle.is_rules.specs.Serving.{AddsUnknownSender, after_request, as_taken, CountsAndServes, Drops, FindsOrAddsPair, is_misled, is_for_other_peer, pair_served, Queues, RecordsAndResponds, request_counted, ResolvesRoleConflict, ResolvesRoleConflictBy, selects_at_requests, sender_candidate, Serves, with_sender, with_sender_at}
+use Rattle.is_rules.specs.Serving.{after_request, as_taken, is_for_other_peer, is_misled, pair_served, request_counted, selects_at_requests, sender_candidate}
+use Rattle.is_rules.specs.Serving.{with_sender, with_sender_at, Drops, Queues, Serves}
+use Rattle.is_rules.proofs.ServedRequests.RulesInTurn.{in_turn, AddsUnknownSender, CountsAndServes, FindsOrAddsPair, RecordsAndResponds, ResolvesRoleConflict}
+use Rattle.is_rules.proofs.ServedRequests.RulesInTurn.{ResolvesRoleConflictBy}
 use Rattle.is_theorems.proofs.BasicLemmas.CandidatesByIndex.{at-end}
 use Rattle.is_theorems.proofs.BasicLemmas.VacantIndices.{known-in, put-here, vacant-at}
 use Rattle.is_theorems.proofs.CallEffects.ChecksAndResponses.{numbered}
@@ -151,7 +154,7 @@ module _ {H P : Type 0} (mac : H → List ℕ → List ℕ → List ℕ) (strict
   finds (Some l) s new emitted is based fit h o = resolves-by (conflict_of s q) l s new emitted fit (reached s.local q l based is).1 h o
 
   serves : (s new : AgentRecord H P) (emitted : Emitted) → ((c : CandidateRecord) → Has s.local c → IsBased c) → FitIn s → Serves mac q s emitted new → Over s → Over new
-  serves s new emitted based fit h o = either (is_for_other_peer s q) h
+  serves s new emitted based fit h o = either (is_for_other_peer s q) (in_turn mac q s new emitted h)
       (λ _ k. made-of s new k.1 o)
       (λ _ k. finds (local_place s.local q) s new emitted refl based fit k o)
 

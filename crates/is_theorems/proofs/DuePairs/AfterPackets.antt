@@ -35,7 +35,8 @@ use Rattle.is_rules.specs.Forming.{formed, with_pair, priority_between}
 use Rattle.is_rules.specs.Nominating.{numbers, NominatesWhere}
 use Rattle.is_rules.specs.Roles.{conflict_of, switched}
 use Rattle.is_rules.specs.Settling.{settled}
-use Rattle.is_rules.specs.Serving.{as_taken, after_request, served, selects_at_requests, trigger_time, is_misled, is_for_other_peer, pair_served, request_counted, with_sender, with_sender_at, sender_candidate, replied, Drops, Queues, RecordsAndResponds, FindsOrAddsPair, AddsUnknownSender, CountsAndServes, ResolvesRoleConflictBy, ResolvesRoleConflict, Serves}
+use Rattle.is_rules.specs.Serving.{after_request, as_taken, is_for_other_peer, is_misled, pair_served, replied, request_counted, selects_at_requests}
+use Rattle.is_rules.specs.Serving.{sender_candidate, served, trigger_time, with_sender, with_sender_at, Drops, Queues, Serves}
 use Rattle.is_rules.specs.Answers.{HandlesFailure}
 use Rattle.rand_core.specs.Stream.{Stream}
 use Rattle.is_rules.specs.Steps.{Entry, Flag, ReceivePacket, Step}
@@ -44,6 +45,8 @@ use Rattle.is_theorems.proofs.RuleEffects.UnchangedSettings.{either, Frame, admi
 use Rattle.is_theorems.proofs.RuleEffects.ChangedPairs.{Has-map}
 use Rattle.is_theorems.proofs.RuleEffects.EarlierAndNewPairs.{Has-push}
 use Rattle.is_rules.proofs.PairLists.RisingNumbers.{AllBelow}
+use Rattle.is_rules.proofs.ServedRequests.RulesInTurn.{in_turn, AddsUnknownSender, CountsAndServes, FindsOrAddsPair, RecordsAndResponds, ResolvesRoleConflict}
+use Rattle.is_rules.proofs.ServedRequests.RulesInTurn.{ResolvesRoleConflictBy}
 use Rattle.is_theorems.proofs.CallEffects.ServedRequests.{Has-mapped}
 use Rattle.is_theorems.proofs.BasicLemmas.ServedPairs.{unnumbered-pair}
 use Rattle.is_theorems.proofs.BasicLemmas.VacantIndices.{KeepsRemote, keeps-remote-same, keeps-remote-more, keeps-remote-put, vacant-at}
@@ -442,7 +445,7 @@ module _ {H P : Type 0} where
       requested : (remote : Option IceCreds) (s new : AgentRecord H P) (emitted : Emitted) → is_some remote ≡ true → s.controlling ≡ true → s.lite ≡ false → NoneValid s.pairs → new.controlling ≡ true
           → MatchOption remote (Queues q s emitted new) (λ _. Serves mac q s emitted new) → Arrived s new
       requested None s new emitted known role full none stays h = absurd (cc)
-      requested (Some peer) s new emitted known role full none stays h = either (is_for_other_peer s q) h
+      requested (Some peer) s new emitted known role full none stays h = either (is_for_other_peer s q) (in_turn mac q s new emitted h)
           (λ _ k. arrived-same s new k.1)
           (λ _ k. here (local_place s.local q) s new emitted role full none stays k)
 

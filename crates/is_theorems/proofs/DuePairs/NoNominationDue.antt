@@ -34,7 +34,8 @@ use Rattle.is_rules.specs.Queue.{first_taken, request_at}
 use Rattle.is_rules.specs.Request.{RequestRecord, request_in}
 use Rattle.is_rules.specs.Roles.{conflict_of, switched, switched_sides, with_priority_in}
 use Rattle.is_rules.specs.Sending.{path_of, path_between}
-use Rattle.is_rules.specs.Serving.{is_misled, is_for_other_peer, pair_served, replied, request_counted, selects_at_requests, trigger_time, with_sender, with_sender_at, Drops, Queues, RecordsAndResponds, FindsOrAddsPair, AddsUnknownSender, CountsAndServes, ResolvesRoleConflictBy, ResolvesRoleConflict, Serves}
+use Rattle.is_rules.specs.Serving.{is_for_other_peer, is_misled, pair_served, replied, request_counted, selects_at_requests, trigger_time, with_sender}
+use Rattle.is_rules.specs.Serving.{with_sender_at, Drops, Queues, Serves}
 use Rattle.is_rules.specs.Settling.{loses_selected, settled, Reselects}
 use Rattle.is_rules.specs.Sound.{IsSound, IsBelow, GivesBased}
 use Rattle.is_rules.specs.States.{evaluated}
@@ -42,6 +43,8 @@ use Rattle.is_rules.specs.Steps.{Answer, is_done, Call, SetMtu, SetControlTieBre
 use Rattle.is_rules.specs.Timeouts.{at_request, at_timeout, is_expired, expired_gone, timeout_begun, RemovesExpired, MaintainsPairs, ServesQueued}
 use Rattle.is_rules.proofs.PairLists.ChosenPair.{chosen-able, found-in}
 use Rattle.is_rules.proofs.PairLists.PairsByNumber.{numbered-found}
+use Rattle.is_rules.proofs.ServedRequests.RulesInTurn.{in_turn, AddsUnknownSender, CountsAndServes, FindsOrAddsPair, RecordsAndResponds, ResolvesRoleConflict}
+use Rattle.is_rules.proofs.ServedRequests.RulesInTurn.{ResolvesRoleConflictBy}
 use Rattle.is_theorems.specs.Executions.{AcceptsSuccess}
 use Rattle.is_theorems.specs.Exchange.{Execution}
 use Rattle.is_theorems.specs.FirstTimeouts.{AreInRound}
@@ -274,7 +277,7 @@ module _ {H P : Type 0} where
       here (Some l) s new emitted none h = resolves (conflict_of s q) l s new emitted none h
 
       serves : (s new : AgentRecord H P) (emitted : Emitted) → NoneValid s.pairs → Serves mac q s emitted new → Calmer s new
-      serves s new emitted none h = either (is_for_other_peer s q) h
+      serves s new emitted none h = either (is_for_other_peer s q) (in_turn mac q s new emitted h)
           (λ _ k. calmer-same s new k.1)
           (λ _ k. here (local_place s.local q) s new emitted none k)
 

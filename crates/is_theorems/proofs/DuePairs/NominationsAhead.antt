@@ -34,11 +34,14 @@ use Rattle.is_rules.specs.Queue.{first_taken, request_at}
 use Rattle.is_rules.specs.Request.{RequestRecord, request_in}
 use Rattle.is_rules.specs.Roles.{conflict_of, switched}
 use Rattle.is_rules.specs.Sending.{path_between}
-use Rattle.is_rules.specs.Serving.{is_misled, is_for_other_peer, pair_served, replied, request_counted, selects_at_requests, trigger_time, with_sender, with_sender_at, Drops, Queues, RecordsAndResponds, FindsOrAddsPair, AddsUnknownSender, CountsAndServes, ResolvesRoleConflictBy, ResolvesRoleConflict, Serves}
+use Rattle.is_rules.specs.Serving.{is_for_other_peer, is_misled, pair_served, replied, request_counted, selects_at_requests, trigger_time, with_sender}
+use Rattle.is_rules.specs.Serving.{with_sender_at, Drops, Queues, Serves}
 use Rattle.is_rules.specs.Settling.{loses_selected, settled, Reselects}
 use Rattle.is_rules.specs.Steps.{Answer, Call, SetMtu, SetControlTieBreaker, SetMaxCandidatePairs, SetMaxDiscovered, SetRenomination, SetTimingAdvance, SetLocalPreference, SetControlling, SetLocalCredentials, AddLocalCandidate, AddRemoteCandidate, ReceivePacket, HandleTimeout, PollTransmit, PollTimeout, PollEvent, Entry, Receives, Step}
 use Rattle.is_rules.specs.Timeouts.{at_request, at_timeout, is_expired, expired_gone, timeout_begun, RemovesExpired, MaintainsPairs, ServesQueued}
 use Rattle.is_rules.proofs.PairLists.ChosenPair.{found-in}
+use Rattle.is_rules.proofs.ServedRequests.RulesInTurn.{in_turn, AddsUnknownSender, CountsAndServes, FindsOrAddsPair, RecordsAndResponds, ResolvesRoleConflict}
+use Rattle.is_rules.proofs.ServedRequests.RulesInTurn.{ResolvesRoleConflictBy}
 use Rattle.is_theorems.specs.Reached.{is_in_round, selects}
 use Rattle.is_theorems.proofs.BasicLemmas.PairsInTurn.{none-to-send}
 use Rattle.is_theorems.proofs.CallEffects.AddedCandidates.{by_adding_local, by_adding_remote, by_waking}
@@ -208,7 +211,7 @@ module _ {H P : Type 0} where
       here (Some l) s new emitted h = resolves (conflict_of s q) l s new emitted h
 
       serves : (s new : AgentRecord H P) (emitted : Emitted) → Serves mac q s emitted new → Dues (selected emitted) s new
-      serves s new emitted h = either (is_for_other_peer s q) h
+      serves s new emitted h = either (is_for_other_peer s q) (in_turn mac q s new emitted h)
           (λ _ k. dues-same (selected emitted) s new k.1)
           (λ _ k. here (local_place s.local q) s new emitted k)
 

@@ -28,11 +28,14 @@ use Rattle.is_rules.specs.Places.{local_place}
 use Rattle.is_rules.specs.Request.{RequestRecord, request_in}
 use Rattle.is_rules.specs.Roles.{conflict_of, switched, switched_sides, with_priority_in}
 use Rattle.is_rules.specs.Sending.{path_of}
-use Rattle.is_rules.specs.Serving.{after_request, served, selects_at_requests, trigger_time, is_misled, is_for_other_peer, pair_served, request_counted, with_sender, with_sender_at, Drops, Queues, RecordsAndResponds, FindsOrAddsPair, AddsUnknownSender, CountsAndServes, ResolvesRoleConflictBy, ResolvesRoleConflict, Serves, as_taken}
+use Rattle.is_rules.specs.Serving.{after_request, as_taken, is_for_other_peer, is_misled, pair_served, request_counted, selects_at_requests, served}
+use Rattle.is_rules.specs.Serving.{trigger_time, with_sender, with_sender_at, Drops, Queues, Serves}
 use Rattle.is_rules.specs.States.{evaluated}
 use Rattle.is_rules.specs.Steps.{Entry, Flag, Receives}
 use Rattle.is_stun.specs.Reading.{Reads}
 use Rattle.is_stun.specs.Timing.{is_modern}
+use Rattle.is_rules.proofs.ServedRequests.RulesInTurn.{in_turn, AddsUnknownSender, CountsAndServes, FindsOrAddsPair, RecordsAndResponds, ResolvesRoleConflict}
+use Rattle.is_rules.proofs.ServedRequests.RulesInTurn.{ResolvesRoleConflictBy}
 use Rattle.is_theorems.proofs.BasicLemmas.EqualAddresses.{both}
 use Rattle.is_theorems.proofs.CallEffects.ChecksAndResponses.{Has-get}
 use Rattle.is_theorems.proofs.RuleEffects.UnchangedSettings.{either}
@@ -194,7 +197,7 @@ module _ {H P : Type 0} where
         requested : (remote : Option IceCreds) (s new : AgentRecord H P) (emitted : Emitted) → is_some remote ≡ true
             → MatchOption remote (Queues q s emitted new) (λ _. Serves mac q s emitted new) → Goes s new
         requested None s new emitted known h = absurd (cc)
-        requested (Some peer) s new emitted known h = either (is_for_other_peer s q) h
+        requested (Some peer) s new emitted known h = either (is_for_other_peer s q) (in_turn mac q s new emitted h)
             (λ _ k. goes-same s new k.1)
             (λ _ k. here (local_place s.local q) s new emitted k)
 

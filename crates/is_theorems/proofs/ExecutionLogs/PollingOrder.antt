@@ -40,7 +40,8 @@ use Rattle.is_rules.specs.Remote.{AddsRemote, as_remote, with_remote}
 use Rattle.is_rules.specs.Restarting.{events_kept, restarted}
 use Rattle.is_rules.specs.States.{same_state, with_state, evaluated}
 use Rattle.is_rules.specs.Nominating.{with_selection, nominated_emitted, Nominates, NominatesWhere}
-use Rattle.is_rules.specs.Serving.{trigger_time, selects_at_requests, pair_served, request_counted, with_sender, with_sender_at, is_misled, is_for_other_peer, RecordsAndResponds, FindsOrAddsPair, AddsUnknownSender, CountsAndServes, ResolvesRoleConflictBy, ResolvesRoleConflict, Drops, Serves}
+use Rattle.is_rules.specs.Serving.{is_for_other_peer, is_misled, pair_served, request_counted, selects_at_requests, trigger_time, with_sender, with_sender_at}
+use Rattle.is_rules.specs.Serving.{Drops, Serves}
 use Rattle.is_rules.specs.Queue.{first_taken, request_at, queued}
 use Rattle.is_rules.specs.Answers.{HandlesSuccess, HandlesFailure}
 use Rattle.is_rules.specs.Accepting.{Takes, discovered_emitted, is_passed_over, HandlesPacket}
@@ -56,6 +57,8 @@ use Rattle.is_theorems.proofs.CallEffects.SettingsRoleAndQueues.{FrameEffect, fr
 use Rattle.is_theorems.proofs.CallEffects.AddedCandidates.{by_adding_local, by_adding_remote, by_waking}
 use Rattle.is_theorems.proofs.RuleEffects.NotedErrors.{recoded, by_failure}
 use Rattle.is_rules.specs.Leaving.{path_left}
+use Rattle.is_rules.proofs.ServedRequests.RulesInTurn.{in_turn, AddsUnknownSender, CountsAndServes, FindsOrAddsPair, RecordsAndResponds, ResolvesRoleConflict}
+use Rattle.is_rules.proofs.ServedRequests.RulesInTurn.{ResolvesRoleConflictBy}
 
 -- ---- lists
 
@@ -166,7 +169,7 @@ module _ {H P : Type 0} where
     here_grows (Some l) s new emitted h = resolves_grows (conflict_of s q) l s new emitted h
 
     serves_grows : (s new : AgentRecord H P) (emitted : Emitted) → Serves mac q s emitted new → Grows s new
-    serves_grows s new emitted h = either (is_for_other_peer s q) h (λ _ k. drops_grows s new emitted k) (λ _ k. here_grows (local_place s.local q) s new emitted k)
+    serves_grows s new emitted h = either (is_for_other_peer s q) (in_turn mac q s new emitted h) (λ _ k. drops_grows s new emitted k) (λ _ k. here_grows (local_place s.local q) s new emitted k)
 
     requested_grows : (peer : Option IceCreds) (s new : AgentRecord H P) (emitted : Emitted)
         → MatchOption peer ((emitted ≡ nothing_emitted) × (new ≡ queued q s)) (λ _. Serves mac q s emitted new) → Grows s new

@@ -35,8 +35,8 @@ use Rattle.is_rules.specs.Queue.{request_at, first_taken, queued}
 use Rattle.is_rules.specs.Request.{RequestRecord, request_in}
 use Rattle.is_rules.specs.Roles.{conflict_of, switched, switched_sides, with_priority_in}
 use Rattle.is_rules.specs.Sending.{path_between, path_of}
-use Rattle.is_rules.specs.Serving.{after_request, pair_served, selects_at_requests, with_sender, with_sender_at, sender_candidate, request_counted, is_misled, is_for_other_peer}
-use Rattle.is_rules.specs.Serving.{Drops, RecordsAndResponds, FindsOrAddsPair, AddsUnknownSender, CountsAndServes, ResolvesRoleConflictBy, ResolvesRoleConflict, Serves}
+use Rattle.is_rules.specs.Serving.{after_request, is_for_other_peer, is_misled, pair_served, request_counted, selects_at_requests, sender_candidate}
+use Rattle.is_rules.specs.Serving.{with_sender, with_sender_at, Drops, Serves}
 use Rattle.is_rules.specs.Sound.{IsSound}
 use Rattle.is_rules.specs.Steps.{Call, ReceivePacket, HandleTimeout, Entry, Step, answer_by, done, Done, Flag, Unparsed, Rejected}
 use Rattle.is_rules.specs.Timeouts.{at_request, timeout_begun, TimesOut, MaintainsPairs, ServesQueued}
@@ -45,6 +45,8 @@ use Rattle.is_theorems.specs.Asked.{IsAskedOn}
 use Rattle.is_theorems.specs.Logs.{Logged, last_selected}
 use Rattle.is_theorems.specs.Runs.{IsFresh, Point, run_to, IsTopPath}
 use Rattle.is_rules.proofs.PairLists.RisingNumbers.{rising-each, below-each}
+use Rattle.is_rules.proofs.ServedRequests.RulesInTurn.{in_turn, AddsUnknownSender, CountsAndServes, FindsOrAddsPair, RecordsAndResponds, ResolvesRoleConflict}
+use Rattle.is_rules.proofs.ServedRequests.RulesInTurn.{ResolvesRoleConflictBy}
 use Rattle.is_theorems.proofs.BasicLemmas.GreatestAndLeastPairs.{has-front}
 use Rattle.is_theorems.proofs.BasicLemmas.UsernamesAndFirstMatches.{any_has}
 use Rattle.is_theorems.proofs.BasicLemmas.VacantIndices.{known-in, vacant-at, length-put}
@@ -181,7 +183,7 @@ module _ {H P : Type 0} where
 
     serves_top : (s new : AgentRecord H P) (emitted : Emitted) → ((l : ℕ) → local_place s.local q ≡ Some l → l < length s.local) → WhileServing old s
         → Serves mac q s emitted new → Selects emitted new
-    serves_top s new emitted within state h = either (is_for_other_peer s q) h
+    serves_top s new emitted within state h = either (is_for_other_peer s q) (in_turn mac q s new emitted h)
         (λ _ k. drops_top s new emitted k)
         (λ _ k. here_top (local_place s.local q) s new emitted refl within state k)
 

@@ -38,7 +38,8 @@ use Rattle.is_rules.specs.Places.{local_place}
 use Rattle.is_rules.specs.Queue.{first_taken, request_at}
 use Rattle.is_rules.specs.Request.{RequestRecord, request_in}
 use Rattle.is_rules.specs.Roles.{conflict_of, switched, switched_sides, with_priority_in}
-use Rattle.is_rules.specs.Serving.{selects_at_requests, after_request, validated_by_peer, is_misled, is_for_other_peer, pair_served, request_counted, with_sender, with_sender_at, Drops, Queues, RecordsAndResponds, FindsOrAddsPair, AddsUnknownSender, CountsAndServes, ResolvesRoleConflictBy, ResolvesRoleConflict, Serves, as_taken, nominated_by_peer}
+use Rattle.is_rules.specs.Serving.{after_request, as_taken, is_for_other_peer, is_misled, nominated_by_peer, pair_served, request_counted, selects_at_requests}
+use Rattle.is_rules.specs.Serving.{validated_by_peer, with_sender, with_sender_at, Drops, Queues, Serves}
 use Rattle.is_rules.specs.States.{evaluated}
 use Rattle.is_rules.specs.Steps.{Entry, Receives}
 use Rattle.is_theorems.specs.NotStarved.{HaveConsent}
@@ -50,6 +51,8 @@ use Rattle.is_theorems.proofs.RuleEffects.ChangedPairs.{self_kept}
 use Rattle.is_theorems.proofs.RuleEffects.TriggeredPairs.{triggered_by, by_trigger}
 use Rattle.is_theorems.proofs.RuleEffects.NominatedPairs.{SelectsPath, selects_path}
 use Rattle.is_rules.proofs.PairLists.RisingNumbers.{rising-each}
+use Rattle.is_rules.proofs.ServedRequests.RulesInTurn.{in_turn, AddsUnknownSender, CountsAndServes, FindsOrAddsPair, RecordsAndResponds, ResolvesRoleConflict}
+use Rattle.is_rules.proofs.ServedRequests.RulesInTurn.{ResolvesRoleConflictBy}
 use Rattle.is_theorems.proofs.RemainingChecks.RemainingOfPairs.{unspent, unspent-alike, unspent-answered, unspent-checked, all-spent, unspents, unspents-map, unspents-push, unspents-filter, unspents-set, unspents-change}
 use Rattle.is_theorems.proofs.BasicLemmas.PairsInTurn.{by-begins, sent-pairs, sent_at}
 use Rattle.is_theorems.proofs.BasicLemmas.ServedPairs.{numbered-by}
@@ -229,7 +232,7 @@ module _ {H P : Type 0} where
         here (Some l) s new emitted h = resolves (conflict_of s q) l s new emitted h
 
         pub serves-spends : (s new : AgentRecord H P) (emitted : Emitted) → Serves mac q s emitted new → Spends 0 s new
-        serves-spends s new emitted h = either (is_for_other_peer s q) h (λ _ k. spends-none s new k.1) (λ _ k. here (local_place s.local q) s new emitted k)
+        serves-spends s new emitted h = either (is_for_other_peer s q) (in_turn mac q s new emitted h) (λ _ k. spends-none s new k.1) (λ _ k. here (local_place s.local q) s new emitted k)
 
         requested : (remote : Option IceCreds) (s new : AgentRecord H P) (emitted : Emitted) → MatchOption remote (Queues q s emitted new) (λ _. Serves mac q s emitted new) → Spends 0 s new
         requested None s new emitted h = spends-to 0 s _ new (refl, omega arith, omega arith) h.1

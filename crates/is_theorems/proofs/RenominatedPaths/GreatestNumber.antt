@@ -38,8 +38,8 @@ use Rattle.is_rules.specs.Queue.{request_at, first_taken, queued}
 use Rattle.is_rules.specs.Remote.{AddsRemote}
 use Rattle.is_rules.specs.Request.{RequestRecord, request_in}
 use Rattle.is_rules.specs.Roles.{conflict_of, switched}
-use Rattle.is_rules.specs.Serving.{after_request, pair_served, selects_at_requests, with_sender, with_sender_at, sender_candidate, request_counted, is_misled, is_for_other_peer}
-use Rattle.is_rules.specs.Serving.{Drops, RecordsAndResponds, FindsOrAddsPair, AddsUnknownSender, CountsAndServes, ResolvesRoleConflictBy, ResolvesRoleConflict, Serves}
+use Rattle.is_rules.specs.Serving.{after_request, is_for_other_peer, is_misled, pair_served, request_counted, selects_at_requests, sender_candidate}
+use Rattle.is_rules.specs.Serving.{with_sender, with_sender_at, Drops, Serves}
 use Rattle.is_rules.specs.Sound.{IsSound}
 use Rattle.is_rules.specs.Sending.{path_of}
 use Rattle.is_rules.specs.Settling.{loses_selected, Reselects}
@@ -51,6 +51,8 @@ use Rattle.is_theorems.specs.Rounds.{RunsOn}
 use Rattle.is_theorems.specs.Runs.{Run}
 use Rattle.is_rules.proofs.PairLists.ChosenPair.{numbered-able}
 use Rattle.is_rules.proofs.PairLists.PairsByNumber.{numbered-found}
+use Rattle.is_rules.proofs.ServedRequests.RulesInTurn.{in_turn, AddsUnknownSender, CountsAndServes, FindsOrAddsPair, RecordsAndResponds, ResolvesRoleConflict}
+use Rattle.is_rules.proofs.ServedRequests.RulesInTurn.{ResolvesRoleConflictBy}
 use Rattle.is_theorems.proofs.BasicLemmas.EqualAddresses.{both}
 use Rattle.is_theorems.proofs.BasicLemmas.VacantIndices.{known-in, vacant-at, length-put}
 use Rattle.is_theorems.proofs.CallEffects.AddedCandidates.{by_adding_local, by_adding_remote}
@@ -192,7 +194,7 @@ module _ {H P : Type 0} where
 
     serves-settles : (s new : AgentRecord H P) (emitted : Emitted) → ((l : ℕ) → local_place s.local q ≡ Some l → l < length s.local) → FitOf s
         → Serves mac q s emitted new → Settles s emitted new
-    serves-settles s new emitted within fit h = either (is_for_other_peer s q) h
+    serves-settles s new emitted within fit h = either (is_for_other_peer s q) (in_turn mac q s new emitted h)
         (λ _ k. settles-same s new emitted k.0 k.1)
         (λ _ k. here-settles (local_place s.local q) s new emitted refl within fit k)
 

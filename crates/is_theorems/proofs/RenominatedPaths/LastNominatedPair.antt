@@ -37,7 +37,9 @@ use Rattle.is_rules.specs.Queue.{first_taken, queued, request_at}
 use Rattle.is_rules.specs.Request.{RequestRecord, request_in}
 use Rattle.is_rules.specs.Roles.{conflict_of, switched}
 use Rattle.is_rules.specs.Sending.{path_between, path_of}
-use Rattle.is_rules.specs.Serving.{nominates, trigger_time, selects_at_requests, after_request, Drops, is_misled, is_for_other_peer, nominated_last, pair_served, replied, request_counted, sender_candidate, served, validated_by_peer, with_sender, with_sender_at, RecordsAndResponds, FindsOrAddsPair, AddsUnknownSender, CountsAndServes, ResolvesRoleConflictBy, ResolvesRoleConflict, Serves, as_taken, nominated_by_peer}
+use Rattle.is_rules.specs.Serving.{after_request, as_taken, is_for_other_peer, is_misled, nominated_by_peer, nominated_last, nominates, pair_served, replied}
+use Rattle.is_rules.specs.Serving.{request_counted, selects_at_requests, sender_candidate, served, trigger_time, validated_by_peer, with_sender, with_sender_at}
+use Rattle.is_rules.specs.Serving.{Drops, Serves}
 use Rattle.is_rules.specs.Settling.{settled}
 use Rattle.is_rules.specs.Sound.{IsSound}
 use Rattle.is_rules.specs.Steps.{Call, Entry, ReceivePacket, HandleTimeout, Done, Flag, answer_by, done, Receives, Step}
@@ -55,6 +57,8 @@ use Rattle.is_theorems.proofs.RuleEffects.TriggeredPairs.{triggered_by, by_trigg
 use Rattle.is_theorems.proofs.BasicLemmas.ServedPairs.{numbered-by}
 use Rattle.is_theorems.proofs.RuleEffects.NotedErrors.{by_failure}
 use Rattle.is_rules.specs.Leaving.{path_left}
+use Rattle.is_rules.proofs.ServedRequests.RulesInTurn.{in_turn, AddsUnknownSender, CountsAndServes, FindsOrAddsPair, RecordsAndResponds, ResolvesRoleConflict}
+use Rattle.is_rules.proofs.ServedRequests.RulesInTurn.{ResolvesRoleConflictBy}
 
 -- a request leaves the number and the indices of its pair
 pub record SamePlace (p q : PairRecord) : Type 0 where
@@ -270,7 +274,7 @@ module _ {H P : Type 0} where
     here-at (Some l) s new emitted is based h = resolves (conflict_of s q) l s new emitted (reached s.local q l based is).1 h
 
     serves : (s new : AgentRecord H P) (emitted : Emitted) → ((c : CandidateRecord) → Has s.local c → IsBased c) → Serves mac q s emitted new → Notes s emitted new
-    serves s new emitted based h = either (is_for_other_peer s q) h (λ _ k. dropped s new emitted k) (λ _ k. here-at (local_place s.local q) s new emitted refl based k)
+    serves s new emitted based h = either (is_for_other_peer s q) (in_turn mac q s new emitted h) (λ _ k. dropped s new emitted k) (λ _ k. here-at (local_place s.local q) s new emitted refl based k)
 
   -- ---- a transition
 

@@ -23,10 +23,13 @@ use Rattle.is_rules.specs.Nominating.{Nominates, numbers}
 use Rattle.is_rules.specs.Places.{local_place}
 use Rattle.is_rules.specs.Request.{RequestRecord}
 use Rattle.is_rules.specs.Roles.{conflict_of, switched, switched_sides, with_priority_in}
-use Rattle.is_rules.specs.Serving.{after_request, AddsUnknownSender, as_taken, CountsAndServes, Drops, FindsOrAddsPair, is_misled, is_for_other_peer, nominated_by_peer, pair_served, Queues, RecordsAndResponds, replied, request_counted, ResolvesRoleConflict, ResolvesRoleConflictBy, selects_at_requests, served, Serves, trigger_time, with_sender, with_sender_at}
+use Rattle.is_rules.specs.Serving.{after_request, as_taken, is_for_other_peer, is_misled, nominated_by_peer, pair_served, replied, request_counted}
+use Rattle.is_rules.specs.Serving.{selects_at_requests, served, trigger_time, with_sender, with_sender_at, Drops, Queues, Serves}
 use Rattle.is_rules.specs.Sending.{path_between}
 use Rattle.is_rules.specs.Settling.{settled, settles, state_at}
 use Rattle.is_rules.specs.States.{is_nominated_and_valid, same_state}
+use Rattle.is_rules.proofs.ServedRequests.RulesInTurn.{in_turn, AddsUnknownSender, CountsAndServes, FindsOrAddsPair, RecordsAndResponds, ResolvesRoleConflict}
+use Rattle.is_rules.proofs.ServedRequests.RulesInTurn.{ResolvesRoleConflictBy}
 use Rattle.is_theorems.proofs.BasicLemmas.EqualAddresses.{both}
 use Rattle.is_theorems.proofs.BasicLemmas.GreatestAndLeastPairs.{has-front}
 use Rattle.is_theorems.proofs.BasicLemmas.ServedPairs.{numbered-by}
@@ -198,7 +201,7 @@ module _ {H P : Type 0} where
     here (Some l) s new emitted full h = resolves-by (conflict_of s q) l s new emitted full h
 
     pub serves : (s new : AgentRecord H P) (emitted : Emitted) → s.lite ≡ false → Serves mac q s emitted new → Outcome s emitted new
-    serves s new emitted full h = either (is_for_other_peer s q) h (λ _ k. dropped s new emitted k) (λ _ k. here (local_place s.local q) s new emitted full k)
+    serves s new emitted full h = either (is_for_other_peer s q) (in_turn mac q s new emitted h) (λ _ k. dropped s new emitted k) (λ _ k. here (local_place s.local q) s new emitted full k)
 
     pub requested : (remote : Option IceCreds) (s new : AgentRecord H P) (emitted : Emitted) → s.lite ≡ false
         → MatchOption remote (Queues q s emitted new) (λ _. Serves mac q s emitted new) → Outcome s emitted new

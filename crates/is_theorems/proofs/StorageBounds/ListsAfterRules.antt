@@ -31,9 +31,12 @@ use Rattle.is_rules.specs.Places.{local_place}
 use Rattle.is_rules.specs.Queue.{first_taken, request_at}
 use Rattle.is_rules.specs.Request.{RequestRecord, request_in}
 use Rattle.is_rules.specs.Roles.{conflict_of, switched}
-use Rattle.is_rules.specs.Serving.{selects_at_requests, is_misled, is_for_other_peer, pair_served, request_counted, sender_candidate, with_sender, with_sender_at, Drops, Queues, RecordsAndResponds, FindsOrAddsPair, AddsUnknownSender, CountsAndServes, ResolvesRoleConflictBy, ResolvesRoleConflict, Serves}
+use Rattle.is_rules.specs.Serving.{is_for_other_peer, is_misled, pair_served, request_counted, selects_at_requests, sender_candidate, with_sender}
+use Rattle.is_rules.specs.Serving.{with_sender_at, Drops, Queues, Serves}
 use Rattle.is_rules.specs.Steps.{Entry, Receives}
 use Rattle.is_rules.specs.Timeouts.{at_request, MaintainsPairs, TimesOut, timeout_begun}
+use Rattle.is_rules.proofs.ServedRequests.RulesInTurn.{in_turn, AddsUnknownSender, CountsAndServes, FindsOrAddsPair, RecordsAndResponds, ResolvesRoleConflict}
+use Rattle.is_rules.proofs.ServedRequests.RulesInTurn.{ResolvesRoleConflictBy}
 use Rattle.is_theorems.proofs.RuleEffects.UnchangedSettings.{either}
 use Rattle.is_theorems.proofs.BasicLemmas.UsernamesAndFirstMatches.{neither}
 use Rattle.is_theorems.proofs.StorageBounds.BoundedLists.{Lists, Within, fits-brought, fits-put, is_own}
@@ -132,7 +135,7 @@ module _ {H P : Type 0} where
       here (Some l) s new emitted h = resolves_by (conflict_of s q) l s new emitted h
 
       serves : (s new : AgentRecord H P) (emitted : Emitted) → Serves mac q s emitted new → Served s new
-      serves s new emitted h = either (is_for_other_peer s q) h (λ _ k. served_same s new (same s new k.1)) (λ _ k. here (local_place s.local q) s new emitted k)
+      serves s new emitted h = either (is_for_other_peer s q) (in_turn mac q s new emitted h) (λ _ k. served_same s new (same s new k.1)) (λ _ k. here (local_place s.local q) s new emitted k)
 
       requested : (remote : Option IceCreds) (s new : AgentRecord H P) (emitted : Emitted) → MatchOption remote (Queues q s emitted new) (λ _. Serves mac q s emitted new) → Served s new
       requested None s new emitted h = served_same s new (ap (λ (a : AgentRecord H P). lists_of a) h.1)

@@ -36,7 +36,8 @@ use Rattle.is_rules.specs.Places.{is_at, is_live, is_reached, local_place}
 use Rattle.is_rules.specs.Queue.{first_taken, request_at}
 use Rattle.is_rules.specs.Request.{RequestRecord, request_in}
 use Rattle.is_rules.specs.Roles.{conflict_of, switched, switched_sides, with_priority_in}
-use Rattle.is_rules.specs.Serving.{selects_at_requests, after_request, is_misled, is_for_other_peer, pair_served, request_counted, served, validated_by_peer, with_sender, with_sender_at, Drops, Queues, RecordsAndResponds, FindsOrAddsPair, AddsUnknownSender, CountsAndServes, ResolvesRoleConflictBy, ResolvesRoleConflict, Serves, as_taken, nominated_by_peer}
+use Rattle.is_rules.specs.Serving.{after_request, as_taken, is_for_other_peer, is_misled, nominated_by_peer, pair_served, request_counted, selects_at_requests}
+use Rattle.is_rules.specs.Serving.{served, validated_by_peer, with_sender, with_sender_at, Drops, Queues, Serves}
 use Rattle.is_rules.specs.States.{evaluated}
 use Rattle.is_rules.specs.Steps.{Entry, Receives}
 use Rattle.is_rules.specs.Settling.{settled, Reselects}
@@ -50,6 +51,8 @@ use Rattle.is_theorems.proofs.RuleEffects.ChangedPairs.{Has-map}
 use Rattle.is_theorems.proofs.BasicLemmas.UsernamesAndFirstMatches.{neither}
 use Rattle.is_rules.proofs.PairLists.PairsByNumber.{none-any}
 use Rattle.is_rules.proofs.PairLists.RemovedInTurn.{removes, RemovesInTurn}
+use Rattle.is_rules.proofs.ServedRequests.RulesInTurn.{in_turn, AddsUnknownSender, CountsAndServes, FindsOrAddsPair, RecordsAndResponds, ResolvesRoleConflict}
+use Rattle.is_rules.proofs.ServedRequests.RulesInTurn.{ResolvesRoleConflictBy}
 use Rattle.is_theorems.proofs.RuleEffects.SelectedPaths.{some_is}
 use Rattle.is_theorems.proofs.BasicLemmas.CandidatesByIndex.{at-append, found-at}
 use Rattle.is_theorems.proofs.RuleEffects.TriggeredPairs.{triggered_by, by_trigger}
@@ -323,7 +326,7 @@ module _ {H P : Type 0} where
     here (Some l) s new emitted is h = resolves_by (conflict_of s q) l s new emitted (reached-own s.local q l is) h
 
     serves : (s new : AgentRecord H P) (emitted : Emitted) → Serves mac q s emitted new → Fewer s new
-    serves s new emitted h = either (is_for_other_peer s q) h (λ _ k. unchanged s new k.1) (λ _ k. here (local_place s.local q) s new emitted refl k)
+    serves s new emitted h = either (is_for_other_peer s q) (in_turn mac q s new emitted h) (λ _ k. unchanged s new k.1) (λ _ k. here (local_place s.local q) s new emitted refl k)
 
     requested : (remote : Option IceCreds) (s new : AgentRecord H P) (emitted : Emitted) → MatchOption remote (Queues q s emitted new) (λ _. Serves mac q s emitted new) → Fewer s new
     requested None s new emitted h = alike s new (ap (λ (a : AgentRecord H P). grid_of a) h.1)

@@ -32,7 +32,8 @@ use Rattle.is_rules.specs.Places.{local_place}
 use Rattle.is_rules.specs.Request.{RequestRecord}
 use Rattle.is_rules.specs.Restarting.{events_kept, is_selection, unpaired}
 use Rattle.is_rules.specs.Roles.{conflict_of, switched}
-use Rattle.is_rules.specs.Serving.{trigger_time, selects_at_requests, is_misled, is_for_other_peer, pair_served, request_counted, with_sender, with_sender_at, Drops, Queues, RecordsAndResponds, FindsOrAddsPair, AddsUnknownSender, CountsAndServes, ResolvesRoleConflictBy, ResolvesRoleConflict, Serves}
+use Rattle.is_rules.specs.Serving.{is_for_other_peer, is_misled, pair_served, request_counted, selects_at_requests, trigger_time, with_sender, with_sender_at}
+use Rattle.is_rules.specs.Serving.{Drops, Queues, Serves}
 use Rattle.is_rules.specs.States.{evaluated, has_nominated, has_possible, next_state, same_state, with_state}
 use Rattle.is_rules.specs.Settling.{settled, started, state_at_start, state_settled, Reselects}
 use Rattle.is_rules.specs.Timeouts.{RemovesExpired, MaintainsPairs, at_timeout, expired_gone, is_expired, start_emitted, timeout_begun}
@@ -41,6 +42,8 @@ use Rattle.is_theorems.proofs.RuleEffects.UnchangedSettings.{either}
 use Rattle.is_theorems.specs.Waiting.{is_discovery, discovery_count, other_count}
 use Rattle.is_theorems.proofs.RuleEffects.NotedErrors.{recoded, by_failure}
 use Rattle.is_rules.specs.Leaving.{path_left}
+use Rattle.is_rules.proofs.ServedRequests.RulesInTurn.{in_turn, AddsUnknownSender, CountsAndServes, FindsOrAddsPair, RecordsAndResponds, ResolvesRoleConflict}
+use Rattle.is_rules.proofs.ServedRequests.RulesInTurn.{ResolvesRoleConflictBy}
 
 -- ---- queues
 
@@ -266,7 +269,7 @@ module _ {H P : Type 0} where
     here (Some l) s new emitted h = resolves (conflict_of s q) l s new emitted h
 
     pub serves_adds : (s new : AgentRecord H P) (emitted : Emitted) → Serves mac q s emitted new → Adds 1 2 s new
-    serves_adds s new emitted h = either (is_for_other_peer s q) h (λ _ k. none s new (kept s new k.1)) (λ _ k. here (local_place s.local q) s new emitted k)
+    serves_adds s new emitted h = either (is_for_other_peer s q) (in_turn mac q s new emitted h) (λ _ k. none s new (kept s new k.1)) (λ _ k. here (local_place s.local q) s new emitted k)
 
     pub requested_adds : (remote : Option IceCreds) (s new : AgentRecord H P) (emitted : Emitted) → MatchOption remote (Queues q s emitted new) (λ _. Serves mac q s emitted new) → Adds 1 2 s new
     requested_adds None s new emitted h = none s new (same s new (ap (λ (a : AgentRecord H P). lines_of a) h.1))

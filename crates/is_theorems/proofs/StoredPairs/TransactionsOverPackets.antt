@@ -36,9 +36,13 @@ use Rattle.is_rules.specs.Roles.{conflict_of, switched, switched_sides, with_pri
 use Rattle.is_theorems.specs.Rounds.{is_between}
 use Rattle.is_rules.specs.Sending.{path_of, path_between}
 use Rattle.is_rules.specs.Settling.{settled}
-use Rattle.is_rules.specs.Serving.{trigger_time, selects_at_requests, after_request, served, validated_by_peer, is_misled, is_for_other_peer, pair_served, request_counted, with_sender, with_sender_at, sender_candidate, replied, Drops, Queues, RecordsAndResponds, FindsOrAddsPair, AddsUnknownSender, CountsAndServes, ResolvesRoleConflictBy, ResolvesRoleConflict, Serves, as_taken, nominated_by_peer}
+use Rattle.is_rules.specs.Serving.{after_request, as_taken, is_for_other_peer, is_misled, nominated_by_peer, pair_served, replied, request_counted}
+use Rattle.is_rules.specs.Serving.{selects_at_requests, sender_candidate, served, trigger_time, validated_by_peer, with_sender, with_sender_at, Drops, Queues}
+use Rattle.is_rules.specs.Serving.{Serves}
 use Rattle.is_rules.specs.Sound.{IsSound, IsPlaced}
 use Rattle.is_rules.specs.Steps.{Call, Entry, ReceivePacket, PollTransmit, PollTimeout, PollEvent, Step}
+use Rattle.is_rules.proofs.ServedRequests.RulesInTurn.{in_turn, AddsUnknownSender, CountsAndServes, FindsOrAddsPair, RecordsAndResponds, ResolvesRoleConflict}
+use Rattle.is_rules.proofs.ServedRequests.RulesInTurn.{ResolvesRoleConflictBy}
 use Rattle.is_theorems.proofs.BasicLemmas.EqualAddresses.{both}
 use Rattle.is_theorems.proofs.DuePairs.AfterPackets.{Grown}
 use Rattle.is_theorems.proofs.CallEffects.PathAndTradeEffects.{path_theorem}
@@ -274,7 +278,7 @@ module _ {H P : Type 0} where
       requested : (remote : Option IceCreds) (s new : AgentRecord H P) (emitted : Emitted)
           → MatchOption remote (Queues q s emitted new) (λ _. Serves mac q s emitted new) → Stays s new
       requested None s new emitted h = subst (λ (a : AgentRecord H P). Stays s a) (sym h.1) (stays_by s _ (inl refl) (inl refl) (same_pairs s.pairs))
-      requested (Some peer) s new emitted h = either (is_for_other_peer s q) h
+      requested (Some peer) s new emitted h = either (is_for_other_peer s q) (in_turn mac q s new emitted h)
           (λ _ k. stays_same s new k.1)
           (λ _ k. here (local_place s.local q) s new emitted k)
 

@@ -22,6 +22,7 @@ use Rattle.is_stun.specs.Theorems.{IsPut}
 use Rattle.is_rules.specs.declared.event.IceAgentEvent.TheVariants.{IceConnectionStateChange}
 use Rattle.is_rules.specs.declared.event.IceConnectionState.TheVariants.{Checking}
 use Rattle.is_rules.specs.declared.places.RemotePlace.TheVariants.{Unknown}
+use Rattle.is_rules.specs.declared.serving.Places.{Places}
 use Rattle.is_rules.specs.Steps.{Done, Added, Flag, Entry, quiet}
 use Rattle.is_rules.specs.Emitted.{nothing_emitted, issued_only, selected_only, reversed}
 use Rattle.is_rules.specs.Agent.{AgentRecord, default_timing, fresh}
@@ -272,10 +273,14 @@ module _ {H P : Type 0} (mac : H → List ℕ → List ℕ → List ℕ) (answer
 
   -- ---- requests
 
+  -- an unknown sender, to the first local candidate
+  abbrev unknown : Places
+  unknown = record { local = 0; remote = Unknown; pair = None }
+
   -- the peer nominates: a peer-reflexive candidate, a nominated pair, and a response
   serves : IsPut (written (mac provider) (Some (codes "p1")) (binding_reply zero_id address_2)) (binding_reply zero_id address_2)
       → Serves mac (request zero_id) (controlled {P = P} mac provider) (issued_only path_12 class.Success zero_id) (served mac provider zero_id)
-  serves values = (Unknown, (Unknown, (None, (λ k below. refl), refl), refl), (None, refl, (refl, (None, _, (refl, refl), (values, refl, refl)))))
+  serves values = (Some unknown, (refl, refl, (Unknown, (None, (λ k below. refl), refl), refl), refl), (refl, (None, _, (refl, refl), (values, refl, refl))))
 
   nominated_pair : PairRecord
   nominated_pair = record (new_pair 0 0 0 7962116751041232382) { nomination = Nominated; requests = 1; last_request = Some 0 }
@@ -317,12 +322,12 @@ module _ {H P : Type 0} (mac : H → List ℕ → List ℕ → List ℕ) (answer
       (record (with_host mac provider) {
         packets = record { proto = Udp; source = address_1; destination = address_2; contents = written (mac provider) (Some (codes "p1")) (binding_role_conflict_reply zero_id) } ∷ [];
       })
-  conflict_sent values = (values, refl, refl)
+  conflict_sent values = (Some unknown, (refl, refl, (Unknown, (None, (λ k below. refl), refl), refl), refl), (refl, (values, refl, refl)))
 
   -- with a greater one: the role switches, the request is served, and the pair is nominated
   yielded : IsPut (written (mac provider) (Some (codes "p1")) (binding_reply zero_id address_2)) (binding_reply zero_id address_2)
       → Serves mac (request zero_id) (with_host {P = P} mac provider) (issued_only path_12 class.Success zero_id) (served mac provider zero_id)
-  yielded values = (Unknown, (Unknown, (None, (λ k below. refl), refl), refl), (None, refl, (refl, (None, _, (refl, refl), (values, refl, refl)))))
+  yielded values = (Some unknown, (refl, refl, (Unknown, (None, (λ k below. refl), refl), refl), refl), (refl, (None, _, (refl, refl), (values, refl, refl))))
 
   -- a re-created agent in New goes to Checking, and has its pair again under a new number
   recreates : Step mac answers (with_both {P = P} mac provider) s RecreateCandidatePairs (quiet Done)
@@ -350,7 +355,7 @@ module _ {H P : Type 0} (mac : H → List ℕ → List ℕ → List ℕ) (answer
 
   lite_serves : IsPut (written (mac provider) (Some (codes "p1")) (binding_reply zero_id address_2)) (binding_reply zero_id address_2)
       → Serves mac (request zero_id) (record (controlled {P = P} mac provider) { lite = true }) (issued_only path_12 class.Success zero_id) (lite_served mac provider zero_id)
-  lite_serves values = (Unknown, (Unknown, (None, (λ k below. refl), refl), refl), (None, refl, (refl, (None, _, (refl, refl), (values, refl, refl)))))
+  lite_serves values = (Some unknown, (refl, refl, (Unknown, (None, (λ k below. refl), refl), refl), refl), (refl, (None, _, (refl, refl), (values, refl, refl))))
 
   lite_pair : PairRecord
   lite_pair = record (new_pair 0 0 0 7962116751041232382) { nomination = Success; state = Succeeded; requests = 1; last_request = Some 0 }

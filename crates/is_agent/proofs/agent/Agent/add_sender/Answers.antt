@@ -1,10 +1,10 @@
-use Rattle.std.proofs.Common.{◌+◌, ◌≤◌, arith}
+use Rattle.std.proofs.Common.{◌+◌, ◌≤◌, arith, refl, slice_set}
 use Rattle.is_pair.specs.Checklists.{multiset_of}
 use Rattle.is_rules.proofs.PairLists.PairsInLists.{longer}
 use Rattle.is_agent.proofs.AgentParts.PairsInLists.{as-long, one-longer}
 use Rattle.is_agent.specs.Live.{live_count}
 use Rattle.is_agent.proofs.AgentParts.LiveCandidates.{live-appended, live-set}
-use Rattle.is_agent.proofs.agent.Agent.add_unknown_sender.Goals as goal
+use Rattle.is_agent.proofs.agent.Agent.add_sender.Goals as goal
 
 pub invariant_of-self-clause-placed : goal.invariant_of-self-clause-placed
 invariant_of-self-clause-placed g c =
@@ -15,15 +15,12 @@ invariant_of-self-clause-placed g c =
 pub invariant_of-self-in-Vacant-Some-clause-placed : goal.invariant_of-self-in-Vacant-Some-clause-placed
 invariant_of-self-in-Vacant-Some-clause-placed g c =
     let self = c.args.self.now in let r = c.in-Vacant-Some.r in let sender = c.in-Vacant-Some.sender in
-    let long = as-long c.put.new.list.items self.remote.items r sender c.put.ensures in
+    let long = as-long (slice_set self.remote.items r sender) self.remote.items r sender refl in
     rw (c.forget_removed.ensures.multiset)
-    (longer self.local.items self.remote.items self.local.items c.put.new.list.items (multiset_of self.pairs) (omega arith) (omega (arith, long)) self.placed)
+    (longer self.local.items self.remote.items self.local.items (slice_set self.remote.items r sender) (multiset_of self.pairs) (omega arith) (omega (arith, long)) self.placed)
 
 pub invariant_of-self-in-Vacant-Some-clause-numbered : goal.invariant_of-self-in-Vacant-Some-clause-numbered
 invariant_of-self-in-Vacant-Some-clause-numbered g c = rw (c.forget_removed.ensures.multiset) c.args.self.now.numbered
-
-pub find_or_add_pair-requires-in-Vacant-Some-clause-pairs : goal.find_or_add_pair-requires-in-Vacant-Some-clause-pairs
-find_or_add_pair-requires-in-Vacant-Some-clause-pairs g c = c.forget_removed.ensures.room 1 c.requires.room.1
 
 pub invariant_of-self-clause-room_suffices : goal.invariant_of-self-clause-room_suffices
 invariant_of-self-clause-room_suffices g c =
@@ -34,5 +31,4 @@ invariant_of-self-clause-room_suffices g c =
 pub invariant_of-self-in-Vacant-Some-clause-room_suffices : goal.invariant_of-self-in-Vacant-Some-clause-room_suffices
 invariant_of-self-in-Vacant-Some-clause-room_suffices g c =
     let self = c.args.self.now in let r = c.in-Vacant-Some.r in let sender = c.in-Vacant-Some.sender in
-    let more : live_count c.put.new.list.items ≤ live_count self.remote.items + 1 = rw (c.put.ensures) (live-set self.remote.items r sender) in
-    omega (arith, more, c.requires.room.3)
+    omega (arith, live-set self.remote.items r sender, c.requires.room.3)
