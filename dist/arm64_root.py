@@ -8,9 +8,10 @@ import re
 import shutil
 import zipfile
 
-from building import Failed, run
+from building import run
 from roots import SUITE, debootstrap, made
-from trying import Skipped, bare, found_paths, require, top
+from steps import Failed, Skipped, require
+from trying import bare, found_paths, top
 from trying_targets import optional
 
 PACKAGE = "python3"

@@ -15,16 +15,13 @@ import metadata
 import notices
 import symbols
 from packing import Link, gzipped
+from steps import Failed
 from versions import differing, version
 
 here = pathlib.Path(__file__).resolve().parent
 top = here.parent
 CC = os.environ.get("CC", "cc")
 LICENSES = ("LICENSE-APACHE", "LICENSE-MIT")
-
-
-class Failed(Exception):
-    pass
 
 
 def run(*words, env=None, cwd=None):

@@ -9,8 +9,9 @@ import re
 import shutil
 import tarfile
 
-from building import Failed, run
-from trying import PATHS, Skipped, require, the
+from building import run
+from steps import Failed, Skipped, require
+from trying import PATHS, the
 
 top = pathlib.Path(__file__).resolve().parent.parent
 SUITE, MIRROR = "trixie", "http://deb.debian.org/debian"

@@ -7,13 +7,12 @@ import re
 import shutil
 import sys
 import tarfile
-import tempfile
 import time
 import zipfile
 
-from building import CC, Failed, interface, run
+from building import CC, interface, run
 from processors import X86_64
-from progress import shown
+from steps import Failed, Skipped, require
 
 top = pathlib.Path(__file__).resolve().parent.parent
 CXX = os.environ.get("CXX", "c++")
@@ -47,16 +46,6 @@ dpkg --verify libis-ice-dev
 readelf -d "$4" | grep -q libis_ice.so
 exec "$4"
 """
-
-
-class Skipped(Exception):
-    pass
-
-
-def require(*programs):
-    for program in programs:
-        if shutil.which(program) is None:
-            raise Skipped(f"{program} is not installed")
 
 
 def bare(**more):
@@ -224,28 +213,3 @@ def step_lintian(_, out):
 
 STEPS = {"sums": step_sums, "tarball": step_tarball, "cmake": step_cmake, "wheel": step_wheel, "rust": step_rust, "deb": step_deb,
          "dpkg": step_dpkg, "lintian": step_lintian}
-
-
-def taken(name, step, out):
-    """Runs a step in an empty folder and prints its result. Returns 'passed', 'skipped' or 'failed'."""
-    begun = time.monotonic()
-    if sys.stdout.isatty():
-        print(f"{name} ..", end="\r", flush=True)
-    try:
-        with shown(name), tempfile.TemporaryDirectory() as folder:
-            said = step(pathlib.Path(folder).resolve(), out)
-    except Skipped as why:
-        print(f"{name}: skipped, {why}", flush=True)
-        return "skipped"
-    except Failed as why:
-        print(f"{name}: FAILED, {why}", flush=True)
-        return "failed"
-    print(f"{name}: ok, {time.monotonic() - begun:.1f} s, {said}", flush=True)
-    return "passed"
-
-
-def all_of(steps, out):
-    """Runs the steps, by their names, and returns the status of the program."""
-    results = [taken(name, step, out) for name, step in steps.items()]
-    print(f"{results.count('passed')} passed, {results.count('skipped')} skipped, {results.count('failed')} failed")
-    return 1 if "failed" in results else 0

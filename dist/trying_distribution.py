@@ -5,8 +5,9 @@ import os
 import shutil
 import tarfile
 
-from building import CC, Failed, proved, run
-from trying import Skipped, bare, debs, found_paths, moved, require, the, top, unpacked
+from building import CC, proved, run
+from steps import Failed, Skipped, require
+from trying import bare, debs, found_paths, moved, the, top, unpacked
 
 # A processor of x86-64 before SSE4.2, by the name that QEMU has for it.
 OLD_PROCESSOR = "core2duo"

@@ -6,9 +6,10 @@ import subprocess
 import sys
 import zipfile
 
-from building import CC, Failed, run
+from building import CC, run
 from processors import ARM64
-from trying import PATHS, Skipped, bare, debs, found_paths, require, the, top, unpacked
+from steps import Failed, Skipped, require
+from trying import PATHS, bare, debs, found_paths, the, top, unpacked
 
 sys.path.append(str(top / "targets"))
 import sessions  # noqa: E402
@@ -196,7 +197,7 @@ def play_npm(place, out):
 
 
 def step_sessions(place, out):
-    """The same sessions over the library of each release file, byte for byte."""
+    """Plays sessions over the library of each release file: they are the same, byte for byte."""
     require(CC)
     expected = sessions.played(sessions.compiled(CC, [linux_library(place, out, "x86_64")], place / "native"), count=sessions.COUNT)
     done, without = [], []

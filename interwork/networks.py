@@ -66,32 +66,25 @@ class Hosts(Network):
             self.spaces.address(namespace, f"{addresses[1]}/64", "e0")
 
 
-class Wire(Network):
-    """Two hosts with a wire between them that loses, delays, reorders and duplicates packets: wire.py passes them on."""
+class Carried(Network):
+    """Two hosts, and a program of this folder that passes on what they send."""
 
-    addresses = ("10.8.0.1", "10.8.0.2")
+    process = None
 
-    def __init__(self, loss, delay, duplicates, least=0.0):
-        super().__init__()
-        self.settings, self.process = (f"loss={loss}", f"delay={delay}", f"dup={duplicates}", f"least={least}"), None
-
-    def build(self):
-        self.namespaces = [self.spaces.add(), self.spaces.add()]
-        self.options = [["-a", address] for address in self.addresses]
-        words = [word for pair in zip(self.namespaces, self.addresses) for word in pair]
-        command = [sys.executable, here / "wire.py", *words, *self.settings]
-        self.process = subprocess.Popen(command, stdin=subprocess.PIPE, stdout=subprocess.PIPE, text=True)
+    def start(self, program, *words):
+        """Starts it, and waits until it is ready."""
+        self.process = subprocess.Popen([sys.executable, here / program, *words], stdin=subprocess.PIPE, stdout=subprocess.PIPE, text=True)
         if self.process.stdout.readline().strip() != "ready":
-            raise RuntimeError("wire.py did not start")
+            raise RuntimeError(f"{program} did not start")
 
     def tell(self, line):
-        """Changes the wire: 'loss 0.05', 'delay 0', 'dup 0', 'cut' or 'mend'."""
+        """Passes a line to it."""
         self.process.stdin.write(line + "\n")
         self.process.stdin.flush()
 
-    def counts(self):
-        """What passed so far."""
-        self.tell("counts")
+    def ask(self, line):
+        """Returns its answer to a line."""
+        self.tell(line)
         return self.process.stdout.readline().strip()
 
     def close(self):
@@ -102,7 +95,28 @@ class Wire(Network):
         super().close()
 
 
-class Far(Network):
+class Wire(Carried):
+    """Two hosts with a wire between them that loses, delays, reorders and duplicates packets: wire.py passes them on. `tell` changes it:
+    'loss 0.05', 'delay 0', 'dup 0', 'cut' or 'mend'."""
+
+    addresses = ("10.8.0.1", "10.8.0.2")
+
+    def __init__(self, loss, delay, duplicates, least=0.0):
+        super().__init__()
+        self.settings = f"loss={loss}", f"delay={delay}", f"dup={duplicates}", f"least={least}"
+
+    def build(self):
+        self.namespaces = [self.spaces.add(), self.spaces.add()]
+        self.options = [["-a", address] for address in self.addresses]
+        words = [word for pair in zip(self.namespaces, self.addresses) for word in pair]
+        self.start("wire.py", *words, *self.settings)
+
+    def counts(self):
+        """What passed so far."""
+        return self.ask("counts")
+
+
+class Far(Carried):
     """Two hosts with NATs, delay, jitter and loss between them, all in distance.py. Each has so many addresses, of which one leads to the
     other host.
 
@@ -113,7 +127,7 @@ class Far(Network):
 
     def __init__(self, a, b, hosts, delay, loss):
         super().__init__()
-        self.kinds, self.hosts, self.process = (a, b), hosts, None
+        self.kinds, self.hosts = (a, b), hosts
         trace = os.environ.get("IS_ICE_TRACE")  # a file for a line about each packet
         self.settings = (f"delay={delay}", f"jitter={delay / 5}", f"loss={loss}", *([f"trace={trace}"] if trace else []))
 
@@ -122,25 +136,13 @@ class Far(Network):
         self.addresses = [[f"198.51.100.{4 * side + 2}" if kind == "none" else f"10.0.{side + 1}.2",
                            *(f"172.{16 + side}.{number}.1" for number in range(1, self.hosts))] for side, kind in enumerate(self.kinds)]
         sides = ["/".join((*each, ",".join(addresses))) for *each, addresses in zip(self.namespaces, self.kinds, self.addresses)]
-        command = [sys.executable, here / "distance.py", *sides, *self.settings]
-        self.process = subprocess.Popen(command, stdin=subprocess.PIPE, stdout=subprocess.PIPE, text=True)
-        if self.process.stdout.readline().strip() != "ready":
-            raise RuntimeError("distance.py did not start")
+        self.start("distance.py", *sides, *self.settings)
         self.options = _InAnyOrder(self.addresses, self.kinds)
 
     def valid_at(self, username):
         """When the sender of checks with this USERNAME got a response to one, as time.monotonic(), or None."""
-        self.process.stdin.write(f"valid {username}\n")
-        self.process.stdin.flush()
-        said = self.process.stdout.readline().strip()
+        said = self.ask(f"valid {username}")
         return None if said == "never" else float(said)
-
-    def close(self):
-        if self.process:
-            self.process.stdin.close()
-            self.process.wait()
-            self.process.stdout.close()
-        super().close()
 
 
 class _InAnyOrder:

@@ -22,17 +22,19 @@ EARLY_TIME = 2500 * MILLISECOND
 ASKED_TIME = 1200 * MILLISECOND
 BEGINNING = 500 * MILLISECOND
 
-# How much later than the one before a response may come, how long a silent nominated pair is checked quickly, after the longest RTO since
-# its last answered check, how often at most, and how often after that.
+# How much later than the one before a response may come, or sooner, how long a silent nominated pair is checked quickly, after the longest
+# RTO since its last answered check, how often at most, and how often after that.
 LATENESS = 30 * MILLISECOND
 HUSHED_TIME = 4500 * MILLISECOND
-SHORT_INTERVAL = 80 * MILLISECOND
+SHORT_INTERVAL = 70 * MILLISECOND
 HUSHED_INTERVAL = 500 * MILLISECOND
 
-# How long a silent pair is kept at least, after the longest RTO since its last answered check, and how much longer if most checks were lost
+# How long a silent pair is kept at least, after the longest RTO since its last answered check, and how much longer if many checks were lost
 # before.
-LEAST_SILENCE = 1100 * MILLISECOND
+LEAST_SILENCE = 850 * MILLISECOND
 LOSSY_TIME = 2200 * MILLISECOND
+# The greatest number of lost checks that a pair stores.
+MOST_LOST = (1 << 32) - 1
 
 # How many checks of a silent pair follow the answered check of another one, at which the silent one is left.
 FOLLOWING = 4
@@ -146,8 +148,9 @@ def unanswered(checks: tuple[Check, ...]) -> int:
 class Pair:
     """A pair. `nomination` is none, nominated, attempt or success; `state` is waiting, progress or succeeded. `sent`, `requests` and
     `answers` count checks, checks of the peer, and responses. `first_sent` is when its first check was sent, `first_after_request` when
-    the first one after a request of the peer was, `consented` when the last check that got a response was, `greatest` the greatest
-    number by which the peer nominated it, and `error` the code of the last error response."""
+    the first one after a request of the peer was, `consented` when the last check that got a response was, `lost` how many checks had
+    none yet when a later one had its first, `greatest` the greatest number by which the peer nominated it, and `error` the code of the
+    last error response."""
 
     number: int
     local: int
@@ -164,6 +167,7 @@ class Pair:
     requests: int = 0
     answers: int = 0
     consented: int | None = None
+    lost: int = 0
     greatest: int = 0
     error: int | None = None
 
@@ -223,7 +227,8 @@ class Pair:
     def _hushed_delay(self, now: int, timing: Timing) -> int:
         trip = next((c.answered - c.sent for c in reversed(self.checks) if c.answered is not None), 0)
         is_quick = self.may_repeat(timing) or (self.consented is not None and now < self.consented + timing.greatest + HUSHED_TIME)
-        return max(SHORT_INTERVAL if is_quick else HUSHED_INTERVAL, trip + LATENESS)
+        wait = trip + LATENESS if unanswered(self.checks) == 1 else trip - LATENESS
+        return max(SHORT_INTERVAL if is_quick else HUSHED_INTERVAL, wait)
 
     def _usual_delay(self, now: int, timing: Timing) -> int:
         silent = unanswered(self.checks)
@@ -313,9 +318,8 @@ class Pair:
         return self.consented is None or self.consented + timing.greatest + LEAST_SILENCE <= now
 
     def is_silent_enough(self, now: int, timing: Timing) -> bool:
-        """Whether it was silent for long, for longer if fewer of its checks before the last ones had a response than had none
-        (`is_silent_enough`)."""
-        is_lossy = self.answers < self.sent - timing.retransmits - self.answers
+        """Whether it was silent for long, for longer if more than a third of its checks were lost (`is_silent_enough`)."""
+        is_lossy = self.answers < 2 * self.lost
         return self.is_long_silent(now - LOSSY_TIME if is_lossy else now, timing)
 
     def silence(self) -> tuple[int, int] | None:
@@ -355,8 +359,9 @@ class Pair:
         at = next(i for i, c in enumerate(self.checks) if c.id == id)
         check = replace(self.checks[at], answered=now)
         done = check.nominated and self.nomination == "attempt"
+        passed = 0 if self.answers == 0 else max(unanswered(self.checks) - (len(self.checks) - at), 0)
         return replace(self, checks=(*self.checks[:at], check, *self.checks[at + 1:]), due=None, answers=self.answers + 1,
-                       consented=_later(check.sent, self.consented),
+                       consented=_later(check.sent, self.consented), lost=min(self.lost + passed, MOST_LOST),
                        nomination="success" if done else self.nomination, state="succeeded" if self.state == "progress" else self.state)
 
     def asked(self, now: int) -> Pair:

@@ -11,7 +11,7 @@ from .theme import SIZE, WIDTH, picture as themed, text as _text
 
 COLORS = {"check": "#1f77b4", "nomination": "#6a3d9a", "response": "#2c8a2c", "failure": "#d62728"}
 STATES = {"New": "#bdbdbd", "Checking": "#f0b429", "Connected": "#7bc96f", "Completed": "#1b8a3a", "Disconnected": "#d62728"}
-# The same as text, dark enough to be read.
+# The colors of the states as text, dark enough to be read.
 WORDS = {**STATES, "New": "#666666", "Checking": "#8a5a00", "Connected": "#2b7a1f"}
 LOST, UNDELIVERED, PALE = "#d62728", "#666666", "#666666"
 TOP = 78

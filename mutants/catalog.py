@@ -1,59 +1,127 @@
 """Reads the mutants: the files mutants/gate/CRATE.txt, mutants/bodies/CRATE.txt and mutants/specifications/CRATE.txt.
 docs/TESTING.md describes the format."""
-import collections, functools, pathlib, re, sys
+import collections, dataclasses, functools, pathlib, re, sys
 
 here = pathlib.Path(__file__).resolve().parent
 top = here.parent
 
-# rules: the guarantees that it breaks, as docs/PROMISES.md has them, or the beginnings of these. changes: pairs of an old and a new text.
-# within: the function in which the old texts are, or None for the whole file.
-Mutant = collections.namedtuple("Mutant", "name crate kind place rules theorem file within changes")
+
+@dataclasses.dataclass
+class Mutant:
+    """rules: the guarantees that it breaks, as docs/PROMISES.md has them, or the beginnings of these. changes: pairs of an old and a new
+    text. within: the function in which the old texts are, or None for the whole file."""
+
+    name: str
+    crate: str
+    kind: str
+    place: tuple
+    rules: list
+    theorem: str | None
+    file: str | None
+    within: str | None
+    changes: list = dataclasses.field(default_factory=list)
+
+    def lacking(self):
+        """The parts that it should have and does not."""
+        parts = {"file:": self.file, "old: and new:": self.changes, "rule": self.rules}
+        if self.kind == "specifications":
+            parts["theorem:"] = self.theorem
+        return [part for part, has in parts.items() if not has]
+
 
 KINDS = ("gate", "bodies", "specifications")
 
 FUNCTION = re.compile(r"\s*(?:pub(?:\([^)]*\))?\s+)?(?:(?:const|unsafe|extern(?:\s+\"[^\"]*\")?)\s+)*fn\s+(\w+)")
 
 
-def stop(path, number, why):
-    sys.exit(f"{path.relative_to(top)}:{number}: {why}")
+class Reader:
+    """Reads the lines of a file of mutants. A paragraph ends at an empty line or a heading."""
 
+    def __init__(self, path, crate, kind):
+        self.path, self.crate, self.kind = path, crate, kind
+        self.found, self.rules, self.theorem, self.file = [], [], None, None
+        self.begin_paragraph()
 
-def parse(path, crate, kind):
-    """The mutants of a file."""
-    found, rule, theorem, old = [], [], None, None
-    for number, line in enumerate(path.read_text().split("\n"), 1):
-        key, text = line[:5], line[5:]
+    def begin_paragraph(self):
+        # within, shared: the function and the old text of all mutants of the paragraph. old: the text whose new one is to come.
+        self.mutant, self.within, self.shared, self.old = None, None, None, None
+
+    def read(self):
+        """The mutants."""
+        for number, line in enumerate([*self.path.read_text().split("\n"), ""], 1):
+            if not self.take(number, line):
+                self.stop(number, "this line is not of the format, or it is in the wrong place")
+        return self.found
+
+    def take(self, number, line):
+        """Reads a line; whether it is in its place."""
         if line.startswith("## "):
-            rule, theorem = [line[3:]], None
-        elif line.startswith("# rule: "):
-            found[-1].rules.append(line[8:])
-        elif not line.strip() or line.startswith("#"):
-            continue
-        elif line.startswith("theorem: ") and kind == "specifications":
-            theorem = line[9:]
-        elif line.startswith("mutant: "):
-            found.append(Mutant(line[8:], crate, kind, (path, number), [*rule], theorem, [None], [None], []))
-        elif line.startswith("file: ") and found and found[-1].file == [None]:
-            found[-1].file[0] = line[6:]
-        elif line.startswith("in: ") and kind != "specifications" and found and found[-1].within == [None] and not found[-1].changes:
-            found[-1].within[0] = line[4:]
-        elif key == "old: " and found and old is None:
-            old = text
-        elif line.startswith("new:") and old is not None:
-            found[-1].changes.append((old, text))
-            old = None
+            is_whole = self.ends_paragraph()
+            self.rules, self.theorem, self.file = [line[3:]], None, None
+            return is_whole
+        if not line.strip():
+            return self.ends_paragraph()
+        if line.startswith("# rule: ") and self.mutant:
+            self.mutant.rules.append(line[8:])
+        if line.startswith("#"):
+            return True
+        key, _, text = line.partition(":")
+        if key == "mutant":
+            return self.begin_mutant(number, text[1:])
+        return (self.take_part if self.mutant else self.take_head)(key, text[1:])
+
+    def ends_paragraph(self):
+        """Ends a paragraph; whether it was whole: each old text has its new one, and each mutant its parts."""
+        is_whole = self.old is None and (self.mutant or not self.shared)
+        self.judge()
+        self.begin_paragraph()
+        return is_whole
+
+    def judge(self):
+        """Stops if the mutant lacks a part."""
+        lacking = self.mutant.lacking() if self.mutant else []
+        if lacking:
+            self.stop(self.mutant.place[1], f"{self.mutant.name} has no {' and no '.join(lacking)}")
+
+    def begin_mutant(self, number, name):
+        is_whole = self.old is None
+        self.judge()
+        place = (self.path, number)
+        self.mutant = Mutant(name, self.crate, self.kind, place, [*self.rules], self.theorem, self.file, self.within)
+        self.found.append(self.mutant)
+        self.old = self.shared
+        return is_whole
+
+    def take_head(self, key, text):
+        """Reads a line before the mutants of a paragraph."""
+        if key == "theorem" and self.kind == "specifications":
+            self.theorem = text
+        elif key == "file" and text != self.file:
+            self.file = text
+        elif key == "in" and self.kind != "specifications" and not self.within and not self.shared:
+            self.within = text
+        elif key == "old" and self.shared is None:
+            self.shared = text
         else:
-            stop(path, number, "this line is not of the format, or it is in the wrong place")
-    return [finished(mutant) for mutant in found]
+            return False
+        return True
 
+    def take_part(self, key, text):
+        """Reads a line of a mutant."""
+        mutant = self.mutant
+        if key == "in" and self.kind != "specifications" and not mutant.within and not mutant.changes:
+            mutant.within = text
+        elif key == "old" and self.old is None:
+            self.old = text
+        elif key == "new" and self.old is not None:
+            mutant.changes.append((self.old, text))
+            self.old = None
+        else:
+            return False
+        return True
 
-def finished(mutant):
-    """The mutant with its file as one name, or the end of the script if a part of it is missing."""
-    lacking = [part for part, has in (("file:", mutant.file[0]), ("old: and new:", mutant.changes), ("rule", mutant.rules),
-                                      ("theorem:", mutant.theorem or mutant.kind != "specifications")) if not has]
-    if lacking:
-        stop(*mutant.place, f"{mutant.name} has no {' and no '.join(lacking)}")
-    return mutant._replace(file=mutant.file[0], within=mutant.within[0])
+    def stop(self, number, why):
+        sys.exit(f"{self.path.relative_to(top)}:{number}: {why}")
 
 
 def paths(kind, crate):
@@ -62,7 +130,7 @@ def paths(kind, crate):
 
 
 def mutants(kind, crate):
-    return [mutant for path in paths(kind, crate) for mutant in parse(path, crate, kind)]
+    return [mutant for path in paths(kind, crate) for mutant in Reader(path, crate, kind).read()]
 
 
 def crates():

@@ -5,28 +5,17 @@ import shutil
 import subprocess
 import sys
 import tempfile
-import time
 
 import keeping
 import official
 import sessions
 from building import Failed, run
-from progress import shown
+from steps import Skipped, ended, require, taken_in_a_folder
 
 here = pathlib.Path(__file__).resolve().parent
 CC = os.environ.get("CC", "cc")
 ARM_CC = here / "arm64" / "cc"
 WINDOWS_CC = "x86_64-w64-mingw32-gcc"
-
-
-class Skipped(Exception):
-    pass
-
-
-def require(*programs):
-    for program in programs:
-        if shutil.which(program) is None:
-            raise Skipped(f"{program} is not installed")
 
 
 def built(name):
@@ -78,31 +67,14 @@ def test_memory(folder):
     return run(folder / "memory").strip()
 
 
-def taken(name, test):
-    """Runs a test and prints its result. Returns 'passed', 'skipped' or 'failed'."""
-    begun = time.monotonic()
-    try:
-        with shown(name), tempfile.TemporaryDirectory() as folder:
-            said = test(pathlib.Path(folder))
-    except Skipped as why:
-        print(f"{name}: skipped, {why}", flush=True)
-        return "skipped"
-    except Failed as why:
-        print(f"{name}: FAILED, {why}", flush=True)
-        return "failed"
-    print(f"{name}: ok, {time.monotonic() - begun:.1f} s, {said}", flush=True)
-    return "passed"
-
-
 def all_of(names, count):
     """Tests these targets with so many sessions, and returns the status of the program."""
-    results = [taken("memory", test_memory)]
+    results = [taken_in_a_folder("memory", test_memory)]
     with tempfile.TemporaryDirectory() as folder:
         expected = reference(pathlib.Path(folder), count)
     for name in names:
-        results.append(taken(name, lambda place: sessions.same(PLAYED[name](place, count), expected)))
-    print(f"{results.count('passed')} passed, {results.count('skipped')} skipped, {results.count('failed')} failed")
-    return 1 if "failed" in results else 0
+        results.append(taken_in_a_folder(name, lambda place: sessions.same(PLAYED[name](place, count), expected)))
+    return ended(results)
 
 
 def c_run(steps):

@@ -170,7 +170,7 @@ int32_t signal_add_hosts(is_ice_agent *agent, const struct net *net);
 /* Makes an ICE restart with new credentials. With `net` its sockets become the only candidates; if it is NULL the candidates stay. */
 int32_t signal_renew(is_ice_agent *agent, const struct net *net);
 
-/* The same, whose candidates stay, and prints the signal. */
+/* Makes an ICE restart with new credentials that keeps the candidates, and prints the signal. */
 int32_t signal_restart(is_ice_agent *agent);
 
 /* Takes the other peer's signal: the text after the word "signal". New credentials mean an ICE restart of the other peer;

@@ -80,7 +80,7 @@ static void make_near(is_ice_agent *agent, bool modern)
     set_profile(agent, modern);
 }
 
-/* The same, which is controlling and knows its peer's credentials. */
+/* A new controlling agent with one of the profiles, which has the peer's credentials. */
 static void make_peered(is_ice_agent *agent, bool modern)
 {
     make_near(agent, modern);

@@ -22,7 +22,7 @@ enum mistake {
     BOTH_CONTROLLING,
     CANDIDATES_FIRST,   /* it adds the peer's candidates before the credentials */
     SENDS_FAIL,         /* the system takes none of its packets, and it says so by is_ice_send_failed */
-    SENDS_FAIL_UNSAID,  /* the same, and it does not say so */
+    SENDS_FAIL_UNSAID,  /* the system takes none of its packets, and it does not say so */
     DROPS_AT_FIRST,     /* the system takes no packet for half a second, and its loop drops them; it says so */
     ERROR_RESPONSES,    /* the peer is another program, which responds to checks with an error */
     FALLS_SILENT        /* after half a second the network lets nothing through any more */
@@ -281,22 +281,23 @@ static void other_ufrag(void)
     sees("username fragments mixed up", 0, "request from another username fragment than the peer's", WAY);
 }
 
-static void swapped(void)
+static void wrong_addresses(const char *mistake)
 {
-    const char *const mistake = "source and destination swapped";
-    begin(SWAPPED);
     sees(mistake, 0, "no response to Binding request (request to an address that no local candidate has)", WAY);
     sees(mistake, 0, "response on another path than that of its check", 2 * WAY);
     sees_not(mistake, 0, ": selected ");
 }
 
+static void swapped(void)
+{
+    begin(SWAPPED);
+    wrong_addresses("source and destination swapped");
+}
+
 static void wrong_destination(void)
 {
-    const char *const mistake = "wrong destination";
     begin(WRONG_DESTINATION);
-    sees(mistake, 0, "no response to Binding request (request to an address that no local candidate has)", WAY);
-    sees(mistake, 0, "response on another path than that of its check", 2 * WAY);
-    sees_not(mistake, 0, ": selected ");
+    wrong_addresses("wrong destination");
 }
 
 /* No call says that a clock is wrong: the library sees only what it passes. A round trip of 20 ms is reported as 20 us. */

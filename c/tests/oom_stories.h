@@ -34,7 +34,7 @@ static void part(struct story *s)
 static void tick(struct story *s, is_ice_agent *agent, uint64_t ms)
 {
     s->random[0]++;
-    CALL(s, IS_ICE_OK, is_ice_handle_timeout(agent, ms * 1000000, s->random, IS_ICE_TIMEOUT_RANDOM));
+    TIMED(s, is_ice_handle_timeout(agent, ms * 1000000, s->random, IS_ICE_TIMEOUT_RANDOM));
 }
 
 /* The next packet of the agent. */

@@ -426,7 +426,7 @@ static void finds_what_begins_as_stun(void)
     }
 }
 
-/* The same of a text that is in no message. */
+/* Of a USERNAME that is in no message, `is_ice_username_parts` finds the receiver's part: it is before the first colon. */
 static void splits_a_username(void)
 {
     static const char *const halves[] = {"", ":", "evtj", "evtj:"};

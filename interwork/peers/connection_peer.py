@@ -11,11 +11,8 @@ import argparse
 import asyncio
 import functools
 import importlib
-import sys
 
-
-def report(*words):
-    print(*words, file=sys.stderr, flush=True)
+from lines import joined, play, report, report_heard
 
 
 def arguments():
@@ -38,15 +35,6 @@ def address(text):
     """Returns HOST:PORT as a tuple."""
     host, port = text.rsplit(":", 1)
     return host, int(port)
-
-
-def joined(host, port):
-    return f"[{host}]:{port}" if ":" in host else f"{host}:{port}"
-
-
-def printable(data):
-    """Returns received bytes as one line."""
-    return "".join(c if c.isprintable() else "?" for c in data.decode(errors="replace"))
 
 
 class OfAioice:
@@ -113,7 +101,7 @@ class Peer:
         watching = asyncio.ensure_future(self.watch())
         try:
             while True:
-                report("heard", printable(await self.connection.recv()))
+                report_heard(await self.connection.recv())
         except ConnectionError as error:
             report("state disconnected", error)
         finally:
@@ -145,6 +133,9 @@ class Peer:
             except ConnectionError as error:
                 report("peer: not sent:", error)
 
+    async def end(self):
+        await self.connection.close()
+
     async def add(self, line):
         try:
             await self.connection.add_remote_candidate(self.stack.candidate(line.removeprefix("candidate:")))
@@ -153,13 +144,7 @@ class Peer:
 
 
 async def main():
-    peer = Peer(arguments())
-    await peer.begin()
-    reader = asyncio.StreamReader(limit=1 << 20)
-    await asyncio.get_running_loop().connect_read_pipe(lambda: asyncio.StreamReaderProtocol(reader), sys.stdin)
-    while (line := (await reader.readline()).decode()) and line.strip() != "/quit":
-        await peer.take(line.rstrip("\r\n"))
-    await peer.connection.close()
+    await play(Peer(arguments()))  # a Connection is made where a loop runs
 
 
 asyncio.run(main())

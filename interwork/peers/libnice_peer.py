@@ -15,6 +15,8 @@ import gi
 gi.require_version("Nice", "0.1")
 from gi.repository import GLib, Nice  # noqa: E402
 
+from lines import report
+
 # These calls have no usable binding. Without attach_recv libnice reads nothing from its sockets.
 LIBNICE = ctypes.CDLL("libnice.so.10")
 POINTER, UINT, TEXT = ctypes.c_void_p, ctypes.c_uint, ctypes.c_char_p
@@ -27,10 +29,6 @@ LIBNICE.nice_agent_generate_local_candidate_sdp.restype = TEXT
 
 NAMES = ("DISCONNECTED", "GATHERING", "CONNECTING", "CONNECTED", "READY", "FAILED")
 STATES = {getattr(Nice.ComponentState, name): name.lower() for name in NAMES}
-
-
-def report(*words):
-    print(*words, file=sys.stderr, flush=True)
 
 
 def arguments():

@@ -95,7 +95,7 @@ export class IceLoop extends EventEmitter {
     return this.addSocket(await this.open(address, port));
   }
 
-  /** The same for the local address of a socket that is open. */
+  /** Adds the local address of an open socket as a host candidate, and returns that for signaling. Its clients at servers start. */
   addSocket(local) {
     const line = this.#gatherer.addSocket(this.now(), local);
     this.#reach();

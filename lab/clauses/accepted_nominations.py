@@ -35,7 +35,7 @@ def fit(a: IceCreds, b: IceCreds) -> bool:
 
 @lru_cache(maxsize=1 << 12)
 def _know(own: IceCreds, its: IceCreds | None, peer: IceCreds, own_there: IceCreds | None) -> tuple[str, ...]:
-    """The same, of what the agents have (`KnowEachOther`)."""
+    """Returns which preconditions of `KnowEachOther` the credentials of two agents do not meet, by what each has of both."""
     return tuple(lacks(mine=its == peer, its=own_there == own, own=is_fragment(own.ufrag), other=is_fragment(peer.ufrag),
                        fit=fit(own, peer)))
 

@@ -114,9 +114,11 @@ class Caller:
         return MAX if any(lets_call(now, p) for p in between) else now - x.now(before)
 
     def _is_frugal(self, before: int, at: int, x: Execution) -> bool:
-        """Whether a poll lets this `handle_timeout` call come, or it comes 25 ms after the one before, or the charges for checks are at
-        most 225 ms ahead of it (`IsFrugalAt`)."""
-        return self._gap(before, at, x) >= CHARGE or x.state(at, self.side).charged_until <= x.now(at) + URGENT_CREDIT
+        """Whether a poll lets this `handle_timeout` call come, or it comes 25 ms after the one before, or after the last one that served no
+        early request, or the charges for checks are at most 225 ms ahead of it (`IsFrugalAt`)."""
+        now, agent = x.now(at), x.state(at, self.side)
+        is_long = agent.last is None or agent.last + CHARGE <= now
+        return self._gap(before, at, x) >= CHARGE or is_long or agent.charged_until <= now + URGENT_CREDIT
 
     def patience(self, start: int, end: int) -> int:
         """Returns the greatest gap with which the caller is patient in the span (`IsPatient`): the first call in it is free."""

@@ -39,7 +39,7 @@ def choices(x: Execution) -> Iterator[Choice]:
 
 
 def choices_by(x: Execution, selected: Callable[[str, Step, Seen], Path | None]) -> Iterator[Choice]:
-    """The same, with the path that `selected` returns."""
+    """Proposes each `handle_timeout` call, with the path that `selected` returns."""
     for side in SIDES:
         for step, seen in walk(x, side):
             if step.is_timeout:

@@ -20,7 +20,7 @@ MTU, MTU_WARN = 1150, 1280
 
 @dataclass(frozen=True)
 class Fresh:
-    """What is seen of a new agent besides its credentials (`fresh_home`)."""
+    """What is seen of a new agent besides its credentials (`fresh_held`)."""
 
     state: IceConnectionState = IceConnectionState.NEW
     controlling: bool = False

@@ -9,7 +9,8 @@ from ..scenario import SIDES
 from .execution import Execution, Lacks, lacks
 from .fair import is_new_agent
 from .seen import walk
-from .successes import Choice, selects_top
+from .states_agree import Choice
+from .successes import selects_top
 from .verdict import Verdict, first_of_all
 
 

@@ -76,7 +76,7 @@ def check_that_nominates(n: Network, c: Choice, part: range, besides: Callable[[
 
 
 def is_nominated_last(n: Network, c: Choice, part: range) -> Lacks:
-    """The same, and no other path is nominated after that (`IsNominatedLast`)."""
+    """The other side nominates the path, and no other path is nominated after that (`IsNominatedLast`)."""
     others = nominates_other(n.x, c.side, c.path)
     return check_that_nominates(n, c, part, lambda h: lacks(last=not any_in(others, range(h.arrived + 1, part.stop))))
 

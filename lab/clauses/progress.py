@@ -93,8 +93,8 @@ def suffices_from_due(first: Agent, second: Agent, last: Agent, later: int, ahea
 
 
 def suffices(by: int, now: int, first: Agent, second: Agent, last: Agent, later: int, all_ahead: int = 0, ahead: int = 0) -> bool:
-    """The same; or the first one counts too, if the pair is due before it (`Suffices`). So many nominations may be sent at once:
-    `all_ahead` in all rounds, and `ahead` in those after the first."""
+    """Whether so many rounds after the first one suffice for a pair that is due by it. If the pair is due before it, the first one counts
+    too (`Suffices`). So many nominations may be sent at once: `all_ahead` in all rounds, and `ahead` in those after the first."""
     return (by < now and are_open_enough(first, last, later + 1, all_ahead)) or suffices_from_due(first, second, last, later, ahead)
 
 

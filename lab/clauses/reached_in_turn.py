@@ -12,6 +12,7 @@ from ..model import Agent
 from ..pairs import Pair
 from ..scenario import SIDES
 from .connections import succeeds_in
+from . import single
 from .execution import Execution, Lacks, Round, is_in_round, lacks
 from .fair import is_new_agent
 from .opening import most_rounds, pair_of
@@ -26,18 +27,10 @@ _KINDS: WeakKeyDictionary[Execution, dict[tuple[str, int], frozenset[int]]] = We
 
 
 @dataclass(frozen=True)
-class Choice:
-    """The side, the number of its pair, the rounds from a `handle_timeout` call up to `end`, and how many of them may delay the pair."""
+class Choice(single.Choice):
+    """The side, the number of its pair, and the segment, as in `single`, and how many of the rounds may delay the pair."""
 
-    side: str
-    pair: int
-    first: int
-    end: int
     delays: int
-
-    def rounds(self, x: Execution) -> list[Round]:
-        """Returns the rounds."""
-        return x.rounds(self.side, self.first, self.end)
 
 
 # ---- the preconditions

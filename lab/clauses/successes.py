@@ -4,24 +4,14 @@ pair."""
 from __future__ import annotations
 
 from collections.abc import Iterator
-from dataclasses import dataclass
 
-from ..pairs import Path
 from ..scenario import SIDES
 from .execution import Execution, Lacks, brings_success, lacks
 from .fair import is_new_agent
 from .progress import has_selected
 from .seen import walk
+from .states_agree import Choice
 from .verdict import Verdict, first_of_all
-
-
-@dataclass(frozen=True)
-class Choice:
-    """The side, an entry of it, and the path that it selected last after that."""
-
-    side: str
-    at: int
-    selected: Path | None
 
 
 def lacking(x: Execution, c: Choice) -> Lacks:

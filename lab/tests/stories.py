@@ -14,6 +14,7 @@ from lab.log import Beginning, Entry, Log
 from lab.model import Agent, Issued
 from lab.pairs import Path, Timing
 from lab.replay import Replay, after_setting, followed, other, replay
+from lab.requests import Request
 from lab.stun import NOMINATION
 
 A, B = SocketAddress("10.0.0.1", 1000), SocketAddress("10.0.0.2", 2000)
@@ -22,6 +23,8 @@ USERNAME, XOR_MAPPED_ADDRESS, PRIORITY, USE_CANDIDATE, ICE_CONTROLLED, ICE_CONTR
 TYPES = {"request": 0x0001, "success": 0x0101, "failure": 0x0111}
 LINE = "candidate:1 1 udp {} {} {} typ {}"
 TO_A, TO_B = (B, A), (A, B)  # the paths of b and of a
+OUTSIDE = SocketAddress("203.0.113.1", 1000)
+REQUEST = Request(BEGINNING, A, B, bytes(12), 1, False, "aaaa", 1, None)
 # The numbers from which the times in tests follow, whatever a new agent has, with either profile.
 ORIGINAL = Settings(
     profile=Profile.ORIGINAL, timing_advance=50 * MILLISECOND, initial_rto=250 * MILLISECOND, max_rto=3 * SECOND, max_retransmits=9,
@@ -97,6 +100,20 @@ class Story:
         step = session.steps[at]
         session.steps[at] = replace(step, before={**step.before, side: replace(step.before[side], **fields)})
         return Network(Execution(session))
+
+    def with_pair(self, at: int, number: int, **fields: Any) -> Execution:
+        """Returns the log, with another pair of A before one entry."""
+        pairs = self.network().x.state(at, "a").pairs
+        return self.altered(at, "a", pairs=tuple(replace(p, **fields) if p.number == number else p for p in pairs)).x
+
+    def unsent(self) -> Execution:
+        """Returns the log, without the packets that A sends."""
+        entries = [e for e in self.log.entries if e.call != "poll_transmit" or e.side == "b"]
+        return Execution(replay(replace(self.log, entries=entries)))
+
+    def segment(self, first: int, rounds: int) -> tuple[int, int]:
+        """Returns the entries from one of A's `handle_timeout` calls up to the end of so many rounds."""
+        return self.moments["a"][first], self.moments["a"][first + rounds - 1] + 1
 
     # ---- calls
 

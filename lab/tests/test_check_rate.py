@@ -127,6 +127,8 @@ class Seconds(unittest.TestCase):
         self.assertEqual(check_rate.lacking_frugal(choices(story.network().x)[0]), [])
         story.passes("a", 60)
         self.assertEqual(check_rate.lacking_frugal(choices(story.network().x)[0]), ["IsFrugal"])
+        lasts = [choices(story.altered(story.moments["a"][12], "a", last=at(last)).x)[0] for last in (35, 36)]
+        self.assertEqual([check_rate.lacking_frugal(c) for c in lasts], [[], ["IsFrugal"]])  # the calls since then served early requests
         self.assertEqual(check_rate.lacking_frugal(choices(altered(many(*PACED), 0, "a", next_number=1))[0]), ["IsNewlyCreated"])
 
     def test_checks_of_a_frugal_caller(self) -> None:

@@ -4,17 +4,13 @@ import unittest
 from dataclasses import replace
 from typing import Any
 
-from is_ice import Candidate, SocketAddress
-from lab.clauses import nomination_accepted, meet, world_rounds
+from is_ice import Candidate
+from lab.clauses import meet, nomination_accepted, world_rounds
 from lab.clauses.accepted_nominations import Network
 from lab.clauses.verdict import Verdict
-from lab.clock import BEGINNING
-from lab.requests import Request
 from lab.pairs import Place, Timing
-from lab.tests.stories import LINE, TO_A, TO_B, A, B, Story, at
-
-OUTSIDE = SocketAddress("203.0.113.1", 1000)
-REQUEST = Request(BEGINNING, A, B, bytes(12), 1, False, "aaaa", 1, None)
+from lab.tests import late
+from lab.tests.stories import LINE, OUTSIDE, REQUEST, TO_A, TO_B, A, B, Story, at
 
 
 def discarded(story: Story) -> tuple[Place, ...]:
@@ -235,7 +231,7 @@ class Rounds(unittest.TestCase):
         self.assertEqual(world_rounds.find(story.network()).failed, "IsAnsweredInTime.handed")
 
 
-class Granting(unittest.TestCase):
+class Granting(late.AtLastTimeout):
     """B is controlled: it checks at 20 ms, is nominated at 55 ms, and selects at 70 ms."""
 
     def lacking(self, n: Network, start: int | None = None) -> list[str]:
@@ -320,16 +316,6 @@ class Granting(unittest.TestCase):
         story.deliver(story.deliver(check, "a", 280), "b", 290)
         story.timeout("b", 300)
         self.assertEqual(self.lacking(story.network()), ["IsExchangedOver.pending"])
-
-    def test_a_timeout_that_serves_a_request(self) -> None:
-        story = self.story()
-        self.assertEqual(self.lacking(story.altered(story.moments["b"][-1], "b", queue=(REQUEST,))), ["request_at"])
-
-    def test_two_pairs_use_the_addresses(self) -> None:
-        story = self.story()
-        pair = story.agents["b"].pairs[0]
-        altered = story.altered(story.moments["b"][-1] + 1, "b", pairs=(pair, replace(pair, number=9)))
-        self.assertEqual(self.lacking(altered), ["IsOnlyPair"])
 
     def test_all_pairs_on_the_nominating_path_are_nominated(self) -> None:
         story = Story(known=False, hosts=(0, 1))

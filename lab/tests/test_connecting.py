@@ -9,56 +9,14 @@ from lab.clauses import both, connect, in_time
 from lab.clauses.accepted_nominations import Network
 from lab.clauses.selections import are_enough
 from lab.clauses.verdict import Verdict
-from lab.clock import BEGINNING
-from lab.requests import Request
-from lab.pairs import Check, Pair
-from lab.tests.stories import MODERN, TO_A, TO_B, A, B, Story, at
+from lab.tests import late
+from lab.tests.late import silent
+from lab.tests.stories import MODERN, OUTSIDE, REQUEST, TO_A, TO_B, A, Story, at
 
-OUTSIDE = SocketAddress("203.0.113.1", 1000)
 FEW = ["Opens.enough.AreEachPolled.few", "Opens.enough.SideRoundsSuffice", "Opens.enough.ServedRoundsSuffice"]
-REQUEST = Request(BEGINNING, A, B, bytes(12), 1, False, "aaaa", 1, None)
 
 
-def silent(pair: Pair) -> Pair:
-    """The pair after as many unanswered checks as it stores, when it is due."""
-    return replace(pair, due=BEGINNING, checks=tuple(Check(bytes(12), BEGINNING, False, True) for _ in range(9)))
-
-
-class Late(unittest.TestCase):
-    """A, which is controlling, selects at 10 ms, and nominates at 50 ms. B checks at 1 ms and at 400 ms. Each has a round with a late
-    timeout after that: A at 700 ms, B at 400 ms. The last timeout of B is at 800 ms."""
-
-    def story(self, roles: tuple[bool, bool] = (True, False)) -> Story:
-        story = Story(roles)
-        story.exchange("a", 0)
-        story.exchange("b", 1)
-        story.exchange("a", 50)
-        return self.end(story)
-
-    def end(self, story: Story, lasts: bool = True) -> Story:
-        story.timeout("b", 400)
-        story.timeout("a", 700)
-        if lasts:
-            story.timeout("b", 800)
-        return story
-
-    def rows(self, story: Story) -> dict[str, tuple[int, str]]:
-        """The first `handle_timeout` call of each side's rounds."""
-        return {"a": (story.moments["a"][-1], "a"), "b": (story.moments["b"][-2], "b")}
-
-    def altered(self, side: str) -> list[tuple[str, Network]]:
-        """Logs in which a part of `IsInLine` or of `SideRoundsReach` does not hold of the side, with its name."""
-        story = self.story()
-        first, _ = self.rows(story)[side]
-        pair = story.session().steps[first].before[side].pairs[0]
-        changes: list[tuple[str, dict[str, object]]] = [
-            ("line.checking.full", {"lite": True}), ("line.checking.peer", {"peer": None}), ("line.queue", {"queue": (REQUEST,)}),
-            ("line.settled", {"pairs": (replace(pair, due=None, nomination="success"),)}), ("line.young", {"pairs": (silent(pair),)}),
-            ("line.due", {"pairs": (replace(pair, due=at(1000)),)}), ("enough", {"pairs": (pair, replace(pair, number=9, local=0))})]
-        return [(name, story.altered(first, side, **fields)) for name, fields in changes]
-
-
-class Connecting(Late):
+class Connecting(late.Late):
     def lacking(self, n: Network, its: tuple[SocketAddress, SocketAddress] = TO_B, asking: int = -1) -> list[str]:
         a, b = n.x.timeouts["a"], n.x.timeouts["b"]
         return connect.lacking(n, connect.Choice("b", TO_A, its, b[0], a[asking], b[-2], b[-1]))
@@ -93,21 +51,13 @@ class Connecting(Late):
 
     def test_other_calls_in_the_rounds(self) -> None:
         for side, name in (("a", "asking"), ("b", "asked")):
-            story = Story()
-            story.exchange("a", 0)
-            story.exchange("b", 1)
-            story.exchange("a", 50)
-            self.end(story, False)
+            story = self.story(lasts=False)
             story.set(side, "set_max_stun_retransmits", 9)
             story.timeout("b", 800)
             self.assertEqual(self.lacking(story.network()), [f"{name}.kept.kept.between"])
 
     def test_candidates_may_be_added_in_the_rounds(self) -> None:
-        story = Story()
-        story.exchange("a", 0)
-        story.exchange("b", 1)
-        story.exchange("a", 50)
-        self.end(story, False)
+        story = self.story(lasts=False)
         for side in "ab":
             story.remote(side, "candidate:1 1 udp 1 10.9.9.9 9 typ host", 710)
         story.timeout("b", 800)
@@ -141,27 +91,6 @@ class Connecting(Late):
         story.deliver(response, "b", 810)
         story.timeout("b", 900)
         self.assertEqual(self.lacking(story.network()), ["asked.line.due"])  # the round from 800 ms on
-
-    def test_a_timeout_that_serves_a_request(self) -> None:
-        story = self.story()
-        self.assertEqual(self.lacking(story.altered(story.moments["b"][-1], "b", queue=(REQUEST,))), ["request_at"])
-
-    def test_two_pairs_use_the_addresses(self) -> None:
-        story = self.story()
-        pair = story.agents["b"].pairs[0]
-        altered = story.altered(story.moments["b"][-1] + 1, "b", pairs=(pair, replace(pair, number=9)))
-        self.assertEqual(self.lacking(altered), ["IsOnlyPair"])
-
-    def test_a_candidate_may_remove_a_pair(self) -> None:
-        for side, name in (("a", "MayEndInRounds"), ("b", "MayEndAt")):
-            story = Story()
-            story.exchange("a", 0)
-            story.exchange("b", 1)
-            story.exchange("a", 50)
-            self.end(story, False)
-            story.evict(side, 710)
-            story.timeout("b", 800)
-            self.assertEqual(self.lacking(story.network()), [name])
 
     def test_what_is_missing_is_said(self) -> None:
         story = Story()
@@ -226,7 +155,7 @@ class Numbered(unittest.TestCase):
             self.assertFalse(in_time.verdict_of(n.x, choice).is_broken)
 
 
-class Both(Late):
+class Both(late.Late):
     def lacking(self, n: Network, pair: int | None = 0, start: int | None = None, count: int = 1, leads: int = -1) -> list[str]:
         a, b = n.x.timeouts["a"], n.x.timeouts["b"]
         return both.lacking(n, both.Choice("b", TO_A, TO_B, a[0], pair, count, b[0] if start is None else start, a[leads], b[-2], b[-1]))
@@ -318,11 +247,7 @@ class Both(Late):
 
     def test_other_calls_in_the_later_rounds(self) -> None:
         for side, name in (("a", "leads"), ("b", "goes")):
-            story = Story()
-            story.exchange("a", 0)
-            story.exchange("b", 1)
-            story.exchange("a", 50)
-            self.end(story, False)
+            story = self.story(lasts=False)
             story.set(side, "set_max_stun_retransmits", 9)
             story.timeout("b", 800)
             self.assertEqual(self.lacking(story.network()), [f"{name}.rounds.kept.kept.between"])
@@ -344,27 +269,6 @@ class Both(Late):
         story.deliver(story.timeout("b", 1), "a", 6)
         story.exchange("a", 50)
         self.assertEqual(self.lacking(self.end(story).network()), ["goes.delivers.comes"])
-
-    def test_a_timeout_that_serves_a_request(self) -> None:
-        story = self.story()
-        self.assertEqual(self.lacking(story.altered(story.moments["b"][-1], "b", queue=(REQUEST,))), ["request_at"])
-
-    def test_two_pairs_use_the_addresses(self) -> None:
-        story = self.story()
-        pair = story.agents["b"].pairs[0]
-        altered = story.altered(story.moments["b"][-1] + 1, "b", pairs=(pair, replace(pair, number=9)))
-        self.assertEqual(self.lacking(altered), ["IsOnlyPair"])
-
-    def test_a_candidate_may_remove_a_pair(self) -> None:
-        for side, name in (("a", "MayEndInRounds"), ("b", "MayEndAt")):
-            story = Story()
-            story.exchange("a", 0)
-            story.exchange("b", 1)
-            story.exchange("a", 50)
-            self.end(story, False)
-            story.evict(side, 710)
-            story.timeout("b", 800)
-            self.assertEqual(self.lacking(story.network()), [name])
 
 
 if __name__ == "__main__":

@@ -15,12 +15,8 @@ from lab.clauses.single import are_plain
 from lab.clauses.staying import may_end_in
 from lab.clock import BEGINNING, MILLISECOND
 from lab.model import Agent
-from lab.requests import Request
 from lab.pairs import Check, Place, Timing
-from lab.tests.stories import LINE, MODERN, ORIGINAL, TO_A, TO_B, A, B, Story, at
-
-OUTSIDE = SocketAddress("203.0.113.1", 1000)
-REQUEST = Request(BEGINNING, A, B, bytes(12), 1, False, "aaaa", 1, None)
+from lab.tests.stories import LINE, MODERN, ORIGINAL, OUTSIDE, REQUEST, TO_A, TO_B, A, B, Story, at
 
 
 class Known(unittest.TestCase):

@@ -14,15 +14,11 @@ from lab.clauses.deliveries import Check, SamePair, Session, delivered, have_exc
 from lab.clauses.found import Found, Records
 from lab.headline import DELIVERED
 from lab.log import Entry
+from lab.tests.altered import Altered, Change, seen
 from lab.view import Called, ShownPair
 from lab.witness import Record, accepted, play
 
 CHECKING = IceConnectionState.CHECKING
-Change = Callable[[Called], Called]
-
-
-def seen(**changes: Any) -> Change:
-    return lambda c: replace(c, after=replace(c.after, **changes))
 
 
 def seen_before(**changes: Any) -> Change:
@@ -37,7 +33,7 @@ def without_packets(c: Called) -> Called:
     return replace(c, packets=())
 
 
-class Connecting(unittest.TestCase):
+class Connecting(Altered):
     @classmethod
     def setUpClass(cls) -> None:
         cls.records = play(scenario.load("two_homes"), 0, 10)
@@ -65,20 +61,12 @@ class Connecting(unittest.TestCase):
         """What the checks lack that were delivered, if each is changed so."""
         return {part for check in self.session.checks for part in delivered(change(check))}
 
-    def assert_fault(self, found: Found) -> None:
-        self.assertTrue(found.faults)
-
-    def assert_lacks(self, found: Found) -> None:
-        self.assertEqual((found.held, found.faults), (0, []))
-
 
 class Faults(Connecting):
     def test_nothing_is_altered(self) -> None:
         for records in (self.records, self.renominated):
             for find in DELIVERED.values():
-                found = find(Session(records))
-                self.assertTrue(found.held)
-                self.assertEqual(found.faults, [])
+                self.assert_holds(find(Session(records)))
 
     def test_responses_connect(self) -> None:
         def find(change: Change) -> Found:

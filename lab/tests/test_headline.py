@@ -12,6 +12,7 @@ from lab.clauses.seen import CLEARING
 from lab.clock import MILLISECOND, SECOND, Clock
 from lab.headline import CLAUSES, by_tie, decide, groups_of, is_ordinary, table
 from lab.log import Entry, Log, LoggedAgent
+from lab.tests.altered import Altered
 from lab.view import born
 from lab.witness import Record, Stray, Witness, accepted, gets, play, selected
 
@@ -80,7 +81,7 @@ class Sessions(unittest.TestCase):
         self.assertIn("ConnectedAreAlive: a fault", str(fault))
 
 
-class Altered(unittest.TestCase):
+class AlteredSessions(Altered):
     """Records of real sessions, in which something is altered."""
 
     @classmethod
@@ -95,19 +96,8 @@ class Altered(unittest.TestCase):
         self.controlled = next(r for r in self.records.values() if not r.witness.began_controlling)
         self.controlling = next(r for r in self.records.values() if r.witness.began_controlling)
 
-    def assert_fault(self, found: Found) -> None:
-        self.assertTrue(found.held)
-        self.assertTrue(found.faults)
 
-    def assert_holds(self, found: Found) -> None:
-        self.assertTrue(found.held)
-        self.assertEqual(found.faults, [])
-
-    def assert_lacks(self, found: Found) -> None:
-        self.assertEqual((found.held, found.faults), (0, []))
-
-
-class Faults(Altered):
+class Faults(AlteredSessions):
     def test_nothing_is_altered(self) -> None:
         found = decide(self.records)
         for clause in ORDINARY:
@@ -222,7 +212,7 @@ class Cleared(unittest.TestCase):
         self.assertEqual((found.held, len(found.faults)), (1, 1))
 
 
-class Preconditions(Altered):
+class Preconditions(AlteredSessions):
     """What a program does so that a clause says nothing of it."""
 
     def test_it_leaves_modern(self) -> None:

@@ -12,8 +12,8 @@ from lab.clock import MILLISECOND
 from lab.pairs import Consent, Pair, Timing
 from lab.replay import replay
 from lab.states import NEW
-from lab.tests.stories import TO_A, TO_B, Story, at
-from lab.tests.test_theorems import CONSENT, REQUEST, STRICT, altered
+from lab.tests.stories import REQUEST, TO_A, TO_B, Story, at
+from lab.tests.test_theorems import CONSENT, STRICT, altered
 
 
 class Left(unittest.TestCase):

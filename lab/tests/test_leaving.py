@@ -19,15 +19,16 @@ MODERN = tuple(f"{side}.{what}" for side in "ab" for what in ("max_rto_ms=2900",
 QUICKER = ("link.home.delay_ms=60", "link.mobile.delay_ms=8")
 
 
-def play(seed: int, changes: tuple[str, ...], happens: Callable[[Session, float], None] | None = None) -> dict[str, list[float]]:
-    """Plays a session with these changes, in which something happens. Returns when each side selected a path after 8 s, in seconds from
-    then."""
+def play(seed: int, changes: tuple[str, ...], happens: Callable[[Session, float], None] | None = None,
+         since: float = FAILS_S) -> dict[str, list[float]]:
+    """Plays a session with these changes, in which something happens. Returns when each side selected a path after that time, in seconds
+    from then."""
     trace = Trace()
     session = Session(scenario.load("path_dies", (*changes, 'connects="sometimes"')), seed, trace)
     if happens is not None:
         happens(session, FAILS_S + Random(seed).uniform(0, 3))
     session.run()
-    late = [(side, (at - BEGINNING) / SECOND - FAILS_S) for at, side, event in trace.events if isinstance(event, NominatedSend)]
+    late = [(side, (at - BEGINNING) / SECOND - since) for at, side, event in trace.events if isinstance(event, NominatedSend)]
     return {side: [after for own, after in late if own == side and after > 0] for side in "ab"}
 
 
@@ -84,16 +85,24 @@ class Leaving(unittest.TestCase):
                 self.assertLess(after - at, most, (seed, side))
 
     def test_a_path_that_dies_is_left_in_4_s(self) -> None:
-        self.assert_left((), "silent", 4.5)
-        self.assert_left(MODERN, "silent", 4.3)
+        self.assert_left((), "silent", 4.2)
+        self.assert_left(MODERN, "silent", 4.05)
 
     def test_one_that_works_in_one_direction_too(self) -> None:
-        self.assert_left((), "mute", 5)
-        self.assert_left(MODERN, "mute", 5)
+        self.assert_left((), "mute", 4.3)
+        self.assert_left(MODERN, "mute", 4.2)
 
     def test_under_loss_too(self) -> None:
-        """If most checks were lost before, the path is kept 2.2 s longer."""
+        """If more than a third of the checks were lost before, the path is kept 2.2 s longer."""
         self.assert_left((*MODERN, "link.home.loss=0.1", "link.mobile.loss=0.1"), "silent", 6.7)
+
+    def test_in_the_first_seconds_too(self) -> None:
+        """The checks of the present silence are not lost ones, nor are those that no NAT let through yet."""
+        for seed in range(5):
+            at = Random(seed).uniform(1, 4)
+            event = f'event=[{{ at_s = {at}, side = "a", do = "silent", interface = "eth0" }}]'
+            for side, times in play(seed, (event, *MODERN), since=at).items():
+                self.assertLess(times[-1], 4.05, (seed, side))
 
     def test_with_the_original_it_is_kept(self) -> None:
         for side, (after,) in play(1, ('a.profile="original"', 'b.profile="original"')).items():

@@ -11,10 +11,8 @@ from lab.clauses.verdict import Verdict
 from lab.clock import BEGINNING, MILLISECOND
 from lab.pairs import Timing
 from lab.replay import replay
-from lab.requests import Request
-from lab.tests.stories import LINE, TO_B, A, B, Story, at
+from lab.tests.stories import LINE, REQUEST, TO_B, A, B, Story, at
 
-REQUEST = Request(BEGINNING, A, B, bytes(12), 1, False, "aaaa", 1, None)
 PRIORITY = 126 << 24 | 65535 << 8 | 255
 ONCE_MORE = LINE.format(PRIORITY, B.ip, B.port, "host")
 

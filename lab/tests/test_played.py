@@ -14,6 +14,7 @@ from lab.clauses import along, bounded, new_agents, settings_set, uses
 from lab.clauses.found import Found, Records
 from lab.clock import Clock
 from lab.log import Beginning, Entry, Log
+from lab.tests.altered import Altered, Change, seen
 from lab.view import Called, ShownPair
 from lab.witness import Record, WitnessLog, accepted, play
 
@@ -25,11 +26,11 @@ def with_calls(record: Record, calls: list[Called]) -> Record:
     return replace(record, witness=replace(record.witness, calls=calls))
 
 
-def each(record: Record, change: Callable[[Called], Called]) -> Record:
+def each(record: Record, change: Change) -> Record:
     return with_calls(record, [change(c) for c in record.witness.calls])
 
 
-def at(record: Record, is_it: Callable[[Called], bool], change: Callable[[Called], Called]) -> Record:
+def at(record: Record, is_it: Callable[[Called], bool], change: Change) -> Record:
     """The record with the last such call changed."""
     calls = list(record.witness.calls)
     index = max(i for i, c in enumerate(calls) if is_it(c))
@@ -46,11 +47,6 @@ def unanswered(record: Record, kind: str) -> Record:
     return each(record, lambda c: replace(c, entry=replace(c.entry, returned=False)) if accepted(c.entry, kind) else c)
 
 
-def seen(**changes: Any) -> Callable[[Called], Called]:
-    """Returns what changes the view after a call."""
-    return lambda c: seen_after(c, **changes)
-
-
 def is_timeout(c: Called) -> bool:
     return c.entry.call == "handle_timeout"
 
@@ -59,7 +55,7 @@ def with_pairs(c: Called, change: Callable[[ShownPair], ShownPair]) -> Called:
     return seen_after(c, pairs=tuple(change(p) for p in c.after.pairs))
 
 
-class Altered(unittest.TestCase):
+class AlteredSession(Altered):
     """Records of a real session, in which something is altered."""
 
     @classmethod
@@ -77,18 +73,8 @@ class Altered(unittest.TestCase):
         self.controlling = next(r for r in self.records.values() if r.witness.began_controlling)
         self.follower = next(r for r in self.renominated.values() if not r.witness.began_controlling)
 
-    def assert_fault(self, found: Found, what: str = "") -> None:
-        self.assertTrue(found.faults, what)
-
     def assert_decides(self, found: Found, is_true: bool) -> None:
         self.assertEqual((found.held > 0, not found.faults), (True, is_true))
-
-    def assert_holds(self, found: Found) -> None:
-        self.assertTrue(found.held)
-        self.assertEqual(found.faults, [])
-
-    def assert_lacks(self, found: Found) -> None:
-        self.assertEqual((found.held, found.faults), (0, []))
 
     def restart(self, record: Record, before: Called) -> Record:
         """The record with a restart before this call."""
@@ -96,7 +82,7 @@ class Altered(unittest.TestCase):
         return with_calls(record, [x for c in record.witness.calls for x in ([call, c] if c is before else [c])])
 
 
-class NewAgents(Altered):
+class NewAgents(AlteredSession):
     def test_what_is_seen_of_a_new_agent(self) -> None:
         born = self.controlled.witness.born
         changes: dict[str, Any] = {
@@ -118,7 +104,7 @@ class NewAgents(Altered):
         return new_agents.new_agents_are_fresh(replace(self.controlled, witness=witness))
 
 
-class Set(Altered):
+class Set(AlteredSession):
     """An agent whose program sets every setting, some of them with values that the library does not take."""
 
     CALLS: tuple[tuple[str, tuple[Any, ...]], ...] = (
@@ -156,7 +142,7 @@ class Set(Altered):
         self.assert_fault(settings_set.settings_are_those_set(replace(self.controlled, tie_breaker=1)))
 
 
-class Uses(Altered):
+class Uses(AlteredSession):
     def test_a_call_that_nothing_follows(self) -> None:
         for call in ("set_mtu", "set_max_candidates"):
             last = self.controlled.witness.calls[-1]
@@ -193,7 +179,7 @@ class Uses(Altered):
         self.assert_holds(uses.sessions_are_runs(self.restarted["a"].log))
 
 
-class Paths(Altered):
+class Paths(AlteredSession):
     def test_answered(self) -> None:
         for record in (self.controlled, self.controlling):
             self.assert_holds(along.paths_are_answered(record))
@@ -255,7 +241,7 @@ class Paths(Altered):
                 self.assert_lacks(find(other))
 
 
-class Bounds(Altered):
+class Bounds(AlteredSession):
     def test_one_packet(self) -> None:
         self.assert_holds(bounded.each_queues_one(self.controlled))
         two = at(self.controlled, lambda c: len(c.packets) == 1, lambda c: replace(c, packets=c.packets * 2))

@@ -193,10 +193,10 @@ class Early(unittest.TestCase):
         story.session()
 
     def test_a_nomination_without_response(self) -> None:
-        # A response would be late after 40 ms, but checks are at least 80 ms apart; 7.5 s after the check with a response half a second.
+        # A response would be late after 40 ms, but checks are at least 70 ms apart; 7.5 s after the check with a response half a second.
         story = Story(settings=MODERN)
         story.exchange("a", 0)
-        for time, delay in (*((50 + 80 * n, 80) for n in range(12)), (7400, 80), (7500, 500)):
+        for time, delay in (*((50 + 70 * n, 70) for n in range(12)), (7400, 70), (7500, 500)):
             story.passes("a", time, time + 50)
             self.assertEqual(story.agents["a"].pairs[0].due, at(time + delay))
         story.session()

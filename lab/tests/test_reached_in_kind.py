@@ -3,13 +3,11 @@ checked."""
 
 import unittest
 from dataclasses import replace
-from typing import Any
 
 from lab.clauses import reached_in_kind as of
 from lab.clauses.execution import Execution, Lacks
 from lab.clauses.reached_in_turn import Choice
 from lab.pairs import Timing
-from lab.replay import replay
 from lab.tests.stories import MODERN, Story, at
 
 
@@ -23,11 +21,7 @@ class InKind(unittest.TestCase):
 
     def choice(self, story: Story, pair: int, rounds: int = 8, delays: int = 1, first: int = 1) -> Choice:
         """So many rounds from one of the `handle_timeout` calls on."""
-        moments = story.moments["a"]
-        return Choice("a", pair, moments[first], moments[first + rounds - 1] + 1, delays)
-
-    def altered(self, story: Story, index: int, **fields: Any) -> Execution:
-        return story.altered(index, "a", **fields).x
+        return Choice("a", pair, *story.segment(first, rounds), delays)
 
     def last(self, story: Story) -> int:
         """The number of the pair with the smallest priority."""
@@ -45,8 +39,7 @@ class InKind(unittest.TestCase):
 
     def test_no_pair_is_checked(self) -> None:
         story = self.story()
-        story.log.entries = [e for e in story.log.entries if e.call != "poll_transmit"]
-        self.assertTrue(of.find(Execution(replay(story.log))).is_broken)
+        self.assertTrue(of.find(story.unsent()).is_broken)
 
     def test_an_urgent_pair_holds_it_up(self) -> None:
         story = self.story()
@@ -54,14 +47,14 @@ class InKind(unittest.TestCase):
         r = c.rounds(story.network().x)[0]
         self.assertFalse(of.is_held_up(story.network().x, "a", c.pair, r))
         pairs = tuple(replace(p, requests=1) for p in story.network().x.state(first, "a").pairs)
-        self.assertTrue(of.is_held_up(self.altered(story, first, pairs=pairs), "a", c.pair, r))
+        self.assertTrue(of.is_held_up(story.altered(first, "a", pairs=pairs).x, "a", c.pair, r))
 
     def test_the_preconditions(self) -> None:
         story = self.story()
         moments, c = story.moments["a"], self.choice(story, self.last(story))
-        self.assertEqual(self.lacking(self.altered(story, 0, next_number=1), c), ["IsFresh"])
-        self.assertEqual(self.lacking(self.altered(story, moments[2], timing=Timing()), c), ["TakesTurnsAmong.urgent"])
-        without = self.altered(story, moments[2] + 1, timing=Timing())
+        self.assertEqual(self.lacking(story.altered(0, "a", next_number=1).x, c), ["IsFresh"])
+        self.assertEqual(self.lacking(story.altered(moments[2], "a", timing=Timing()).x, c), ["TakesTurnsAmong.urgent"])
+        without = story.altered(moments[2] + 1, "a", timing=Timing()).x
         self.assertEqual(self.lacking(without, c), ["TakesTurnsAmong.turns.rule"])
         self.assertEqual(self.lacking(story.network().x, self.choice(story, c.pair, 7)), ["enough"])
 

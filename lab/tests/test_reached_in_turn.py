@@ -3,13 +3,11 @@ checked."""
 
 import unittest
 from dataclasses import replace
-from typing import Any
 
 from lab.clauses import reached_in_turn as of
 from lab.clauses.execution import Execution, Lacks
 from lab.clauses.verdict import Verdict
 from lab.pairs import Timing
-from lab.replay import replay
 from lab.tests.stories import MODERN, Story, at
 
 
@@ -23,11 +21,7 @@ class Turns(unittest.TestCase):
 
     def choice(self, story: Story, pair: int, rounds: int = 2, delays: int = 1, first: int = 1) -> of.Choice:
         """So many rounds from one of the `handle_timeout` calls on."""
-        moments = story.moments["a"]
-        return of.Choice("a", pair, moments[first], moments[first + rounds - 1] + 1, delays)
-
-    def altered(self, story: Story, index: int, **fields: Any) -> Execution:
-        return story.altered(index, "a", **fields).x
+        return of.Choice("a", pair, *story.segment(first, rounds), delays)
 
     def order(self, story: Story) -> list[int]:
         """The numbers of the pairs, the greatest priority first."""
@@ -47,13 +41,12 @@ class Turns(unittest.TestCase):
 
     def test_no_pair_is_checked(self) -> None:
         story = self.story()
-        story.log.entries = [e for e in story.log.entries if e.call != "poll_transmit"]
-        self.assertTrue(of.find(Execution(replay(story.log))).is_broken)
+        self.assertTrue(of.find(story.unsent()).is_broken)
 
     def test_a_path_is_selected(self) -> None:
         story = self.story()
         c = self.choice(story, self.order(story)[3], 4, 2)
-        x = self.altered(story, story.moments["a"][1] + 1, selected=self.order(story)[0])
+        x = story.altered(story.moments["a"][1] + 1, "a", selected=self.order(story)[0]).x
         self.assertEqual((self.lacking(x, c), of.reached_at(x, c)), ([], at(50)))
 
     def test_other_pairs_are_no_delay(self) -> None:
@@ -65,21 +58,21 @@ class Turns(unittest.TestCase):
         self.assertFalse(of.is_delayed(x, "a", kind, order[1], r))  # it is the pair itself
         self.assertFalse(of.is_delayed(x, "a", kind + 1, order[3], r))
         greater = tuple(replace(p, priority=p.priority << (p.number == order[3])) for p in x.state(first, "a").pairs)
-        self.assertFalse(of.is_delayed(self.altered(story, first, pairs=greater), "a", kind, order[3], r))
+        self.assertFalse(of.is_delayed(story.altered(first, "a", pairs=greater).x, "a", kind, order[3], r))
 
     def test_an_urgent_pair_is_a_delay(self) -> None:
         story = self.story()
         first, order = story.moments["a"][1], self.order(story)
         pairs = tuple(replace(p, requests=int(p.number == order[1])) for p in story.network().x.state(first, "a").pairs)
-        x = self.altered(story, first, pairs=pairs)
+        x = story.altered(first, "a", pairs=pairs).x
         self.assertTrue(of.is_delayed(x, "a", 0, order[3], self.choice(story, order[3]).rounds(x)[0]))
 
     def test_the_preconditions(self) -> None:
         story = self.story()
         order, moments = self.order(story), story.moments["a"]
         c = self.choice(story, order[3])
-        self.assertEqual(self.lacking(self.altered(story, 0, next_number=1), c), ["IsFresh"])
-        self.assertEqual(self.lacking(self.altered(story, moments[1] + 1, timing=Timing()), c), ["TakesTurns.rule"])
+        self.assertEqual(self.lacking(story.altered(0, "a", next_number=1).x, c), ["IsFresh"])
+        self.assertEqual(self.lacking(story.altered(moments[1] + 1, "a", timing=Timing()).x, c), ["TakesTurns.rule"])
         self.assertEqual(self.lacking(story.network().x, self.choice(story, order[3], 1)), ["enough"])
         self.assertEqual(self.lacking(story.network().x, self.choice(story, order[3], first=0)), ["IsPassing.late"])
 
@@ -87,7 +80,7 @@ class Turns(unittest.TestCase):
         story = self.story()
         order, second = self.order(story), story.moments["a"][2]
         places = tuple(replace(c, kind="srflx") for c in story.network().x.state(second, "a").remote)
-        x = self.altered(story, second, remote=places)
+        x = story.altered(second, "a", remote=places).x
         self.assertEqual(self.lacking(x, self.choice(story, order[3], 4)), ["TakesTurns.keeps"])
 
 

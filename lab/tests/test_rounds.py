@@ -10,11 +10,8 @@ from lab.clauses.accepted_nominations import Network
 from lab.clauses.single import Choice
 from lab.clauses.verdict import Verdict
 from lab.clock import BEGINNING, MILLISECOND
-from lab.requests import Request
 from lab.pairs import Check, Timing
-from lab.tests.stories import A, B, Story, at
-
-REQUEST = Request(BEGINNING, A, B, bytes(12), 1, False, "aaaa", 1, None)
+from lab.tests.stories import REQUEST, A, Story, at
 
 
 class Rounds(unittest.TestCase):

@@ -5,7 +5,7 @@ import unittest
 from dataclasses import replace
 from typing import Any
 
-from is_ice import Settings, SocketAddress
+from is_ice import Settings
 from lab.clauses import by_number, nominations, of_use, one_path, successes
 from lab.clauses.accepted_nominations import Network
 from lab.clauses.execution import Execution, Lacks
@@ -13,10 +13,8 @@ from lab.clauses.verdict import Verdict
 from lab.clock import MILLISECOND
 from lab.pairs import Timing
 from lab.replay import replay
-from lab.tests.stories import MODERN, ORIGINAL, TO_A, TO_B, Story, at
-from lab.tests.test_theorems import REQUEST, altered, answered, without_selections
-
-OUTSIDE = SocketAddress("203.0.113.1", 1000)
+from lab.tests.stories import MODERN, ORIGINAL, OUTSIDE, REQUEST, TO_A, TO_B, Story, at
+from lab.tests.test_theorems import altered, answered, without_selections
 
 
 class Successes(unittest.TestCase):
@@ -144,7 +142,7 @@ def renominated(story: Story, renominate: bool = True) -> Story:
 
 
 def replayed(story: Story) -> tuple[Network, one_path.Choice]:
-    """The same, but the check that nominates arrives once more at 80, by another path. Returns the choice of the first one."""
+    """As `renominated`, but the check that nominates arrives once more at 80, by another path. Returns the choice of the first one."""
     for side in "ab":
         story.set(side, "set_renomination", True)
     story.exchange("a", 0)

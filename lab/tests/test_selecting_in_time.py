@@ -14,11 +14,9 @@ from lab.clauses.verdict import Verdict
 from lab.clock import BEGINNING, MILLISECOND
 from lab.pairs import Check, Timing
 from lab.replay import replay
-from lab.requests import Request
-from lab.tests.stories import LINE, A, B, Story, at
+from lab.tests.stories import LINE, REQUEST, Story, at
 
 HOST = LINE.format(126 << 24 | 65535 << 8 | 255, "10.9.9.9", 9, "host")
-REQUEST = Request(BEGINNING, A, B, bytes(12), 1, False, "aaaa", 1, None)
 
 
 def selecting(call: float | None = None, is_answered: bool = True, third: float = 100, name: str = "set_ice_lite",

@@ -18,7 +18,6 @@ from lab.clauses.selects_in_time import selected_at
 from lab.clauses.urgent_are_reached import reached_at
 from lab.clauses.verdict import Verdict
 from lab.pairs import Timing
-from lab.replay import replay
 from lab.tests.stories import MODERN, Story, at
 
 
@@ -46,16 +45,11 @@ class Served(unittest.TestCase):
 
     def choice(self, story: Story, rounds: int = 2, delays: int = 1, first: int = 3) -> Choice:
         """So many rounds from one of the `handle_timeout` calls on."""
-        moments = story.moments["a"]
-        return Choice("a", self.pair(story), moments[first], moments[first + rounds - 1] + 1, delays)
-
-    def altered(self, story: Story, index: int, **fields: Any) -> Execution:
-        return story.altered(index, "a", **fields).x
+        return Choice("a", self.pair(story), *story.segment(first, rounds), delays)
 
     def with_pair(self, story: Story, index: int, **fields: Any) -> Execution:
         """The log in which the pair differs before one entry."""
-        pairs, number = story.network().x.state(index, "a").pairs, self.pair(story)
-        return self.altered(story, index, pairs=tuple(replace(p, **fields) if p.number == number else p for p in pairs))
+        return story.with_pair(index, self.pair(story), **fields)
 
     def test_the_pair_is_checked(self) -> None:
         story = self.story()
@@ -66,14 +60,13 @@ class Served(unittest.TestCase):
 
     def test_no_pair_is_checked(self) -> None:
         story = self.story()
-        story.log.entries = [e for e in story.log.entries if e.call != "poll_transmit" or e.side == "b"]
-        self.assertTrue(checked.find(Execution(replay(story.log))).is_broken)
+        self.assertTrue(checked.find(story.unsent()).is_broken)
 
     def test_the_preconditions_of_a_check(self) -> None:
         story = self.story()
         moments, c = story.moments["a"], self.choice(story)
-        self.assertEqual(checked.lacking(self.altered(story, 0, next_number=1), c), ["IsFresh"])
-        self.assertEqual(checked.lacking(self.altered(story, moments[3], timing=Timing()), c), ["IsServed.rule"])
+        self.assertEqual(checked.lacking(story.altered(0, "a", next_number=1).x, c), ["IsFresh"])
+        self.assertEqual(checked.lacking(story.altered(moments[3], "a", timing=Timing()).x, c), ["IsServed.rule"])
         self.assertEqual(checked.lacking(self.with_pair(story, moments[3], requests=0), c), ["IsServed.requested"])
         self.assertEqual(checked.lacking(self.with_pair(story, moments[3], state="succeeded"), c), ["IsServed.invalid"])
         self.assertEqual(checked.lacking(self.with_pair(story, moments[3], due=at(100)), c), ["IsPassing.late"])
@@ -101,15 +94,14 @@ class Served(unittest.TestCase):
 
     def test_the_path_is_not_reached(self) -> None:
         story = self.story()
-        story.log.entries = [e for e in story.log.entries if e.call != "poll_transmit" or e.side == "b"]
-        self.assertTrue(reached.find(Execution(replay(story.log))).is_broken)
+        self.assertTrue(reached.find(story.unsent()).is_broken)
 
     def test_the_preconditions_of_the_rounds(self) -> None:
         story = self.story()
         moments, c = story.moments["a"], self.few(story)
-        self.assertEqual(reached.lacking(self.altered(story, 0, next_number=1), c), ["IsFresh"])
-        self.assertEqual(reached.lacking(self.altered(story, moments[3], controlling=False), c), ["controlling"])
-        self.assertEqual(reached.lacking(self.altered(story, moments[3], timing=Timing()), c), ["SufficesForServed.IsServed.rule"])
+        self.assertEqual(reached.lacking(story.altered(0, "a", next_number=1).x, c), ["IsFresh"])
+        self.assertEqual(reached.lacking(story.altered(moments[3], "a", controlling=False).x, c), ["controlling"])
+        self.assertEqual(reached.lacking(story.altered(moments[3], "a", timing=Timing()).x, c), ["SufficesForServed.IsServed.rule"])
         self.assertEqual(reached.lacking(self.with_pair(story, moments[3], requests=0), c), ["SufficesForServed.IsServed.requested"])
         self.assertEqual(reached.lacking(self.with_pair(story, moments[3], state="succeeded"), c),
                          ["IsUnanswered.invalid", "SufficesForServed.IsServed.invalid"])
@@ -121,17 +113,16 @@ class Served(unittest.TestCase):
         x, c = story.network().x, self.few(story)
         later = x.state(story.moments["a"][4], "a")
         sent = next(p.number for p in later.pairs if x.steps[story.moments["a"][4]].checks("a", later.path(p)))
-        x = self.altered(story, story.moments["a"][4], selected=sent)
+        x = story.altered(story.moments["a"][4], "a", selected=sent).x
         self.assertEqual(reached.lacking(x, c), ["SufficesForServed.few"])
 
     # ---- in time, in either role
 
     def timed(self, story: Story, count: int = 2) -> OfPath:
         """So many rounds from the `handle_timeout` call at 100 ms on."""
-        moments = story.moments["a"]
-        agent = story.network().x.state(moments[3], "a")
+        agent = story.network().x.state(story.moments["a"][3], "a")
         path = next(agent.path(p) for p in agent.pairs if p.number == self.pair(story))
-        return OfPath("a", path, moments[3], moments[3 + count - 1] + 1)
+        return OfPath("a", path, *story.segment(3, count))
 
     def test_the_pair_is_checked_in_time(self) -> None:
         story = self.story()
@@ -144,7 +135,7 @@ class Served(unittest.TestCase):
     def test_the_preconditions_of_a_check_in_time(self) -> None:
         story = self.story()
         moments, c = story.moments["a"], self.timed(story)
-        self.assertEqual(soon.lacking(self.altered(story, moments[3], timing=Timing()), c), ["has.enough.IsServed.rule"])
+        self.assertEqual(soon.lacking(story.altered(moments[3], "a", timing=Timing()).x, c), ["has.enough.IsServed.rule"])
         self.assertEqual(soon.lacking(self.with_pair(story, moments[3], requests=0), c), ["has.enough.IsServed.requested"])
         self.assertEqual(soon.lacking(self.with_pair(story, moments[3], due=at(100)), c), ["has.enough.late"])
         self.assertEqual(soon.lacking(story.network().x, self.timed(story, 1)), ["has.enough.few"])
@@ -152,7 +143,7 @@ class Served(unittest.TestCase):
     # ---- in time, in the controlling role
 
     def in_time(self, story: Story) -> InTime:
-        """The same rounds, and those up to the response."""
+        """Three rounds from the `handle_timeout` call at 100 ms on, and those up to the response."""
         moments = story.moments["a"]
         return InTime("a", self.pair(story), moments[3], 3, moments[6])
 

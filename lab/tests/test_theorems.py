@@ -14,13 +14,11 @@ from lab.clauses import (
 from lab.clauses.execution import Execution, Lacks
 from lab.clauses.progress import has_selected
 from lab.clauses.verdict import Verdict
-from lab.clock import BEGINNING, MILLISECOND
+from lab.clock import MILLISECOND
 from lab.pairs import Consent, Pair, Timing
 from lab.replay import replay
-from lab.requests import Request
-from lab.tests.stories import MODERN, ORIGINAL, TO_A, TO_B, A, B, Story, at
+from lab.tests.stories import MODERN, ORIGINAL, REQUEST, TO_A, TO_B, B, Story, at
 
-REQUEST = Request(BEGINNING, A, B, bytes(12), 1, False, "aaaa", 1, None)
 CONSENT, STRICT = (replace(MODERN, consent=Setting(1000 * MILLISECOND, strict)) for strict in (False, True))
 BRIEF = replace(MODERN, consent=Setting(30 * MILLISECOND))
 

@@ -3,7 +3,6 @@ checked."""
 
 import unittest
 from dataclasses import replace
-from typing import Any
 
 from lab.clauses import urgent_are_reached as of
 from lab.clauses.execution import Execution, Lacks
@@ -11,7 +10,6 @@ from lab.clauses.reached_in_turn import Choice
 from lab.clauses.served import is_overtaken
 from lab.clauses.verdict import Verdict
 from lab.pairs import Timing
-from lab.replay import replay
 from lab.tests.stories import MODERN, Story, at
 
 
@@ -36,16 +34,7 @@ class Urgent(unittest.TestCase):
 
     def choice(self, story: Story, pair: int, rounds: int = 2, delays: int = 1, first: int = 3) -> Choice:
         """So many rounds from one of the `handle_timeout` calls on."""
-        moments = story.moments["a"]
-        return Choice("a", pair, moments[first], moments[first + rounds - 1] + 1, delays)
-
-    def altered(self, story: Story, index: int, **fields: Any) -> Execution:
-        return story.altered(index, "a", **fields).x
-
-    def with_pair(self, story: Story, index: int, number: int, **fields: Any) -> Execution:
-        """The log in which a pair differs before one entry."""
-        pairs = story.network().x.state(index, "a").pairs
-        return self.altered(story, index, pairs=tuple(replace(p, **fields) if p.number == number else p for p in pairs))
+        return Choice("a", pair, *story.segment(first, rounds), delays)
 
     def lacking(self, x: Execution, c: Choice) -> Lacks:
         return of.lacking(x, c)
@@ -61,8 +50,7 @@ class Urgent(unittest.TestCase):
 
     def test_no_pair_is_checked(self) -> None:
         story = self.story()
-        story.log.entries = [e for e in story.log.entries if e.call != "poll_transmit" or e.side == "b"]
-        self.assertTrue(of.find(Execution(replay(story.log))).is_broken)
+        self.assertTrue(of.find(story.unsent()).is_broken)
 
     def test_a_pair_that_is_not_urgent_is_not_before_it(self) -> None:
         story = self.story()
@@ -70,25 +58,25 @@ class Urgent(unittest.TestCase):
         r = self.choice(story, following).rounds(story.network().x)[0]
         self.assertTrue(is_overtaken(story.network().x, "a", following, r))
         self.assertFalse(is_overtaken(story.network().x, "a", leading, r))  # it is the pair itself
-        self.assertFalse(is_overtaken(self.with_pair(story, first, leading, requests=0), "a", following, r))
-        self.assertFalse(is_overtaken(self.with_pair(story, first, leading, priority=0), "a", following, r))
+        self.assertFalse(is_overtaken(story.with_pair(first, leading, requests=0), "a", following, r))
+        self.assertFalse(is_overtaken(story.with_pair(first, leading, priority=0), "a", following, r))
 
     def test_the_selected_pair_is_before_it(self) -> None:
         story = self.story()
         first, (leading, following) = story.moments["a"][3], self.urgent(story)
         r = self.choice(story, following).rounds(story.network().x)[0]
         pairs = tuple(replace(p, requests=0) for p in story.network().x.state(first, "a").pairs)
-        x = self.altered(story, first, pairs=pairs, selected=leading)
+        x = story.altered(first, "a", pairs=pairs, selected=leading).x
         self.assertTrue(is_overtaken(x, "a", following, r))
 
     def test_the_preconditions(self) -> None:
         story = self.story()
         moments, (_, following) = story.moments["a"], self.urgent(story)
         c = self.choice(story, following)
-        self.assertEqual(self.lacking(self.altered(story, 0, next_number=1), c), ["IsFresh"])
-        self.assertEqual(self.lacking(self.altered(story, moments[4], timing=Timing()), c), ["PutsUrgentFirst.rule"])
-        self.assertEqual(self.lacking(self.with_pair(story, moments[4], following, requests=0), c), ["PutsUrgentFirst.urgent"])
-        self.assertEqual(self.lacking(self.with_pair(story, moments[3], following, due=at(100)), c), ["IsPassing.late"])
+        self.assertEqual(self.lacking(story.altered(0, "a", next_number=1).x, c), ["IsFresh"])
+        self.assertEqual(self.lacking(story.altered(moments[4], "a", timing=Timing()).x, c), ["PutsUrgentFirst.rule"])
+        self.assertEqual(self.lacking(story.with_pair(moments[4], following, requests=0), c), ["PutsUrgentFirst.urgent"])
+        self.assertEqual(self.lacking(story.with_pair(moments[3], following, due=at(100)), c), ["IsPassing.late"])
         self.assertEqual(self.lacking(story.network().x, self.choice(story, following, 1)), ["enough"])
 
     def test_a_path_is_selected(self) -> None:

@@ -18,7 +18,7 @@ export const STORIES = [
   {
     id: "bad-wire", title: "A bad wire", until: 1600, speed: -2,
     says: "Four packets in ten are lost, and the others come late. Checks are sent again, until one gets through, and its answer too.",
-    settings: { natA: "none", delay: 60, jitter: 30, loss: 40, seed: 5 }, actions: [],
+    settings: { natA: "none", delay: 60, jitter: 30, loss: 40, seed: 3 }, actions: [],
   },
   {
     id: "path-dies", title: "The path dies", until: 14000, speed: 1,

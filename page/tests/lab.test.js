@@ -29,7 +29,7 @@ const lab = skip ? { status: 3, stderr: skip } : spawnSync(python, [fileURLToPat
   input: JSON.stringify(networks), encoding: "utf8", maxBuffer: 1 << 28 });
 const why = lab.status === 0 ? false : lab.status === 3 ? lab.stderr.trim() : false;
 
-/** The same of the page, with the tie-breakers of lab. */
+/** What the page plays of a network, with the tie-breakers of lab: what was sent, and when checks were answered and paths selected. */
 function played({ until, ...settings }, { A, B }, waitsLast) {
   const session = new Session({ ...settings, waitsLast, ties: { A: BigInt(A), B: BigInt(B) } }, [], ice);
   session.runTo(until);

@@ -54,7 +54,7 @@ class _Library:
 
     @cached_property
     def loop_calls(self) -> ctypes.PyDLL:
-        """The same library without prototypes, whose calls hold the interpreter's lock: `_loop_calls` says how to call it."""
+        """The library without prototypes, whose calls hold the interpreter's lock: `_loop_calls` says how to call it."""
         return ctypes.PyDLL(self.calls._name, handle=self.calls._handle)
 
 

@@ -11,7 +11,21 @@ from . import _abi
 from .address import Protocol, SocketAddress, address_of
 
 
-class IceConnectionState(enum.IntEnum):
+class _Printed(enum.IntEnum):
+    """Values that print as their `str` in a formatted text too."""
+
+    def __format__(self, spec: str) -> str:
+        return format(str(self), spec)
+
+
+class _Reason(_Printed):
+    """Return codes that print as their texts."""
+
+    def __str__(self) -> str:
+        return _abi.TEXTS[self]
+
+
+class IceConnectionState(_Printed):
     """States of the connection. None is final.
 
     NEW: the session has not started. CHECKING: no valid pair is nominated, and one may yet be. CONNECTED: a valid pair is
@@ -27,9 +41,6 @@ class IceConnectionState(enum.IntEnum):
 
     def __str__(self) -> str:
         return f"State.{self.name.capitalize()}"
-
-    def __format__(self, spec: str) -> str:
-        return format(str(self), spec)
 
     def is_connected(self) -> bool:
         """Returns whether a valid pair is nominated."""
@@ -189,7 +200,7 @@ class FailedSend:
         return f"{self.path.source} -> {self.path.destination}: {os.strerror(self.reason)}, {self.times} times"
 
 
-class Removal(enum.IntEnum):
+class Removal(_Printed):
     """Why a pair was removed.
 
     NO_RESPONSE: no check on it had a success response. CONSENT_LOST: one had, and then consent ended (RFC 7675, section 5.1), or the
@@ -208,11 +219,8 @@ class Removal(enum.IntEnum):
     def __str__(self) -> str:
         return self.name.replace("_", " ").lower()
 
-    def __format__(self, spec: str) -> str:
-        return format(str(self), spec)
 
-
-class Rejection(enum.IntEnum):
+class Rejection(_Reason):
     """Why a datagram is rejected: the first reason that applies. It prints as `request signed with another password than the agent's`.
 
     UNPARSED: see the exception. METHOD: the method is not Binding. CLASS: neither a request nor a response. LOCAL_UFRAG: a request to
@@ -231,14 +239,8 @@ class Rejection(enum.IntEnum):
     PATH = _abi.REJECTED_PATH
     REMOTE_PASSWORD = _abi.REJECTED_REMOTE_PASSWORD
 
-    def __str__(self) -> str:
-        return _abi.TEXTS[self]
 
-    def __format__(self, spec: str) -> str:
-        return format(str(self), spec)
-
-
-class Unserved(enum.IntEnum):
+class Unserved(_Reason):
     """Why an accepted request gets no response: the first reason that applies. It prints as `request to an address that no local
     candidate has`.
 
@@ -254,12 +256,6 @@ class Unserved(enum.IntEnum):
     SENDER = _abi.UNSERVED_SENDER
     LIMIT = _abi.UNSERVED_LIMIT
     LOCAL = _abi.UNSERVED_LOCAL
-
-    def __str__(self) -> str:
-        return _abi.TEXTS[self]
-
-    def __format__(self, spec: str) -> str:
-        return format(str(self), spec)
 
 
 @dataclass(frozen=True)

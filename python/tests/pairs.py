@@ -47,6 +47,14 @@ async def add_candidates(a: Any, b: Any, end: bool = True) -> None:
             await one.add_remote_candidate(None)
 
 
+async def introduced(controlling: tuple[bool, bool] = (True, False)) -> tuple[Connection, Connection]:
+    """Two connections over loopback that know each other."""
+    a, b = agent(controlling[0]), agent(controlling[1])
+    await gather(a, b)
+    await add_candidates(a, b)
+    return a, b
+
+
 async def join(a: Any, b: Any) -> None:
     """Gathers, signals and connects."""
     await gather(a, b)

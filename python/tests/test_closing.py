@@ -16,7 +16,7 @@ from typing import Any
 from is_ice import HasAgent, NominatedSend
 from is_ice.connection import ConnectionClosed
 
-from pairs import PATIENCE, add_candidates, agent, close, gather, join, other_tasks, within
+from pairs import PATIENCE, agent, close, introduced, join, other_tasks, within
 from turn_server import TurnServer
 
 
@@ -71,9 +71,7 @@ class Closing(unittest.IsolatedAsyncioTestCase):
             self.assertIsInstance(await within(event, 1), ConnectionClosed)
             await close(a, b)
         for steps in range(16):
-            a, b = agent(True), agent(False)
-            await gather(a, b)
-            await add_candidates(a, b)
+            a, b = await introduced()
             other = asyncio.ensure_future(b.connect())
             cancelled += await ended_by_cancelling(a.connect(), steps)
             await within(asyncio.gather(a.connect(), other), 5)
@@ -148,9 +146,7 @@ class Closing(unittest.IsolatedAsyncioTestCase):
         self.assertEqual(other_tasks(), set())
 
     async def test_a_close_in_a_handler_and_while_sending(self) -> None:
-        a, b = agent(True), agent(False)
-        await gather(a, b)
-        await add_candidates(a, b)
+        a, b = await introduced()
         closing: list[asyncio.Future[None]] = []
         a.on_event = lambda event: closing.append(asyncio.ensure_future(a.close())) if isinstance(event, NominatedSend) else None
         other = asyncio.ensure_future(b.connect())

@@ -16,7 +16,7 @@ from is_ice.attribute import CandidateAttribute
 from is_ice.connection import Connection, ConnectionClosed, TransportPolicy
 from is_ice.mdns import Mdns
 
-from pairs import HIDDEN, NOBODY, PATIENCE, add_candidates, agent, check_soon, close, gather, join, nobody, talk, within
+from pairs import HIDDEN, NOBODY, PATIENCE, add_candidates, agent, check_soon, close, gather, introduced, join, nobody, talk, within
 from test_stun import StunServer
 from turn_server import TurnServer
 
@@ -45,9 +45,7 @@ class Sessions(unittest.IsolatedAsyncioTestCase):
         """The agent itself would serve one that it stored in each pacing interval."""
         took = [1.0]
         while min(took) > 0.04 and len(took) < 10:  # the machine may be busy
-            a, b = agent(True), agent(False)
-            await gather(a, b)
-            await add_candidates(a, b)
+            a, b = await introduced()
             early = asyncio.ensure_future(a.connect())
             await asyncio.sleep(0.35)
             self.assertEqual((b.agent.stats.bind_request_recv, b.agent.state), (0, IceConnectionState.NEW))
@@ -124,9 +122,7 @@ class Sessions(unittest.IsolatedAsyncioTestCase):
         await close(a, b)
 
     async def test_a_pair_without_checks(self) -> None:
-        a, b = agent(True), agent(False)
-        await gather(a, b)
-        await add_candidates(a, b)
+        a, b = await introduced()
         self.assertRaises(ValueError, a.set_selected_pair, 1, "other", "other")
         for one in (a, b):
             one.set_selected_pair(1, one.local_candidates[0].foundation, one.remote_candidates[0].foundation)

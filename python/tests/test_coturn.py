@@ -205,18 +205,21 @@ class Connections(unittest.IsolatedAsyncioTestCase):
             a, b = await self.joined(*servers)
             await close(a, b)
 
+    async def redirected(self, a: Connection, b: Connection, first: Coturn) -> None:
+        """The server that a 300 of the first one names has the allocation: the first one may end."""
+        await gather(a, b)
+        first.stop()
+        await add_candidates(a, b)
+        await within(asyncio.gather(a.connect(), b.connect()), 10)
+        await talk(a, b)
+        await close(a, b)
+
     async def test_a_redirection(self) -> None:
-        """The server that a 300 names has the allocation: the one before may end."""
         for transport in ("udp", "tcp"):
             other = await self.server()
             first = await self.server("127.0.0.1", "--alternate-server", f"127.0.0.1:{other.address[1]}")
             a, b = self.side(True, first.url("turn", transport)), self.side(False, other.url("turn", transport))
-            await gather(a, b)
-            first.stop()
-            await add_candidates(a, b)
-            await within(asyncio.gather(a.connect(), b.connect()), 10)
-            await talk(a, b)
-            await close(a, b)
+            await self.redirected(a, b, first)
 
     def certificate(self) -> tuple[str, str]:
         """The files of a new certificate, and of it with its key."""
@@ -237,12 +240,7 @@ class Connections(unittest.IsolatedAsyncioTestCase):
         first = await self.server("127.0.0.1", "--tls-alternate-server", f"127.0.0.1:{other.tls_port}", certificate=both)
         tls = ssl.create_default_context(cafile=certificate)
         a, b = self.side(True, first.url("turns", "tcp"), tls=tls), self.side(False, other.url("turns", "tcp"), tls=tls)
-        await gather(a, b)
-        first.stop()
-        await add_candidates(a, b)
-        await within(asyncio.gather(a.connect(), b.connect()), 10)
-        await talk(a, b)
-        await close(a, b)
+        await self.redirected(a, b, first)
 
     @unittest.skipUnless(shutil.which("openssl"), "openssl is not installed")
     async def test_over_tls(self) -> None:

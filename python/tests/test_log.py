@@ -36,7 +36,7 @@ from is_ice._session_log import SessionLog
 from is_ice.mdns import Mdns
 from is_ice.stun import StunClass, StunMethod, write_message
 
-from pairs import LOOPBACK, NOBODY, add_candidates, agent, close, gather, join, until, within
+from pairs import LOOPBACK, NOBODY, agent, close, introduced, join, until, within
 from test_loop import BINDING_REQUEST, BINDING_RESPONSE
 
 THERE, HERE = SocketAddress("192.0.2.2", 2000), SocketAddress("192.0.2.1", 1000)
@@ -208,9 +208,7 @@ class Failures(unittest.IsolatedAsyncioTestCase):
         await a.close()
 
     async def test_the_peer_has_another_password(self) -> None:
-        a, b = agent(True), agent(False)
-        await gather(a, b)
-        await add_candidates(a, b)
+        a, b = await introduced()
         a.remote_password = "q" * 22
         with mock.patch.object(is_ice.connection, "_PATIENCE", 0.3):
             results = await asyncio.gather(a.connect(), b.connect(), return_exceptions=True)

@@ -16,7 +16,7 @@ from is_ice import Candidate, Heard, IceAgent, NominatedSend, Rejection, Silent,
 from is_ice.connection import Connection
 from is_ice.stun import StunClass, StunMessage, StunMethod, write_message
 
-from pairs import add_candidates, agent, close, gather
+from pairs import add_candidates, agent, close, gather, introduced
 from simulated import run
 
 SECOND = 1_000_000_000  # in nanoseconds
@@ -35,14 +35,6 @@ async def begun(a: Connection, b: Connection, meanwhile: Callable[[], Coroutine[
         task.cancel()
     await asyncio.gather(*tasks, return_exceptions=True)
     return results
-
-
-async def introduced(controlling: tuple[bool, bool] = (True, False)) -> tuple[Connection, Connection]:
-    """Two connections over loopback that know each other."""
-    a, b = agent(controlling[0]), agent(controlling[1])
-    await gather(a, b)
-    await add_candidates(a, b)
-    return a, b
 
 
 class Signaling(unittest.TestCase):

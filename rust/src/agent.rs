@@ -447,7 +447,8 @@ impl IceAgent {
         self.take(now, packet.proto, packet.source, packet.destination, packet.message.bytes())
     }
 
-    /// The same. Programs get `try_handle_packet` inline, so that they do not copy the message, whose bytes are all that is used.
+    /// Passes a received packet to the agent. Programs get `try_handle_packet`, which calls this, inline: so they do not copy the message,
+    /// whose bytes are all that is used.
     fn take(
         &mut self,
         now: Instant,
@@ -562,7 +563,7 @@ impl IceAgent {
         self.clock.start(now)
     }
 
-    /// The same for a query, which does not start it.
+    /// The time on the agent's clock, for a query: it does not start the clock.
     pub(crate) fn time_of(&self, now: Instant) -> u64 {
         self.clock.time_of(now)
     }

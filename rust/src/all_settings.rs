@@ -163,7 +163,7 @@ impl IceAgent {
         or_panic(self.try_set_settings(settings));
     }
 
-    /// The same with an error in place of the panic.
+    /// As `set_settings`, with an error in place of the panic.
     ///
     /// # Errors
     ///

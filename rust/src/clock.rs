@@ -22,7 +22,7 @@ impl Clock {
         self.time_of(now)
     }
 
-    /// The same for a query, which does not start it.
+    /// The time of an instant, for a query: it does not start the clock.
     pub(crate) fn time_of(&self, now: Instant) -> u64 {
         let first = self.first.unwrap_or(now);
         match now.checked_duration_since(first) {

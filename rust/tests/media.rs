@@ -4,25 +4,14 @@ mod world;
 
 use is::{FailedSend, MediaPath, Protocol, SessionLog, SilenceEvent};
 use std::time::Duration;
-use world::{TRIP, World, at, consent, creds, host, ms};
-
-const LEFT: &str = "10.0.0.1:1000";
-const RIGHT: &str = "10.0.0.2:2000";
+use world::{LEFT, RIGHT, TRIP, World, at, consent, creds, ms};
 
 fn path() -> MediaPath {
     MediaPath { proto: Protocol::Udp, source: at(LEFT), destination: at(RIGHT) }
 }
 
-/// Two agents with one host candidate each.
-fn hosts() -> World {
-    let mut world = World::new();
-    world.add(0, host(LEFT));
-    world.add(1, host(RIGHT));
-    world
-}
-
 fn connected() -> World {
-    let mut world = hosts();
+    let mut world = World::hosts();
     world.connect();
     world
 }
@@ -38,7 +27,7 @@ fn introduce(world: &mut World) {
 
 #[test]
 fn the_path_is_that_of_a_valid_pair_and_then_the_selected_one() {
-    let mut world = hosts();
+    let mut world = World::hosts();
     let now = world.now();
     assert_eq!((world.right().media_path(now), world.right().takes_media_from(now, at(LEFT))), (None, false));
     world.pass(2 * TRIP + ms(1)); // a check and its response
@@ -120,7 +109,7 @@ fn after_what_time_a_path_is_silent() {
 
 #[test]
 fn sends_that_fail_are_listed() {
-    let mut world = hosts();
+    let mut world = World::hosts();
     let (agent, log) = (&mut world.sides[0].agent, SessionLog::new());
     assert_eq!(agent.failed_sends().count(), 0);
     let mut lines = Vec::new();

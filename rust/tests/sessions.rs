@@ -4,22 +4,11 @@ mod world;
 
 use is::{Candidate, IceAgentEvent, IceConnectionState, IceCreds, MediaPath, Protocol};
 use std::time::Duration;
-use world::{Nat, TRIP, World, at, consent, creds, host, ms, set_delays};
-
-const LEFT: &str = "10.0.0.1:1000";
-const RIGHT: &str = "10.0.0.2:2000";
-
-/// Two agents with one host candidate each, which was signaled to the other.
-fn hosts() -> World {
-    let mut world = World::new();
-    world.add(0, host(LEFT));
-    world.add(1, host(RIGHT));
-    world
-}
+use world::{LEFT, Nat, RIGHT, TRIP, World, at, consent, creds, host, ms, set_delays};
 
 #[test]
 fn two_hosts_connect() {
-    let mut world = hosts();
+    let mut world = World::hosts();
     world.connect();
     assert_eq!(world.sides[0].path(), Some((at(LEFT), at(RIGHT))));
     assert_eq!(world.sides[1].path(), Some((at(RIGHT), at(LEFT))));
@@ -34,7 +23,7 @@ fn two_hosts_connect() {
 
 #[test]
 fn the_first_event_is_that_of_the_session() {
-    let mut world = hosts();
+    let mut world = World::hosts();
     world.connect();
     for (side, ufrag) in world.sides.iter().zip(["left", "rght"]) {
         let events: Vec<_> = side.events.iter().map(|(_, event)| event).collect();
@@ -45,7 +34,7 @@ fn the_first_event_is_that_of_the_session() {
 
 #[test]
 fn figures_count_what_happened() {
-    let mut world = hosts();
+    let mut world = World::hosts();
     world.connect();
     world.pass(Duration::from_secs(20));
     let (left, right) = (world.left().stats(), world.right().stats());
@@ -74,7 +63,7 @@ fn candidates_come_late() {
 
 #[test]
 fn credentials_come_late() {
-    let mut world = hosts();
+    let mut world = World::hosts();
     world.sides[1].agent.ice_restart(creds("rgh2"), true);
     world.sides[1].agent.add_remote_candidate(Candidate::from_sdp_string("candidate:1 1 udp 7 10.0.0.1 1000 typ host").unwrap());
     world.sides[0].agent.set_remote_credentials(creds("rgh2"));
@@ -89,7 +78,7 @@ fn credentials_come_late() {
 
 #[test]
 fn the_better_of_two_paths_is_selected() {
-    let mut world = hosts();
+    let mut world = World::hosts();
     world.add(0, host("[2001:db8::1]:1000"));
     world.add(1, host("[2001:db8::2]:2000"));
     world.connect();
@@ -103,7 +92,7 @@ fn the_better_of_two_paths_is_selected() {
 
 #[test]
 fn a_better_path_that_comes_later_is_selected() {
-    let mut world = hosts();
+    let mut world = World::hosts();
     world.connect();
     assert_eq!(world.left().stats().nomination_send_count, 1);
     world.add(0, host("[2001:db8::1]:1000"));
@@ -115,7 +104,7 @@ fn a_better_path_that_comes_later_is_selected() {
 
 #[test]
 fn a_path_that_dies_gives_way_to_the_other_one() {
-    let mut world = hosts();
+    let mut world = World::hosts();
     world.add(0, host("[2001:db8::1]:1000"));
     world.add(1, host("[2001:db8::2]:2000"));
     world.connect();
@@ -129,7 +118,7 @@ fn a_path_that_dies_gives_way_to_the_other_one() {
 
 #[test]
 fn an_interface_that_goes_takes_its_path() {
-    let mut world = hosts();
+    let mut world = World::hosts();
     world.add(0, host("10.0.1.1:1000"));
     world.connect();
     world.pass(Duration::from_secs(2));
@@ -145,7 +134,7 @@ fn an_interface_that_goes_takes_its_path() {
 
 #[test]
 fn a_cut_wire_ends_the_session_just_before_consent_expires() {
-    let mut world = hosts();
+    let mut world = World::hosts();
     world.connect();
     world.pass(Duration::from_secs(30));
     let answered = world.left().stats().bind_success_recv;
@@ -161,7 +150,7 @@ fn a_cut_wire_ends_the_session_just_before_consent_expires() {
 
 #[test]
 fn nobody_answers() {
-    let mut world = hosts();
+    let mut world = World::hosts();
     for side in &mut world.sides {
         set_delays(&mut side.agent);
     }
@@ -180,7 +169,7 @@ fn nobody_answers() {
 
 #[test]
 fn a_connection_that_is_lost_comes_back_with_a_restart() {
-    let mut world = hosts();
+    let mut world = World::hosts();
     world.connect();
     world.lost = Box::new(|_, _| true);
     world.pass_until("lost", |world| world.sides.iter().all(|side| side.agent.state().is_disconnected()));
@@ -202,7 +191,7 @@ fn a_connection_that_is_lost_comes_back_with_a_restart() {
 
 #[test]
 fn a_restart_clears_what_was() {
-    let mut world = hosts();
+    let mut world = World::hosts();
     world.connect();
     let agent = &mut world.sides[0].agent;
     agent.ice_restart(IceCreds::new(), false);
@@ -239,7 +228,7 @@ fn an_address_that_a_router_gives_is_discovered() {
 /// Media may go on the path of a valid pair before it is nominated (RFC 8445, section 12.1).
 #[test]
 fn a_path_is_valid_before_it_is_selected() {
-    let mut world = hosts();
+    let mut world = World::hosts();
     assert_eq!(world.right().valid_path(), None);
     world.pass(2 * TRIP + ms(1)); // a check and its response
     let path = MediaPath { proto: Protocol::Udp, source: at(RIGHT), destination: at(LEFT) };

@@ -292,7 +292,7 @@ fn take(agent: &mut Agent, port: u16, bytes: &[u8]) -> Result<bool, IceError> {
     take_from(agent, START, at(2, port), bytes)
 }
 
-/// They arrive at this time from this address.
+/// The bytes arrive at this time from this address.
 pub fn take_from(
     agent: &mut Agent,
     now: Instant,
@@ -311,7 +311,7 @@ pub fn take_from(
     agent.handle_packet(now, packet)
 }
 
-/// It is this time.
+/// Calls `handle_timeout` of the agent at this time.
 pub fn report_on(agent: &mut Agent, now: Instant, rng: &mut Pcg32) -> Result<(), IceError> {
     agent.handle_timeout(now, rng)
 }

@@ -70,7 +70,7 @@ fn sum_of(alloc: Global, name: &str, rounds: u64) -> Result<Option<u64>, IceErro
     Ok(Some(sum.0))
 }
 
-/// The same of the cases of an agent whose names have a number.
+/// The checksum of the case of an agent with this name, which has a number, after so many rounds; `None` if no such case has the name.
 fn sum_of_agent(alloc: Global, name: &str, rounds: u64) -> Result<Option<u64>, IceError> {
     let mut sum = Checksum(0);
     if let Some(before) = floods::case_of(name) {

@@ -3,7 +3,7 @@ ghost use Rattle.std.specs.Prelude.{◌≡◌};
 
 use is::{Candidate, LocalPreference};
 
-/// The same local preference for each candidate (RFC 8445, section 5.1.2.1).
+/// One local preference for all candidates (RFC 8445, section 5.1.2.1).
 #[derive(Clone, Copy)]
 pub struct FixedPreference(pub u16);
 

@@ -1,3 +1,4 @@
+mod Common
 mod AgentLogs
 mod TwoAgentEvents
 mod ExternalViews

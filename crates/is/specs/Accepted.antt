@@ -40,12 +40,12 @@ module _ {H P : Type 0} (mac : H → List ℕ → List ℕ → List ℕ) where
       (Receives mac answers now a path bytes (quiet answer) a × ¬ AcceptsOnPath a path bytes) ⊎ ((answer ≡ NotInWorld) × AcceptsOnPath a path bytes)
 
   -- Bytes that are not accepted change nothing. For accepted bytes the call returns true, or it fails.
-  pub record IsSettled (old : AgentRecord H P) (path : Path) (bytes : List ℕ) (e : Entry) (new : AgentRecord H P) : Type 0 where
+  pub record IsHandled (old : AgentRecord H P) (path : Path) (bytes : List ℕ) (e : Entry) (new : AgentRecord H P) : Type 0 where
     pub unaccepted : ¬ AcceptsOnPath old path bytes → ChangesNothing old e new
     pub accepted : AcceptsOnPath old path bytes → SaysYes e.answer
 
-  -- This holds of each packet in the log.
-  abbrev pub PacketsAreSettled : (P → CandidateRecord → ℕ → ℕ → Type 0) → AgentRecord H P → Stream → List (Logged P) → Type 0
-  PacketsAreSettled answers first s log =
+  -- Each packet in the log that is not accepted changes nothing. For an accepted one the call returns true, or it fails.
+  abbrev pub PacketsAreHandled : (P → CandidateRecord → ℕ → ℕ → Type 0) → AgentRecord H P → Stream → List (Logged P) → Type 0
+  PacketsAreHandled answers first s log =
       AtEach mac answers first s log (λ before mid x after. (now : ℕ) (path : Path) (bytes : List ℕ)
-      → x.call ≡ ReceivePacket now path bytes → IsSettled mid path bytes x.entry after)
+      → x.call ≡ ReceivePacket now path bytes → IsHandled mid path bytes x.entry after)

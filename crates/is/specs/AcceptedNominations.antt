@@ -38,9 +38,9 @@ module _ {H P : Type 0} (mac : H → List ℕ → List ℕ → List ℕ) (answer
     pub selects : SelectsIn side all
     pub top : IsTopPath mac answers (own_log side [] all) (at side last.following)
 
-  -- In such a segment the peer nominates a path to the controlled side, and the controlled side's own check on it is answered, in
-  -- either order and at any time, also through NATs. By its end the side selected a path, and the last is the best one, unless one
-  -- of its calls may have removed a pair of the path.
+  -- In a segment as in `IsControlledSegment` the peer nominates a path to the controlled side, and the controlled side's own check on it
+  -- is answered, in either order and at any time, also through NATs. By its end the side selected a path, and the last is the best one,
+  -- unless one of its calls may have removed a pair of the path.
   abbrev pub AcceptedNominationsSelect : WorldRecord H P → Streams → List (LoggedEvent P) → Type 0
   AcceptedNominationsSelect first s log =
       (last : WorldRecord H P) (t : Streams) (run : WorldRun mac answers first s 0 log last t) (before part rest : List (Occurrence H P)) (timeout : Occurrence H P)

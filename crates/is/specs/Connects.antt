@@ -109,8 +109,8 @@ module _ {H P : Type 0} where
     SelectsByOpening side path over meeting opening (InRounds opens) = SelectsIn side opening ⊎ MayEndInRounds answers side path (opens.first ∷ opens.later)
     SelectsByOpening side path over meeting opening (Already selected) = SelectsIn side (meeting ++ opening)
 
-    -- In such a session the controlling side selects a path by the end of the opening. By the end the other side selected a path, too,
-    -- and last the best one. An exception is that an added candidate, or another call, may have removed the pair of a path.
+    -- In a session as in `IsSession` the controlling side selects a path by the end of the opening. By the end the other side selected a
+    -- path, too, and last the best one. An exception is that an added candidate, or another call, may have removed the pair of a path.
     abbrev pub BothSelect : WorldRecord H P → Streams → List (LoggedEvent P) → Type 0
     BothSelect first s log =
         (last : WorldRecord H P) (t : Streams) (run : WorldRun mac answers first s 0 log last t) (meeting opening part rest : List (Occurrence H P))

@@ -45,7 +45,7 @@ module _ {H P : Type 0} where
     pub nominated : AreNominatedOn (at (other side) check.sent.following) its
     pub stays : (x : Occurrence H P) → Has check.following x → KeepsSelected (other side) x
 
-  -- It does so last: no other path is nominated to the side after that.
+  -- The other side nominates the path last: no other path is nominated to the side after that.
   pub record IsNominatedLast (mac : H → List ℕ → List ℕ → List ℕ) (side : Side) (its path : Path) (all : List (Occurrence H P)) : Type 0 where
     pub here : IsNominated mac side its path all
     pub last : (x : Occurrence H P) → Has here.check.comes.rest x → NominatesNoOther side path x
@@ -69,9 +69,9 @@ module _ {H P : Type 0} where
         → IsSelectedLast (other side) its (before ++ (part ++ timeout ∷ []))
         × (IsSelectedLast side path (before ++ (part ++ timeout ∷ [])) ⊎ MayEndIn answers side path (part ++ timeout ∷ []))
 
-    -- The same with numbers. At the end of the segment the controlled side goes by them, and a pair on the path is eligible and was
-    -- nominated by a greater number than all others. Then both selected this path last, whatever other nominations were delivered, and
-    -- when.
+    -- In a segment as that of `AcceptedNominationsSelect` both have renomination, and the controlling side nominates a path and selects no
+    -- other one after that. At its end the controlled side goes by numbers, and a pair on the path is eligible and was nominated by a
+    -- greater number than all others. Then both selected this path last, whatever other nominations were delivered, and when.
     abbrev pub LeadingPathIsSelected : WorldRecord H P → Streams → List (LoggedEvent P) → Type 0
     LeadingPathIsSelected first s log =
         (last : WorldRecord H P) (t : Streams) (run : WorldRun mac answers first s 0 log last t) (before part rest : List (Occurrence H P)) (timeout : Occurrence H P)

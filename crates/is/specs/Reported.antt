@@ -32,12 +32,12 @@ module _ {H P : Type 0} (mac : H → List ℕ → List ℕ → List ℕ) (answer
   abbrev pub PolledAreSelected : AgentRecord H P → Stream → List (Logged P) → Type 0
   PolledAreSelected first s log = AtEach mac answers first s log (λ before mid x after. (path : Path) → ReportsPath x path → IsSelectedSince before path)
 
-  -- was answered by then,
+  -- The path of each polled `NominatedSend` was answered when it was selected.
   abbrev pub PolledAreAnswered : AgentRecord H P → Stream → List (Logged P) → Type 0
   PolledAreAnswered first s log =
       AtEach mac answers first s log (λ before mid x after. (path : Path) → ReportsPath x path → IsAnsweredSince mac first.provider before path)
 
-  -- and was nominated by the peer, if the agent was controlled since the last ICE restart.
+  -- The path of each polled `NominatedSend` was nominated by the peer, if the agent was controlled since the last ICE restart.
   abbrev pub PolledAreNominatedByPeer : AgentRecord H P → Stream → List (Logged P) → Type 0
   PolledAreNominatedByPeer first s log =
       (before : List (Logged P)) (mid after : AgentRecord H P) (x : Logged P) (point : Point mac answers first s log before mid x after)

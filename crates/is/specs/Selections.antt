@@ -57,7 +57,7 @@ module _ {H P : Type 0} where
   abbrev pub begins_modern : Side → (first : SideRound H P) → Bool
   begins_modern side first = is_modern (at side first.timeout.before).timing
 
-  -- Such rounds. The first `handle_timeout` call is no earlier than `by`, and the others are later.
+  -- Rounds of the side, each as in `IsKept`. The first `handle_timeout` call is no earlier than `by`, and the others are later than that.
   pub record AreKept (side : Side) (by : ℕ) (first : SideRound H P) (later : List (SideRound H P)) : Type 0 where
     pub from : by ≤ first.now
     pub late : (r : SideRound H P) → Has later r → by < r.now
@@ -145,9 +145,9 @@ module _ {H P : Type 0} where
   RoundsAreAnswered mac answers side path rounds all =
       (x : SideRound H P) → Has rounds x → RoundChecks path x → IsAnsweredInTime mac answers side path all
 
-  -- In such a segment, if the side sends a check on the path of the pair in the rounds, a check on it in the segment is answered. That
-  -- may happen at any time while the check is pending, and through NATs. Then the side selects a path in the segment, unless a
-  -- candidate that it adds in the rounds may remove a pair of the path. This holds whatever else happens.
+  -- In a segment as in `IsControllingSegment`, if the side sends a check on the path of the pair in the rounds, a check on it in the
+  -- segment is answered. That may happen at any time while the check is pending, and through NATs. Then the side selects a path in the
+  -- segment, unless a candidate that it adds in the rounds may remove a pair of the path. This holds whatever else happens.
   abbrev pub DeliveredRoundsSelect : (mac : H → List ℕ → List ℕ → List ℕ) (answers : P → CandidateRecord → ℕ → ℕ → Type 0) → WorldRecord H P → Streams → List (LoggedEvent P) → Type 0
   DeliveredRoundsSelect mac answers first s log =
       (last : WorldRecord H P) (t : Streams) (run : WorldRun mac answers first s 0 log last t) (before more rest : List (Occurrence H P)) (side : Side)

@@ -56,7 +56,7 @@ pub record IsNewWorld {H P : Type 0} (first : WorldRecord H P) (log : List (Logg
   pub empty : first.network ≡ []
   pub distinct : HaveDistinctIds log
 
--- So it is, `greater` has the greater tie-breaker, and neither agent is a lite one that keeps its role.
+-- The network model is new (`IsNewWorld`), `greater` has the greater tie-breaker, and neither agent is a lite one that keeps its role.
 pub record IsFairWorld {H P : Type 0} (first : WorldRecord H P) (greater : Side) (log : List (LoggedEvent P)) : Type 0 where
   pub start : IsNewWorld first log
   pub tie : (at (other greater) first).tie_breaker < (at greater first).tie_breaker

@@ -69,13 +69,13 @@ pub enum AgentCall<P> {
     Packet {
         /// When the packet was received.
         now: Instant,
-        /// The protocol over which it was received.
+        /// The protocol over which the packet was received.
         proto: Protocol,
-        /// Where it came from.
+        /// Where the packet came from.
         source: SocketAddr,
-        /// The local address on which it was received.
+        /// The local address on which the packet was received.
         destination: SocketAddr,
-        /// The whole packet, as it was received.
+        /// The bytes of the whole packet, as it was received.
         bytes: Vec<u8>,
     },
     /// `handle_timeout` at this time. Its result is `Done`.

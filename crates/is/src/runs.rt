@@ -14,7 +14,7 @@ ghost use Rattle.is_theorems.specs.TimedSelections.{RoundsSelectInTime};
 ghost use Rattle.is_theorems.specs.TimedSteadyRounds.{SteadyRoundsReachInTime};
 ghost use Rattle.is_theorems.specs.OpenRounds.{OpenRoundsSelect};
 ghost use Rattle.is.specs.Log.{IsRunLog, log_of, EntriesPersist};
-ghost use Rattle.is.specs.Accepted.{PacketsAreSettled};
+ghost use Rattle.is.specs.Accepted.{PacketsAreHandled};
 ghost use Rattle.is.specs.Queues.{OthersIssueNone, QueuesAreKept};
 ghost use Rattle.is.specs.Floods.{QueuesStayShort, DiscoveriesAreFew};
 ghost use Rattle.is.specs.Headline.{StaysPlain, Headline};
@@ -100,7 +100,7 @@ pub fn run<H: Sha1HmacProvider + Drop, P: LocalPreference, R: Rng>(
 
     // Bytes that the agent does not accept, on the path on which they were received, change nothing, issue nothing and select no
     // path.
-    ensures unaccepted { PacketsAreSettled H.mac P.answers (record_of agent.old) (R.stream rng.old) (log_of calls.items result) }
+    ensures unaccepted { PacketsAreHandled H.mac P.answers (record_of agent.old) (R.stream rng.old) (log_of calls.items result) }
 
     // Never lite: each selected path got an authentic success response, on its reverse path, to a check that was sent since the
     // last clear.
@@ -124,15 +124,17 @@ pub fn run<H: Sha1HmacProvider + Drop, P: LocalPreference, R: Rng>(
     ensures polled { IsFresh (record_of agent.old)
         → PolledAreSelected H.mac P.answers (record_of agent.old) (R.stream rng.old) (log_of calls.items result) }
 
-    // Never lite: when it was selected, it had got an authentic success response, as in `answered`.
+    // Never lite: each path in a `NominatedSend` that was polled had got an authentic success response when it was selected, as in
+    // `answered`.
     ensures polled_answered { IsFresh (record_of agent.old) → NeverLite (log_of calls.items result)
         → PolledAreAnswered H.mac P.answers (record_of agent.old) (R.stream rng.old) (log_of calls.items result) }
 
-    // Never lite: if the agent was controlled since the last ICE restart, the path was nominated by the peer, as in `peer_nominated`.
+    // Never lite: if the agent was controlled since the last ICE restart, each path in a `NominatedSend` that was polled was nominated by
+    // the peer, as in `peer_nominated`.
     ensures polled_nominated { IsFresh (record_of agent.old) → NeverLite (log_of calls.items result)
         → PolledAreNominatedByPeer H.mac P.answers (record_of agent.old) (R.stream rng.old) (log_of calls.items result) }
 
-    // So a controlling agent has selected a path after each accepted success response, and an agent with a valid and nominated
+    // A controlling agent has selected a path after each accepted success response, and an agent with a valid and nominated
     // pair after each `handle_timeout` call that served no early request.
     ensures successes { IsFresh (record_of agent.old)
         → SuccessesSelectPaths H.mac P.answers (record_of agent.old) (R.stream rng.old) (log_of calls.items result) }
@@ -144,8 +146,9 @@ pub fn run<H: Sha1HmacProvider + Drop, P: LocalPreference, R: Rng>(
     ensures connected { IsFresh (record_of agent.old)
         → PathsHaveConsent H.mac P.answers (record_of agent.old) (R.stream rng.old) (log_of calls.items result) }
 
-    // Never lite before such a call, with the profile `Modern`: a check of the path's pair got a response, and the last such check was sent
-    // less than the timeout before the call. Or, if consent is not strict, a check of the peer arrived less than 15 s before it.
+    // As in `connected`, never lite before the call, and with the profile `Modern`. Then a check of the path's pair got a response, and
+    // the last such check was sent less than the timeout before the call. Or, if consent is not strict, a check of the peer arrived less
+    // than 15 s before it.
     ensures connected_answered { IsFresh (record_of agent.old)
         → PathsAreAlive H.mac P.answers (record_of agent.old) (R.stream rng.old) (log_of calls.items result) }
 
@@ -172,8 +175,8 @@ pub fn run<H: Sha1HmacProvider + Drop, P: LocalPreference, R: Rng>(
     ensures rounds { IsFresh (record_of agent.old)
         → OpenRoundsSelect H.mac P.answers (record_of agent.old) (R.stream rng.old) (log_of calls.items result) }
 
-    // Progress from the first timeout on: the same for a pair that is due by the first `handle_timeout` call of the rounds, maybe not
-    // before it. For a single pair one round suffices. Otherwise 2m - 1 rounds after it do, for m pairs when the second call comes,
+    // Progress from the first timeout on: as in `rounds`, for a pair that is due by the first `handle_timeout` call of the rounds, maybe
+    // not before it. For a single pair one round suffices. Otherwise 2m - 1 rounds after it do, for m pairs when the second call comes,
     // and one more for each pair that is added in these. If checks may go ahead, it is 4m - 1, and two more.
     ensures due_rounds { IsFresh (record_of agent.old)
         → DueRoundsSelect H.mac P.answers (record_of agent.old) (R.stream rng.old) (log_of calls.items result) }
@@ -259,8 +262,9 @@ pub fn run<H: Sha1HmacProvider + Drop, P: LocalPreference, R: Rng>(
     ensures silent { IsFresh (record_of agent.old)
         → SilentPairsStayFew H.mac P.answers (record_of agent.old) (R.stream rng.old) (log_of calls.items result) }
 
-    // Along each part of the log, a pair whose first check followed a request gets at most n checks while no further request and no response
-    // arrives on it: 11 with the settings of `Modern`. So an address to which a captured request is replayed gets few. Precondition: as before.
+    // Along each part of the log, a pair whose first check followed a request gets at most n checks while no further request and no
+    // response arrives on it: 11 with the settings of `Modern`. So an address to which a captured request is replayed gets few.
+    // Precondition: as in `silent`.
     ensures asked { IsFresh (record_of agent.old)
         → AskedPairsStayFew H.mac P.answers (record_of agent.old) (R.stream rng.old) (log_of calls.items result) }
 

@@ -226,7 +226,7 @@ fn take_quiet<H: Sha1HmacProvider + Drop, P: LocalPreference>(
     }
 }
 
-/// A local candidate is added, and may take the selected pair away.
+/// A local candidate is added, which may remove the selected pair.
 fn take_local<H: Sha1HmacProvider + Drop, P: LocalPreference>(
     agent: &mut Agent<H, P>,
     number: usize,
@@ -241,7 +241,7 @@ fn take_local<H: Sha1HmacProvider + Drop, P: LocalPreference>(
     telling(agent, number, answer)
 }
 
-/// The same of a remote one.
+/// A remote candidate is added, which may remove the selected pair.
 fn take_remote<H: Sha1HmacProvider + Drop, P: LocalPreference>(
     agent: &mut Agent<H, P>,
     number: usize,
@@ -255,7 +255,7 @@ fn take_remote<H: Sha1HmacProvider + Drop, P: LocalPreference>(
     telling(agent, number, answer)
 }
 
-/// A candidate is invalidated, and may take the selected pair away.
+/// A candidate is invalidated, which may remove the selected pair.
 fn take_lost<H: Sha1HmacProvider + Drop, P: LocalPreference>(
     agent: &mut Agent<H, P>,
     number: usize,

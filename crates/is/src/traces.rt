@@ -18,11 +18,11 @@ use is_stun::stun::{Class, TransId};
 pub struct Trace {
     /// The agent that selected the path had sent a check on it.
     pub checked: usize,
-    /// That check was delivered to the other agent, which accepted it.
+    /// The check was delivered to the other agent, which accepted it.
     pub delivered: usize,
     /// The other agent issued the success response with the check's transaction ID.
     pub replied: usize,
-    /// That response was delivered, and accepted.
+    /// The success response was delivered, and accepted.
     pub answered: usize,
 }
 

@@ -50,13 +50,13 @@ pub struct TwoAgents<H, P> {
 /// The parameters of an agent of the network model.
 #[derive(Drop)]
 pub struct AgentSpec<H> {
-    /// Its local credentials.
+    /// The local credentials of the agent.
     pub creds: IceCreds,
     /// The HMAC provider with which it signs.
     pub provider: H,
     /// The tie-breaker of role conflicts (RFC 8445, section 7.3.1.1).
     pub tie_breaker: u64,
-    /// Whether it starts as the controlling agent.
+    /// Whether the agent starts as the controlling one.
     pub controlling: bool,
 }
 
@@ -181,8 +181,8 @@ impl<H: Sha1HmacProvider + Drop, P: LocalPreference> TwoAgents<H, P> {
         // nominations have numbers, each path that it selects in them, or selected before and has not checked since, counts like a pair
         // that is added. It is 2 * m rounds, however many pairs there are, if a request was served on the pair, and fewer than m of them
         // check other pairs before it. If checks are sent on the two paths in these rounds, one of each agent is delivered, and so is the success
-        // response to the controlled agent, as above. Then the controlled agent selected a path by its next `handle_timeout` call, as
-        // above.
+        // response to the controlled agent. Then the controlled agent selected a path by its next `handle_timeout` call, as in
+        // `nomination_accepted`.
         ensures connect { BothConnect H.mac P.answers (world_of self.old) (sources (R.stream rng_a.old) (S.stream rng_b.old)) (logged events.items result.entries.items) }
 
         // In nanoseconds: a side has rounds as in `connect`, k after the first, and its caller is punctual: it calls `handle_timeout` at most
@@ -203,19 +203,19 @@ impl<H: Sha1HmacProvider + Drop, P: LocalPreference> TwoAgents<H, P> {
         // rounds, as in `connect`, or after a check of each was delivered with its response, in however few rounds.
         ensures both { BothSelect H.mac P.answers (world_of self.old) (sources (R.stream rng_a.old) (S.stream rng_b.old)) (logged events.items result.entries.items) }
 
-        // And on the same path: while neither is lite, all pairs of one are on a path, and all pairs of the other on the reverse
+        // On the same path: while neither agent is lite, all pairs of one are on a path, and all pairs of the other on the reverse
         // path, any two paths that they selected are the reverse of each other.
         ensures mirror { LonePathsMirror H.mac P.answers (world_of self.old) (sources (R.stream rng_a.old) (S.stream rng_b.old)) (logged events.items result.entries.items) }
 
-        // And on the same path, with several paths and through any NATs: both have renomination, and the controlling agent nominates a
+        // On the same path, with several paths and through any NATs: both agents have renomination, and the controlling agent nominates a
         // path last. This check is delivered, no nomination of another path comes after it, and the controlled agent's own check on the
         // path is answered. Then each selected this path last, as it sees it, from the controlled agent's next `handle_timeout` call
         // on that serves no early request. Preconditions on its pairs of the path are those of `nomination_accepted`.
         ensures one_path { OnePathIsSelected H.mac P.answers (world_of self.old) (sources (R.stream rng_a.old) (S.stream rng_b.old)) (logged events.items result.entries.items) }
 
-        // With numbers it needs less: the controlling agent nominates a path, and this check is delivered. At the end the controlled agent goes
-        // by numbers, and a pair on the path is eligible and was nominated by a greater number than all others. Then each selected
-        // this path last, whatever other nominations are delivered, late or repeatedly.
+        // On the same path, with numbered nominations: the controlling agent nominates a path, and this check is delivered. At the end the
+        // controlled agent goes by numbers, and a pair on the path is eligible and was nominated by a greater number than all others. Then
+        // each selected this path last, whatever other nominations are delivered, late or repeatedly.
         ensures by_number { LeadingPathIsSelected H.mac P.answers (world_of self.old) (sources (R.stream rng_a.old) (S.stream rng_b.old)) (logged events.items result.entries.items) }
 
         // Each agent stores what `run` bounds, whatever the network delivers. With a limit on what packets bring, whenever it receives
@@ -223,11 +223,12 @@ impl<H: Sha1HmacProvider + Drop, P: LocalPreference> TwoAgents<H, P> {
         // many remote ones as the limit and its `add_remote_candidate` calls, and as many sources as the limit.
         ensures bounded { BothAreBounded H.mac P.answers (world_of self.old) (sources (R.stream rng_a.old) (S.stream rng_b.old)) (logged events.items result.entries.items) }
 
-        // Of pairs at most as many as the greatest limit on pairs that was in force when it added a candidate, plus its local
-        // candidates times its remote ones.
+        // Each agent stores at most as many pairs as the greatest limit on pairs that was in force when it added a candidate, plus its
+        // local candidates times its remote ones.
         ensures few { BothHaveFewPairs H.mac P.answers (world_of self.old) (sources (R.stream rng_a.old) (S.stream rng_b.old)) (logged events.items result.entries.items) }
 
-        // Packets, events and early requests wait in it as in `run`, and with the limit at most as many `DiscoveredRecv` events.
+        // Packets, events and early requests wait in each agent as `run` says, and with a limit on what packets bring at most as many
+        // `DiscoveredRecv` events.
         ensures waiting { BothAreShort H.mac P.answers (world_of self.old) (sources (R.stream rng_a.old) (S.stream rng_b.old)) (logged events.items result.entries.items) }
         ensures discovered { BothDiscoverFew H.mac P.answers (world_of self.old) (sources (R.stream rng_a.old) (S.stream rng_b.old)) (logged events.items result.entries.items) }
 

@@ -43,27 +43,27 @@ pub enum TwoAgentsEvent<P> {
     Deliver {
         /// The number of the packet, in the order in which packets were sent.
         packet: usize,
-        /// When it is delivered.
+        /// When the packet is delivered.
         now: Instant,
-        /// The protocol over which it is delivered.
+        /// The protocol over which the packet is delivered.
         proto: Protocol,
-        /// Where it comes from.
+        /// Where the packet comes from.
         source: SocketAddr,
-        /// The local address to which it is delivered.
+        /// The local address to which the packet is delivered.
         destination: SocketAddr,
     },
     /// Bytes arrive that the other agent did not send: media, responses of other servers, an attacker's packets. An agent that
     /// would accept them does not receive them, and the answer is `NotInWorld`.
     Stray {
-        /// The agent at which they arrive.
+        /// The agent at which the bytes arrive.
         side: Side,
-        /// When they arrive.
+        /// When the bytes arrive.
         now: Instant,
-        /// The protocol over which they arrive.
+        /// The protocol over which the bytes arrive.
         proto: Protocol,
-        /// Where they come from.
+        /// Where the bytes come from.
         source: SocketAddr,
-        /// The local address at which they arrive.
+        /// The local address at which the bytes arrive.
         destination: SocketAddr,
         /// The whole packet.
         bytes: Vec<u8>,
@@ -79,9 +79,9 @@ pub struct WorldEntry {
     pub answer: Answer,
     /// The packet that the event made an agent issue.
     pub issued: Option<Issued>,
-    /// The paths that it made an agent select, in order.
+    /// The paths that the event made an agent select, in order.
     pub announced: [Option<Path>; 2],
-    /// Which agents are controlling after it, A first.
+    /// Which agents are controlling after the event, A first.
     pub controlling: [bool; 2],
     /// The agent that was called, polled or delivered to. None if there was no such packet.
     pub side: Option<Side>,

@@ -12,7 +12,7 @@ use is_theorems::reaching::{
 use is_theorems::renominating::{
     greatest_are_last, last_accepted_nominations_are_last, nominated_are_last,
 };
-use is_theorems::roles::conflicts_settle;
+use is_theorems::roles::conflicts_resolve;
 use is_theorems::selecting::{accepted_nominations_are_selected, successes_select};
 use is_theorems::timing::{
     executions_reach_in_time, executions_select_in_time, served_reach_in_time,
@@ -28,7 +28,7 @@ pub(crate) fn greater_keeps<H: Sha1HmacProvider, P: LocalPreference>()
     fresh_is_sound::<H, P>();
 }
 
-/// The other one switches its role at most once.
+/// Of two agents over any network, the one with the smaller tie-breaker switches its role at most once.
 pub(crate) fn lesser_switches_once<H: Sha1HmacProvider, P: LocalPreference>()
     ensures { SwitchesOnceTheorem H.mac P.answers }
 {
@@ -129,7 +129,7 @@ pub(crate) fn both_select<H: Sha1HmacProvider, P: LocalPreference>()
     path_effect::<H, P>();
     role_effect::<H, P>();
     fresh_is_sound::<H, P>();
-    conflicts_settle::<H, P>();
+    conflicts_resolve::<H, P>();
     checks_ask::<H, P>();
     exchanges_succeed_later::<H, P>();
     accepted_nominations_are_selected::<H, P>();
@@ -148,7 +148,7 @@ pub(crate) fn roles_meet<H: Sha1HmacProvider, P: LocalPreference>()
     path_effect::<H, P>();
     role_effect::<H, P>();
     fresh_is_sound::<H, P>();
-    conflicts_settle::<H, P>();
+    conflicts_resolve::<H, P>();
 }
 
 /// If all pairs of one agent stay on a path, and all pairs of the other on the reverse path, any two paths that they select are

@@ -2,10 +2,13 @@
 pub mod PairsByNumber
 pub mod DuePairsAfterRemoval
 pub mod EarlyRequests
-pub mod RecomputedPriorities
 pub mod ReceivedResponses
 pub mod UsernameLength
 pub mod PairsInLists
 pub mod SelectedAgain
 pub mod LiveCandidates
+pub mod PairCounts
 pub mod RequestsWithoutResponse
+pub mod SenderPlaces
+pub mod StepsOfServing
+pub mod TimesWithinCredit

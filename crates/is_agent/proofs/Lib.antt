@@ -1,1 +1,1 @@
-mod AgentParts
+pub mod AgentParts

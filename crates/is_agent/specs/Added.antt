@@ -9,7 +9,7 @@ use Rattle.is_rules.specs.declared.emitted.Emitted.{Emitted}
 use Rattle.is_rules.specs.Agent.{AgentRecord}
 use Rattle.is_rules.specs.Forming.{is_alive}
 use Rattle.is_rules.specs.Local.{AddsLocal}
-use Rattle.is_rules.specs.Settling.{ReselectsAfter}
+use Rattle.is_rules.specs.StateUpdates.{ReselectsAfter}
 use Rattle.is_rules.specs.Remote.{AddsRemote, is_ignored, has_other_ufrag, is_placeholder, place_or_end}
 
 -- how many listed candidates come before the one at this place
@@ -29,7 +29,7 @@ abbrev pub reported : {A : Type 0} → (A → Addition) → Result A IceError �
 reported report_on (Ok x) = Ok (report_on x)
 reported report_on (Err e) = Err e
 
--- by the place that a local candidate got, if it was added
+-- what became of a local candidate, by the index that it got, if it was added
 abbrev pub local_addition : CandidateRecord → List CandidateRecord → List CandidateRecord → Option ℕ → Addition
 local_addition c before after None = not_added (first_listed (is_same_place c) before)
 local_addition c before after (Some place) = Added (listed_index after place)

@@ -9,6 +9,6 @@ abbrev pub peer_pass : Option IceCreds → List ℕ
 peer_pass None = []
 peer_pass (Some creds) = creds.pass
 
--- it was computed of this password (RFC 2104)
+-- the key was computed of this password (RFC 2104)
 abbrev pub IsKeyOf : HmacKey → List ℕ → Type 0
 IsKeyOf key pass = key.block ≡ key_block pass

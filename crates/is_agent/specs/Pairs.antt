@@ -10,6 +10,6 @@ module _ {H P : Type 0} where
   abbrev pub is_selected : AgentRecord H P → PairRecord → Bool
   is_selected a p = is_named_by a.selected_pair p
 
-  -- when its next check is due, as of the last `handle_timeout` call
+  -- when the next check of the pair is due, as of the last `handle_timeout` call
   abbrev pub next_due : AgentRecord H P → PairRecord → Option ℕ
   next_due a p = option_map (λ now. due_time_of now a.timing p) a.last_time

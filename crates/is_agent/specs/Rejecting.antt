@@ -38,7 +38,7 @@ module _ {H P : Type 0} where
   IsResponseRejection mac a path m None = IsAwaited mac (keeps_check_on a path m.id) a m
   IsResponseRejection mac a path m _ = ⊥
 
-  -- by the class of a Binding message
+  -- why a Binding message is rejected, by its class
   abbrev pub IsRejectionAs : (H → List ℕ → List ℕ → List ℕ) → Class → AgentRecord H P → Path → Message → Option Rejection → Type 0
   IsRejectionAs mac Request a path m why = IsRequestRejection mac a m why
   IsRejectionAs mac Success a path m why = IsResponseRejection mac a path m why

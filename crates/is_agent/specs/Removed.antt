@@ -8,7 +8,7 @@ use Rattle.is_rules.specs.declared.emitted.Path.{Path}
 use Rattle.is_rules.specs.Sending.{path_between}
 
 module _ {H P : Type 0} where
-  -- the last 32 at most, the oldest first
+  -- the pairs that were removed last: 32 at most, the oldest first
   abbrev pub removed_of : Agent H P → List RemovedPair
   removed_of a = checklists.removed_of a.pairs
 

@@ -2,14 +2,14 @@
 use Rattle.std.specs.Prelude.{◌≡◌, ℕ, ◌+◌, ◌≤◌, ◌<◌, ◌&&◌, true, IfSome, length, vec_len, vec_capacity, string_bytes}
 use Rattle.std.specs.VecDeque.{deque_len, deque_capacity}
 use Rattle.is_pair.specs.Checklists as checklists
-use Rattle.is_pair.specs.Checklists.{HasRoom}
+use Rattle.is_pair.specs.Checklists.{HasRoom, multiset_of}
 use Rattle.is_agent.specs.declared.agent.Agent.{Agent}
 use Rattle.is_rules.specs.Fitting.{CHECK_ROOM}
 use Rattle.is_rules.specs.Checking.{username_between}
 use Rattle.is_rules.specs.Due.{may_fall_due}
 use Rattle.is_rules.specs.Agent.{AgentRecord}
-use Rattle.is_rules.specs.Settling.{settles, has_selected}
-use Rattle.is_agent.specs.Live.{needed_room}
+use Rattle.is_rules.specs.StateUpdates.{updates_late, has_selected}
+use Rattle.is_agent.specs.Live.{live_count, needed_room, room_for}
 use Rattle.is_agent.specs.View.{record_of}
 
 module _ {H P : Type 0} where
@@ -17,9 +17,17 @@ module _ {H P : Type 0} where
   abbrev pub HasEventRoom : ℕ → Agent H P → Type 0
   HasEventRoom n a = deque_len a.events + a.kept_room + n ≤ deque_capacity a.events
 
-  -- One more candidate can be invalidated.
-  abbrev pub HasCandidateRoom : Agent H P → Type 0
-  HasCandidateRoom a = needed_room a.local.items a.remote.items + 2 ≤ a.kept_room
+  -- all candidates can be invalidated once there are this many pairs more
+  abbrev pub KeepsRoomFor : (pairs : ℕ) → Agent H P → Type 0
+  KeepsRoomFor pairs a = room_for (live_count a.local.items + live_count a.remote.items) (length (multiset_of a.pairs) + pairs) ≤ a.kept_room
+
+  -- the same, and one more candidate
+  abbrev pub HasCandidateRoom : (pairs : ℕ) → Agent H P → Type 0
+  HasCandidateRoom pairs a = room_for (live_count a.local.items + live_count a.remote.items + 1) (length (multiset_of a.pairs) + pairs) ≤ a.kept_room
+
+  -- room is kept for two events more than are needed to invalidate all candidates
+  abbrev pub HasRoomToRelease : Agent H P → Type 0
+  HasRoomToRelease a = needed_room a.local.items a.remote.items (multiset_of a.pairs) + 2 ≤ a.kept_room
 
   -- one more source, and this many events
   abbrev pub HasDiscoveryRoom : ℕ → Agent H P → Type 0
@@ -40,15 +48,15 @@ module _ {H P : Type 0} where
 
   -- one more candidate, pair and packet
   abbrev pub HasServingRoom : Agent H P → Type 0
-  HasServingRoom a = (vec_len a.remote < vec_capacity a.remote) × HasRoom 1 a.pairs × HasPacketRoom a × HasCandidateRoom a
+  HasServingRoom a = (vec_len a.remote < vec_capacity a.remote) × HasRoom 1 a.pairs × HasPacketRoom a × HasCandidateRoom 1 a
 
   -- one more local candidate, and this many pairs
   abbrev pub HasLocalRoom : ℕ → Agent H P → Type 0
-  HasLocalRoom pairs a = (vec_len a.local < vec_capacity a.local) × HasRoom pairs a.pairs × HasCandidateRoom a
+  HasLocalRoom pairs a = (vec_len a.local < vec_capacity a.local) × HasRoom pairs a.pairs × HasCandidateRoom pairs a
 
   -- this many pairs more
   abbrev pub HasPairRoom : ℕ → Agent H P → Type 0
-  HasPairRoom n a = HasRoom n a.pairs
+  HasPairRoom n a = HasRoom n a.pairs × KeepsRoomFor n a
 
   -- one more early request
   abbrev pub HasQueueRoom : Agent H P → Type 0
@@ -56,7 +64,7 @@ module _ {H P : Type 0} where
 
   -- one more remote candidate, and this many pairs
   abbrev pub HasFormingRoom : ℕ → Agent H P → Type 0
-  HasFormingRoom pairs a = (vec_len a.remote < vec_capacity a.remote) × HasRoom pairs a.pairs × HasCandidateRoom a
+  HasFormingRoom pairs a = (vec_len a.remote < vec_capacity a.remote) × HasRoom pairs a.pairs × HasCandidateRoom pairs a
 
   -- if the peer is known, the USERNAME of a check
   abbrev pub HasUsername : Agent H P → Type 0
@@ -79,4 +87,4 @@ module _ {H P : Type 0} where
 
   -- two events more, if with `Modern` another path is selected once the selected pair is removed
   abbrev pub HasSelectionRoom : AgentRecord H P → Agent H P → Type 0
-  HasSelectionRoom old a = (settles old && has_selected old) ≡ true → HasEventRoom 2 a
+  HasSelectionRoom old a = (updates_late old && has_selected old) ≡ true → HasEventRoom 2 a

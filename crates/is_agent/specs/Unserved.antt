@@ -19,11 +19,11 @@ use Rattle.is_rules.specs.Serving.{Chooses, HandlesRequest, is_misled}
 use Rattle.is_agent.specs.declared.unserved.Unserved.{Unserved}
 use Rattle.is_agent.specs.declared.unserved.Unserved.TheVariants.{Early, OtherDestination, UseCandidate, SenderInvalidated, SendersAtLimit, LocalInvalidated}
 
--- A pair is added for the request, if there is none; but not with a local candidate that was invalidated.
+-- A request gets no response if it needs a new pair of a local candidate that was invalidated.
 abbrev pub unserved_without : Option ℕ → Bool → Option Unserved
 unserved_without pair discarded = if discarded && not (is_some pair) then Some LocalInvalidated else None
 
--- by where the sender is among the remote candidates
+-- why a request gets no response, by where the sender is among the remote candidates
 abbrev pub unserved_at : RemotePlace → Option ℕ → Bool → Option Unserved
 unserved_at Barred pair discarded = Some SenderInvalidated
 unserved_at Full pair discarded = Some SendersAtLimit
@@ -35,14 +35,14 @@ unserved_at (Vacant r) pair discarded = unserved_without pair discarded
 abbrev pub unserved_as : Bool → RequestRecord → Option Unserved → Option Unserved
 unserved_as controlling q later = if is_misled controlling q then Some UseCandidate else later
 
--- A role conflict comes before that: a 487 is a response, and USE-CANDIDATE counts in the role after a switch.
+-- A role conflict comes before the other reasons: a 487 is a response, and USE-CANDIDATE counts in the role after a switch.
 abbrev pub unserved_by : Conflict → Bool → RequestRecord → Option Unserved → Option Unserved
 unserved_by Absent controlling q later = unserved_as controlling q later
 unserved_by Send487 controlling q later = None
 unserved_by SwitchRole controlling q later = unserved_as (not controlling) q later
 
 module _ {H P : Type 0} where
-  -- with this choice of candidates and pair
+  -- why a request gets no response, with this choice of candidates and pair
   abbrev pub unserved_in : AgentRecord H P → RequestRecord → Places → Option Unserved
   unserved_in a q at =
       unserved_by (conflict_of a q) a.controlling q (unserved_at at.remote at.pair (candidate_at a.local at.local).discarded)

@@ -17,15 +17,15 @@ use is_rules::remote::place_or_end;
 /// What became of a candidate. Its index counts the candidates that `local_candidates` or `remote_candidates` returns, from 0.
 #[derive(Clone, Copy, Debug, PartialEq, Eq)]
 pub enum Addition {
-    /// It was added, or enabled again, and has this index.
+    /// The candidate was added, or enabled again, and has this index.
     Added(usize),
-    /// It was not added, and the one with this index equals it.
+    /// The candidate was not added, and the one with this index equals it.
     Known(usize),
-    /// It was not added, and none equals it.
+    /// The candidate was not added, and none equals it.
     Ignored,
-    /// It was ignored, since it is of another component than 1.
+    /// The candidate was ignored, since it is of another component than 1.
     OtherComponent,
-    /// It was ignored, since its username fragment is not the peer's.
+    /// The candidate was ignored, since its username fragment is not the peer's.
     OtherUfrag,
 }
 
@@ -52,7 +52,7 @@ fn before(candidates: &[Candidate], place: usize) -> &[Candidate]
     &candidates[..place.min(candidates.len())]
 }
 
-/// How many listed candidates come before the one at this place.
+/// How many listed candidates come before the one at this index of the list that has discarded ones, too.
 pub(crate) fn listed_index(candidates: &[Candidate], place: usize) -> usize
     ensures { result ≡ listed_index candidates.now place }
 {
@@ -143,8 +143,8 @@ fn ignored_addition<H: Sha1HmacProvider + Drop, P: LocalPreference>(
     }
 }
 
-/// Adds a remote candidate like `add_remote_candidate`, and returns the index at which it is listed, or why it is ignored. One that
-/// is ignored for a pair of its own equals one with the same address, base, protocol, kind and related address.
+/// Adds a remote candidate like `add_remote_candidate`, and returns the index at which it is listed, or why it is ignored. A
+/// candidate that is ignored since a pair has it equals the first one with its address, base, protocol, kind and related address.
 pub fn add_remote_listed<H: Sha1HmacProvider + Drop, P: LocalPreference>(
     agent: &mut Agent<H, P>,
     candidate: Candidate,

@@ -77,7 +77,7 @@ pub struct Agent<H, P> {
     pub(crate) remote_creds: Option<IceCreds>,
     /// The prepared key of the agent's own password.
     pub(crate) local_key: HmacKey,
-    /// The same for the peer's password, or for an empty one if there is none.
+    /// The prepared key of the peer's password, or of an empty one if there is none.
     pub(crate) remote_key: HmacKey,
     pub(crate) controlling: bool,
     pub(crate) tie_breaker: u64,
@@ -113,7 +113,7 @@ pub struct Agent<H, P> {
     pub(crate) last_time: Option<Instant>,
     pub(crate) packets: VecDeque<Transmit>,
     pub(crate) events: VecDeque<IceAgentEvent>,
-    /// For so many events room is kept beyond those that wait: invalidating candidates emits them, which takes no memory.
+    /// How many events have reserved capacity beyond those that wait: so invalidating a candidate allocates nothing.
     pub(crate) kept_room: usize,
     /// The sources for which `DiscoveredRecv` was emitted.
     pub(crate) discovered_sources: Vec<Source>,
@@ -133,10 +133,10 @@ pub struct Agent<H, P> {
     ghost numbered: { are_below next_number (multiset_of pairs) ≡ true },
     // the indices of each pair are in the lists
     ghost placed: { are_placed local.items remote.items (multiset_of pairs) ≡ true },
-    // there is that room
+    // the capacity for `kept_room` more events is reserved
     ghost room_kept: { deque_len events + kept_room ≤ deque_capacity events },
     // each candidate that is not discarded can be invalidated
-    ghost room_suffices: { needed_room local.items remote.items ≤ kept_room },
+    ghost room_suffices: { needed_room local.items remote.items (multiset_of pairs) ≤ kept_room },
 }
 
 impl<P: LocalPreference> Agent<DefaultSha1HmacProvider, P> {
@@ -178,7 +178,7 @@ impl<H: Sha1HmacProvider + Drop, P: LocalPreference> Agent<H, P> {
         Ok(Self::fresh(alloc, creds, provider, tie_breaker))
     }
 
-    /// The agent as it is made, under credentials that fit.
+    /// A newly created agent, with credentials that fit into USERNAME.
     fn fresh(alloc: Global, creds: IceCreds, provider: H, tie_breaker: u64) -> Self
         requires fit { are_too_long creds None ≡ false }
         ensures record { record_of result ≡ fresh provider creds tie_breaker }

@@ -128,10 +128,10 @@ impl<H: Sha1HmacProvider + Drop, P: LocalPreference> Agent<H, P> {
     fn reserve_success_room(&mut self) -> Result<(), AllocError>
         ensures record { record_of self.new ≡ record_of self.old }
         ensures local { OnOk result (vec_len self.new.local < vec_capacity self.new.local) }
-        ensures candidate { OnOk result (HasCandidateRoom self.new) }
+        ensures candidate { OnOk result (HasCandidateRoom 0 self.new) }
         ensures discovery { OnOk result (HasDiscoveryRoom 3 self.new) }
     {
-        self.keep_room()?;
+        self.keep_room(0)?;
         reserve_candidate(&mut self.local)?;
         reserve_one(&mut self.discovered_sources)?;
         reserve_events(&mut self.events, self.kept_room, 3)?;
@@ -143,7 +143,7 @@ impl<H: Sha1HmacProvider + Drop, P: LocalPreference> Agent<H, P> {
         requires kept { keeps id.0 number (record_of self.old).pairs ≡ true }
         requires low { IfSome mapped (λ c. candidate_priority c < TOO_HIGH) }
         requires local { vec_len self.old.local < vec_capacity self.old.local }
-        requires candidate { HasCandidateRoom self.old }
+        requires candidate { HasCandidateRoom 0 self.old }
         ensures records { IsRecorded number now.0 id.0 (joined_by mapped self.old.local.items) (record_of self.old) (record_of self.new) }
         ensures discovery { UsesDiscoveryRoom 0 self.old self.new }
     {

@@ -3,10 +3,10 @@
 ghost use Rattle.std.specs.Prelude.{◌≡◌, ℕ, ◌<◌, length, IfSome, true, false, vec_len, vec_capacity};
 ghost use Rattle.is_candidate.specs.Candidates.{candidate_at};
 ghost use Rattle.is_agent.specs.View.{record_of, emitted_of};
-ghost use Rattle.is_agent.specs.Room.{HasCandidateRoom, UsesEvents};
+ghost use Rattle.is_agent.specs.Room.{HasCandidateRoom, HasRoomToRelease, UsesEvents};
 ghost use Rattle.is_pair.specs.Checklists.{HasRoom};
 ghost use Rattle.is_rules.specs.Discarding.{discarded, local_to_discard, remote_to_discard, local_discarded, remote_discarded, InvalidatesAt, Invalidates};
-ghost use Rattle.is_rules.specs.Settling.{ReselectsAfter};
+ghost use Rattle.is_rules.specs.StateUpdates.{ReselectsAfter};
 
 use crate::agent::Agent;
 use is_candidate::{Candidate, LocalPreference};
@@ -22,8 +22,9 @@ impl<H: Sha1HmacProvider + Drop, P: LocalPreference> Agent<H, P> {
         ensures local { vec_len self.new.local ≡ vec_len self.old.local }
         ensures local_capacity { vec_capacity self.new.local ≡ vec_capacity self.old.local }
         ensures events { UsesEvents 0 self.old self.new }
-        ensures candidate { HasCandidateRoom self.old → HasCandidateRoom self.new }
-        ensures room { (candidate_at self.old.local.items place).discarded ≡ false → HasCandidateRoom self.new }
+        ensures candidate { (n : ℕ) → HasCandidateRoom n self.old → HasCandidateRoom n self.new }
+        ensures room { (candidate_at self.old.local.items place).discarded ≡ false
+            → length (record_of self.new).pairs < length (record_of self.old).pairs → HasRoomToRelease self.new }
         ensures pairs { (n : ℕ) → HasRoom n self.old.pairs → HasRoom n self.new.pairs }
     {
         discard_at(&mut self.local, place);
@@ -33,7 +34,8 @@ impl<H: Sha1HmacProvider + Drop, P: LocalPreference> Agent<H, P> {
     fn discard_remote(&mut self, place: usize)
         requires { place < length self.old.remote.items }
         ensures discarded { record_of self.new ≡ remote_discarded place (record_of self.old) }
-        ensures room { (candidate_at self.old.remote.items place).discarded ≡ false → HasCandidateRoom self.new }
+        ensures room { (candidate_at self.old.remote.items place).discarded ≡ false
+            → length (record_of self.new).pairs < length (record_of self.old).pairs → HasRoomToRelease self.new }
     {
         discard_at(&mut self.remote, place);
         self.pairs.remove_where(&RemoteAt { place });
@@ -58,7 +60,7 @@ impl<H: Sha1HmacProvider + Drop, P: LocalPreference> Agent<H, P> {
     fn discard(&mut self, candidate: &Candidate) -> bool
         ensures discarded { InvalidatesAt (local_to_discard candidate.now (record_of self.old)) (remote_to_discard candidate.now (record_of self.old))
             (record_of self.old) result (record_of self.new) }
-        ensures room { result ≡ true → HasCandidateRoom self.new }
+        ensures room { result ≡ true → length (record_of self.new).pairs < length (record_of self.old).pairs → HasRoomToRelease self.new }
     {
         match (
             self.local_to_discard(candidate),
@@ -91,8 +93,12 @@ impl<H: Sha1HmacProvider + Drop, P: LocalPreference> Agent<H, P> {
             self.emitted = Emitted::nothing();
             return false;
         }
+        if !self.is_lost(kept) {
+            self.emitted = Emitted::nothing();
+            return true;
+        }
         self.release_room();
-        self.reselect(kept);
+        self.select_again();
         true
     }
 }

@@ -57,8 +57,8 @@ impl<H: Sha1HmacProvider + Drop, P: LocalPreference> Agent<H, P> {
         self.emitted = Emitted::by(None, first, second);
     }
 
-    /// Removes the pairs that are no longer possible. If there is one, nomination and state are evaluated; else the state is, by the
-    /// rule. A path that this selects is emitted after the path that was selected before.
+    /// Removes the pairs that are no longer possible. If there is one, nomination and state are evaluated; else the state is, with
+    /// `Modern`. A path that this selects is emitted after the path that was selected before.
     pub(crate) fn remove_expired(&mut self, first: Option<Path>, now: Instant)
         requires room { HasEventRoom 2 self.old }
         ensures expired { (second : Option Path) × RemovesExpired now.0 (record_of self.old) second (record_of self.new)
@@ -66,7 +66,7 @@ impl<H: Sha1HmacProvider + Drop, P: LocalPreference> Agent<H, P> {
         ensures checks { (t : ℕ) → HasCheckRoomAt t self.old → HasCheckRoomAt t self.new }
     {
         if !self.any_expired(now) {
-            self.settle_state(true, now);
+            self.update_state(true, now);
             self.emitted = Emitted::selected_only(first);
             return;
         }

@@ -18,7 +18,7 @@ use is_rules::leaving::{Hastens, MayReplace, is_silent_enough};
 use is_rules::nomination::{is_eligible, is_named_by, pair_selected};
 
 impl<H: Sha1HmacProvider + Drop, P: LocalPreference> Agent<H, P> {
-    /// Whether there is a pair that may replace the one with this number, which is silent for that time.
+    /// Whether a pair may replace the one with this number, which has been silent for this span.
     fn has_replacement(&self, number: u64, silence: Span, now: Instant) -> bool
         ensures { result ≡ list_any (may_replace now.0 (record_of self.now) number silence) (record_of self.now).pairs }
     {
@@ -70,7 +70,7 @@ impl<H: Sha1HmacProvider + Drop, P: LocalPreference> Agent<H, P> {
         Some(pair.id().0)
     }
 
-    /// Removes the selected pair, if it gives way. Then those that the agent may nominate are due next.
+    /// Removes the selected pair, if it gives way. Then the pairs that the agent may nominate are due next.
     pub(crate) fn leave_path(&mut self, now: Instant)
         ensures left { record_of self.new ≡ path_left now.0 (record_of self.old) }
         ensures emitted { emitted_of self.new ≡ emitted_of self.old }

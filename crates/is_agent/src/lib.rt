@@ -31,7 +31,7 @@ pub mod roles;
 mod room;
 pub mod serving;
 mod settings;
-mod settling;
+mod state_updates;
 pub mod states;
 pub mod timeout;
 mod timeout_start;

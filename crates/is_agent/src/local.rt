@@ -9,7 +9,7 @@ ghost use Rattle.is_agent.specs.contracts.agent.Agent.{the_row};
 ghost use Rattle.is_agent.specs.View.{record_of, emitted_of};
 ghost use Rattle.is_agent.specs.Borrows.{EndsAs};
 ghost use Rattle.is_agent.specs.Room.{HasLocalRoom, HasSelectionRoom, UsesEvents};
-ghost use Rattle.is_rules.specs.Settling.{ReselectsAfter};
+ghost use Rattle.is_rules.specs.StateUpdates.{ReselectsAfter};
 ghost use Rattle.is_rules.specs.Discarding.{local_discarded};
 ghost use Rattle.is_rules.specs.Forming.{AreIn, HasNumbers, FormsAll, local_combinations};
 ghost use Rattle.is_rules.specs.Local.{Prefers, comes_again, preferred, as_own, appended, is_unwanted, HasNumbersAt, EntersAgain};
@@ -75,7 +75,7 @@ impl<H: Sha1HmacProvider + Drop, P: LocalPreference> Agent<H, P> {
         has_numbers_for(self.next_number, candidate, &self.remote)
     }
 
-    /// The same for the candidate at the index.
+    /// There is a number for each pair of the local candidate at the index.
     fn has_numbers_again(&self, place: usize) -> bool
         requires { place < length self.now.local.items }
         ensures { IsTrue result ↔ HasNumbersAt (record_of self.now) (candidate_at (record_of self.now).local place) }
@@ -100,7 +100,7 @@ impl<H: Sha1HmacProvider + Drop, P: LocalPreference> Agent<H, P> {
         ensures room { OnOk result (HasLocalRoom pairs self.new) }
         ensures selection { OnOk result (HasSelectionRoom (record_of self.old) self.new) }
     {
-        self.keep_room()?;
+        self.keep_room(pairs)?;
         self.reserve_selection_room()?;
         self.pairs.reserve(pairs)?;
         reserve_candidate(&mut self.local)?;
@@ -184,7 +184,7 @@ impl<H: Sha1HmacProvider + Drop, P: LocalPreference> Agent<H, P> {
         Ok(Some(self.store_local(own, &all)))
     }
 
-    /// The discarded candidate at the index is enabled again.
+    /// Enables the discarded candidate at the index again, and forms its pairs.
     fn enable_again(&mut self, place: usize) -> Result<Option<usize>, Rejection>
         requires within { place < length self.old.local.items }
         ensures entered { EntersAgain (record_of self.old) place (widened result) (record_of self.new) }
@@ -200,7 +200,7 @@ impl<H: Sha1HmacProvider + Drop, P: LocalPreference> Agent<H, P> {
         Ok(Some(place))
     }
 
-    /// The first local candidate of equal address, base and protocol decides.
+    /// Adds a local candidate. The first one with its address, base and protocol decides: it is enabled again, stays, or is discarded.
     fn enrol(&mut self, candidate: Candidate) -> Result<Option<usize>, Rejection>
         requires low { candidate_priority candidate < TOO_HIGH }
         ensures enrolled { Enrols (record_of self.old) candidate (widened result) (record_of self.new) }
@@ -220,7 +220,7 @@ impl<H: Sha1HmacProvider + Drop, P: LocalPreference> Agent<H, P> {
         }
     }
 
-    /// The candidate gets its preference, then `enrol` decides.
+    /// Gives the candidate its local preference, and adds it as `enrol` decides.
     fn enrol_preferred(&mut self, candidate: Candidate) -> Result<Option<usize>, Rejection>
         requires low { candidate_priority candidate < TOO_HIGH }
         ensures enrolled { EnrolsPreferred P.answers (record_of self.old) candidate (widened result) (record_of self.new) }
@@ -296,7 +296,7 @@ impl<H: Sha1HmacProvider + Drop, P: LocalPreference> Agent<H, P> {
     }
 }
 
-/// The failure as an error.
+/// The error of a call, which owns no memory, as an `IceError`.
 fn widen<'a>(
     borrowed: Result<Option<&'a Candidate>, Rejection>,
 ) -> Result<Option<&'a Candidate>, IceError>

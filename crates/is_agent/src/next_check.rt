@@ -19,7 +19,7 @@ use is_rules::leaving::{AskedAlong, asked_next};
 use is_rules::nomination::pair_selected;
 
 impl<H: Sha1HmacProvider + Drop, P: LocalPreference> Agent<H, P> {
-    /// Until a path is selected, kinds take turns.
+    /// Whether kinds of pairs take turns: with the profile `Modern`, until a path is selected.
     fn are_kinds_in_turn(&self) -> bool
         ensures { result ≡ are_kinds_in_turn (record_of self.now) }
     {
@@ -40,7 +40,7 @@ impl<H: Sha1HmacProvider + Drop, P: LocalPreference> Agent<H, P> {
         }
     }
 
-    /// One of them is due.
+    /// A pair that comes before all kinds is due.
     fn has_first(&self, now: Instant) -> bool
         ensures { result ≡ has_first now.0 (record_of self.now) }
     {
@@ -56,14 +56,15 @@ impl<H: Sha1HmacProvider + Drop, P: LocalPreference> Agent<H, P> {
         self.are_kinds_in_turn() || self.has_first(now)
     }
 
-    /// This check goes ahead: every second one may.
+    /// The next check goes ahead of pairs that are due earlier: every second one may.
     pub(crate) fn is_ahead_turn(&self, now: Instant) -> bool
         ensures { result ≡ is_ahead_turn now.0 (record_of self.now) }
     {
         self.timing.is_modern() && self.ahead_turn && self.goes_ahead_now(now)
     }
 
-    /// The pair that goes ahead. It is a separate function, so that checks in order of due times do not pay for it.
+    /// The pair that is checked ahead of those that are due earlier. It is a separate function, so that checks in order of due times do
+    /// not pay for it.
     #[inline(never)]
     fn next_ahead(&self, now: Instant) -> Option<&CandidatePair>
         ensures { IsNextAhead (record_of self.now).local (record_of self.now).remote (precedence (record_of self.now))
@@ -118,7 +119,7 @@ impl<H: Sha1HmacProvider + Drop, P: LocalPreference> Agent<H, P> {
         asked_next(&self.pairs, &along, now, &self.timing)
     }
 
-    /// The pair that goes ahead: the one that is asked along, if any.
+    /// The pair that is checked ahead of those that are due earlier: the one that is asked along with the selected one, if any.
     fn ahead_or_along(&self, now: Instant) -> Option<&CandidatePair>
         ensures { GoesAhead now.0 (record_of self.now) (option_copied result) }
     {
@@ -156,7 +157,7 @@ impl<H: Sha1HmacProvider + Drop, P: LocalPreference> Agent<H, P> {
         }
     }
 
-    /// The kind after that of the pair with this number. It is a separate function for the same reason.
+    /// The kind after that of the pair with this number. It is a separate function, so that checks in order of due times do not pay for it.
     #[inline(never)]
     fn kind_after(&self, number: u64) -> u8
         requires { has_number number (record_of self.now).pairs ≡ true }

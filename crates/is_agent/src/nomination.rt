@@ -92,7 +92,8 @@ impl<H: Sha1HmacProvider + Drop, P: LocalPreference> Agent<H, P> {
             && self.has_selected()
     }
 
-    /// The same, or the selected pair is gone, and another one may be selected.
+    /// `handle_timeout` is to be called soon, if nominations have numbers: to nominate the path that was selected, or to select an
+    /// eligible pair if the selected one is gone.
     pub(crate) fn is_pressing(&self) -> bool
         ensures { result ≡ is_pressing (record_of self.now) }
     {

@@ -22,7 +22,7 @@ use std::fmt;
 pub enum Rejection {
     /// The method of the message is not Binding.
     OtherMethod,
-    /// It is neither a request nor a response: an indication, which keeps a path alive and gets no response (RFC 8445,
+    /// The message is neither a request nor a response: an indication, which keeps a path alive and gets no response (RFC 8445,
     /// section 11).
     OtherClass,
     /// A request whose USERNAME does not begin with the agent's username fragment and a colon. It is for another agent, or

@@ -2,10 +2,9 @@
 
 ghost use Rattle.std.specs.Prelude.{◌≡◌, ◌<◌, IfSome, IsOkUnless, OnOk, position, length};
 ghost use Rattle.std.specs.List.{list_any};
-ghost use Rattle.is_pair.specs.Checklists.{HasRoom};
 ghost use Rattle.is_agent.specs.View.{record_of, emitted_of};
-ghost use Rattle.is_agent.specs.Room.{HasFormingRoom, HasSelectionRoom, UsesEvents};
-ghost use Rattle.is_rules.specs.Settling.{ReselectsAfter};
+ghost use Rattle.is_agent.specs.Room.{HasFormingRoom, HasPairRoom, HasSelectionRoom, UsesEvents};
+ghost use Rattle.is_rules.specs.StateUpdates.{ReselectsAfter};
 ghost use Rattle.is_rules.specs.Forming.{AreIn, HasNumbers, FormsAll, remote_combinations};
 ghost use Rattle.is_rules.specs.Remote.{has_other_ufrag, has_equivalent, is_placeholder, as_remote, place_or_end, is_ignored, StoresAt};
 ghost use Rattle.is_rules.specs.Remote.{JoinsRemote, AddsRemote};
@@ -47,7 +46,7 @@ impl<H: Sha1HmacProvider + Drop, P: LocalPreference> Agent<H, P> {
     /// The combinations become pairs, within the reserved capacity, and then the limit is applied.
     pub(crate) fn form(&mut self, all: &[(usize, usize)])
         requires within { AreIn (length self.old.local.items) (length self.old.remote.items) all.now }
-        requires room { HasRoom (length all.now) self.old.pairs }
+        requires room { HasPairRoom (length all.now) self.old }
         requires numbers { HasNumbers self.old.next_number (length all.now) }
         ensures formed { FormsAll (record_of self.old) all.now (record_of self.new) }
         ensures events { UsesEvents 0 self.old self.new }
@@ -93,7 +92,7 @@ impl<H: Sha1HmacProvider + Drop, P: LocalPreference> Agent<H, P> {
         ensures selection { OnOk result (HasSelectionRoom (record_of self.old) self.new) }
         ensures rejected { IsOkUnless result IceError.OutOfMemory }
     {
-        self.keep_room()?;
+        self.keep_room(pairs)?;
         self.reserve_selection_room()?;
         self.pairs.reserve(pairs)?;
         reserve_candidate(&mut self.remote)?;

@@ -120,6 +120,7 @@ impl<H: Sha1HmacProvider + Drop, P: LocalPreference> Agent<H, P> {
         ensures record { record_of self.new ≡ record_of self.old }
         ensures room { OnOk result (HasPairRoom pairs self.new × HasEventRoom 1 self.new) }
     {
+        self.keep_room(pairs)?;
         self.pairs.reserve(pairs)?;
         reserve_events(&mut self.events, self.kept_room, 1)?;
         Ok(())

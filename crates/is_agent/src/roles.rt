@@ -5,6 +5,7 @@ ghost use Rattle.is_agent.specs.View.{record_of};
 ghost use Rattle.is_rules.specs.RequestView.{request_view};
 ghost use Rattle.is_agent.specs.Room.{HasServingRoom, UsesDiscoveryRoom};
 ghost use Rattle.is_rules.specs.Roles.{conflict_by, conflict_of, keeps_role, rival, switched};
+ghost use Rattle.is_rules.specs.Serving.{sends_487, role_resolved};
 
 use crate::agent::{Agent, sides};
 use is_candidate::LocalPreference;
@@ -47,5 +48,27 @@ impl<H: Sha1HmacProvider + Drop, P: LocalPreference> Agent<H, P> {
     {
         self.controlling = !self.controlling;
         reprioritize_all(&mut self.pairs, sides!(self));
+    }
+
+    /// The sender claims the agent's own role, and the agent keeps it: the request gets a 487 (RFC 8445, section 7.3.1.1).
+    pub(crate) fn sends_487(&self, request: &Request<'_>) -> bool
+        ensures { result ≡ sends_487 (record_of self.now) (request_view request.now) }
+    {
+        match self.conflict(request) {
+            Conflict::Send487 => true,
+            Conflict::Absent | Conflict::SwitchRole => false,
+        }
+    }
+
+    /// The role switches if the sender claims it with a greater tie-breaker.
+    pub(crate) fn resolve_role_conflict(&mut self, request: &Request<'_>)
+        ensures record { record_of self.new ≡ role_resolved (request_view request.now) (record_of self.old) }
+        ensures room { HasServingRoom self.old → HasServingRoom self.new }
+        ensures discovery { UsesDiscoveryRoom 0 self.old self.new }
+    {
+        match self.conflict(request) {
+            Conflict::SwitchRole => self.switch_role(),
+            Conflict::Absent | Conflict::Send487 => {}
+        }
     }
 }

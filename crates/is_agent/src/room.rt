@@ -1,9 +1,12 @@
 //! Room for candidates and events. `invalidate_candidate` takes no memory: from the call that adds a candidate on, room is kept for the two
 //! events that are emitted if it is invalidated.
 
-ghost use Rattle.std.specs.Prelude.{◌≡◌, ◌+◌, ◌<◌, ◌≤◌, OnOk, vec_len, vec_capacity};
+ghost use Rattle.std.specs.Prelude.{◌≡◌, ◌+◌, ◌*◌, ◌<◌, ◌≤◌, OnOk, length, vec_len, vec_capacity};
 ghost use Rattle.std.specs.VecDeque.{deque_len, deque_capacity};
-ghost use Rattle.is_agent.specs.Room.{HasEventRoom, HasCandidateRoom};
+ghost use Rattle.is_proto.specs.Times.{MAX};
+ghost use Rattle.is_pair.specs.Checklists.{multiset_of};
+ghost use Rattle.is_agent.specs.Live.{live_count, room_for};
+ghost use Rattle.is_agent.specs.Room.{HasEventRoom, HasCandidateRoom, HasRoomToRelease};
 ghost use Rattle.is_agent.specs.View.{record_of};
 
 use crate::agent::Agent;
@@ -16,6 +19,9 @@ use std::collections::VecDeque;
 /// A list with fewer candidates is short: it gets one place for each, since most agents have few. A longer one grows as `reserve` lets it, so
 /// that it is not moved for each candidate.
 const SHORT: usize = 32;
+
+/// As many events as a `handle_timeout` call has capacity reserved for.
+const OF_TIMEOUT: usize = 5;
 
 /// Reserves capacity for one more candidate.
 pub(crate) fn reserve_candidate(list: &mut Vec<Candidate>) -> Result<(), AllocError>
@@ -48,22 +54,66 @@ pub(crate) fn reserve_events(
 }
 
 impl<H: Sha1HmacProvider + Drop, P: LocalPreference> Agent<H, P> {
-    /// Keeps room for invalidating one more candidate than there are. A call that adds none leaves it for the next one. So there is room for
-    /// one more than are listed or discarded, at most; they are not counted at each packet.
-    pub(crate) fn keep_room(&mut self) -> Result<(), AllocError>
-        ensures record { record_of self.new ≡ record_of self.old }
-        ensures room { OnOk result (HasCandidateRoom self.new) }
+    /// How often a path can be lost, once there are this many candidates and pairs more: each time one of either is gone.
+    fn losses(&self, candidates: usize, pairs: usize) -> usize
+        ensures { result < MAX → room_for (live_count self.now.local.items + live_count self.now.remote.items + candidates)
+            (length (multiset_of self.now.pairs) + pairs) ≤ 2 * result }
     {
-        if self.kept_room / 2 <= self.local.len().saturating_add(self.remote.len()) {
-            reserve_events(&mut self.events, self.kept_room, 2)?;
-            self.kept_room += 2;
+        let listed = self.local.len().saturating_add(self.remote.len());
+        listed
+            .saturating_add(candidates)
+            .min(self.pairs.len().saturating_add(pairs))
+    }
+
+    /// Keeps room for invalidating one more candidate than there are, once there are this many pairs more. A call that adds none leaves it
+    /// for the next one. Discarded candidates are counted too, so that none are looked at for each packet.
+    pub(crate) fn keep_room(&mut self, pairs: usize) -> Result<(), AllocError>
+        ensures record { record_of self.new ≡ record_of self.old }
+        ensures room { OnOk result (HasCandidateRoom pairs self.new) }
+    {
+        let losses = self.losses(1, pairs);
+        if self.kept_room / 2 < losses {
+            reserve_events(&mut self.events, losses, losses)?;
+            self.kept_room = 2 * losses;
         }
         Ok(())
     }
 
-    /// Gives the room of a candidate that was discarded to the events that this emits.
+    /// Gives back the room for pairs that are gone.
+    fn lower_room(&mut self)
+        ensures { record_of self.new ≡ record_of self.old }
+    {
+        let losses = self.losses(0, 0);
+        if losses < self.kept_room / 2 {
+            self.kept_room = 2 * losses;
+        }
+    }
+
+    /// Gives back the capacity for events that is not used, if that is more than half of it.
+    fn shrink_events(&mut self)
+        ensures { record_of self.new ≡ record_of self.old }
+    {
+        let used = self
+            .events
+            .len()
+            .saturating_add(self.kept_room)
+            .saturating_add(OF_TIMEOUT);
+        if used < self.events.capacity() / 2 {
+            self.events.shrink_to(used);
+        }
+    }
+
+    /// Gives back the room for pairs that are gone, and the capacity for it.
+    pub(crate) fn give_back_room(&mut self)
+        ensures { record_of self.new ≡ record_of self.old }
+    {
+        self.lower_room();
+        self.shrink_events();
+    }
+
+    /// Gives room of a candidate that was discarded to the events that this emits.
     pub(crate) fn release_room(&mut self)
-        requires { HasCandidateRoom self.old }
+        requires { HasRoomToRelease self.old }
         ensures record { record_of self.new ≡ record_of self.old }
         ensures room { HasEventRoom 2 self.new }
     {

@@ -1,28 +1,23 @@
 //! Serving a Binding request (RFC 8445, section 7.3); the rules: `is_rules::serving`.
 //!
-//! There is a function for each rule, in the order in which they apply. Each ends in a call of the next one. Choices are made
-//! and capacity is reserved before anything changes; what follows can't fail.
+//! Choices are made and capacity is reserved before anything changes; what follows can't fail. `serve_at` lists its steps, in their
+//! order. Each is a function here or in the file that is named after it.
 
-ghost use Rattle.std.specs.Prelude.{◌≡◌, ◌<◌, ◌&&◌, Some, None, true, false, not, length, slice_set, IfOk, IfErr, IfSome, OnOk, IsOkUnless};
+ghost use Rattle.std.specs.Prelude.{◌≡◌, ◌<◌, Some, None, true, false, length, slice_set, IfOk, IfErr, IfSome, OnOk, IsOkUnless};
 ghost use Rattle.is_candidate.specs.Candidates.{candidate_at};
 ghost use Rattle.is_proto.specs.Times.{MAX};
 ghost use Rattle.is_proto.specs.declared.error.IceError.TheVariants as errors;
 ghost use Rattle.is_agent.specs.View.{record_of};
 ghost use Rattle.is_rules.specs.RequestView.{request_view};
-ghost use Rattle.is_agent.specs.Room.{HasEventRoom, HasServingRoom, HasPacketRoom, HasDiscoveryRoom, UsesDiscoveryRoom};
-ghost use Rattle.is_pair.specs.Multiset.{is_valid_at};
-ghost use Rattle.is_pair.specs.Checklists.{HasRoom};
+ghost use Rattle.is_agent.specs.Room.{HasServingRoom, HasPairRoom, HasPacketRoom, HasDiscoveryRoom, UsesDiscoveryRoom};
 ghost use Rattle.is_rules.specs.Forming.{formed, with_pair};
-ghost use Rattle.is_stun.specs.Checks.{binding_reply};
-ghost use Rattle.is_stun.specs.Theorems.{IsPut, LONGEST_REPLY};
-ghost use Rattle.is_stun.specs.Writing.{written};
+ghost use Rattle.is_stun.specs.Theorems.{LONGEST_REPLY};
 ghost use Rattle.is_stun.specs.Timing.{is_modern};
-ghost use Rattle.is_rules.specs.Sending.{carried, with_packet};
-ghost use Rattle.is_rules.specs.Roles.{switched};
-ghost use Rattle.is_agent.specs.Ready.{IsPlan, IsReady};
-ghost use Rattle.is_rules.specs.Serving.{is_for_other_peer, is_misled, is_admitted, sender_at, nominated_last, pair_served, replied, sees_number, RecordsAndResponds};
-ghost use Rattle.is_rules.specs.Serving.{AddsPairAndResponds, FindsOrAddsPair, AddsUnknownSender, CountsAndServes, SendsRoleConflict, ResolvesRoleConflict, Serves, Chooses};
-ghost use Rattle.is_rules.specs.Serving.{selects_at_requests, trigger_time, needs_pair_at, needs_pair, lacks_number, MayFailAtRequest};
+ghost use Rattle.is_rules.specs.Sending.{with_packet};
+ghost use Rattle.is_agent.specs.Ready.{IsPlan, IsReady, IsWithin};
+ghost use Rattle.is_rules.specs.Serving.{is_for_other_peer, needs_pair, lacks_number, Chooses, MayFailAtRequest, Serves, ServesAt};
+ghost use Rattle.is_rules.specs.Serving.{evaluates_at, nominated_last, pair_added, pair_number, pair_served, request_counted};
+ghost use Rattle.is_rules.specs.Serving.{sees_number, sender_added, sender_at, sender_index, trigger_time, Replies, SendsRoleConflict};
 
 use crate::agent::{Agent, sides};
 use crate::room::{reserve_candidate, reserve_events};
@@ -59,7 +54,7 @@ impl<H: Sha1HmacProvider + Drop, P: LocalPreference> Agent<H, P> {
     pub(crate) fn places_of(&self, request: &Request<'_>) -> Option<Places>
         requires { is_for_other_peer (record_of self.now) (request_view request.now) ≡ false }
         ensures chosen { Chooses (record_of self.now) (request_view request.now) result }
-        ensures within { IfSome result (λ at. at.local < length self.now.local.items) }
+        ensures within { IfSome result (λ at. (at.local < length self.now.local.items) × IsWithin (length self.now.remote.items) at.remote) }
     {
         let local = local_place(&self.local, request)?;
         let remote = sender_place(self.max_discovered, &self.remote, &self.pairs, request);
@@ -71,7 +66,7 @@ impl<H: Sha1HmacProvider + Drop, P: LocalPreference> Agent<H, P> {
         })
     }
 
-    /// A pair must be added there, given the role conflict and the role after it.
+    /// A pair must be added to serve the request at these places, given the role conflict and the role after it.
     fn needs_pair(&self, request: &Request<'_>, at: Places) -> bool
         requires { at.local < length self.now.local.items }
         ensures { result ≡ needs_pair (record_of self.now) (request_view request.now) at }
@@ -80,7 +75,7 @@ impl<H: Sha1HmacProvider + Drop, P: LocalPreference> Agent<H, P> {
             && needs_pair_at(at.remote, at.pair, is_discarded_at(&self.local, at.local))
     }
 
-    /// A pair must be added, and no number is left.
+    /// A pair must be added to serve the request at these places, and no number is left.
     fn lacks_number(&self, request: &Request<'_>, at: Places) -> bool
         requires { at.local < length self.now.local.items }
         ensures lacks { result ≡ lacks_number (record_of self.now) (request_view request.now) at }
@@ -110,7 +105,7 @@ impl<H: Sha1HmacProvider + Drop, P: LocalPreference> Agent<H, P> {
         ensures record { record_of self.new ≡ record_of self.old }
         ensures room { OnOk result (HasServingRoom self.new × HasDiscoveryRoom events self.new) }
     {
-        self.keep_room()?;
+        self.keep_room(1)?;
         reserve_candidate(&mut self.remote)?;
         self.pairs.reserve(1)?;
         reserve_one_in(&mut self.packets)?;
@@ -191,13 +186,17 @@ impl<H: Sha1HmacProvider + Drop, P: LocalPreference> Agent<H, P> {
     }
 
     /// Sends the success response on the path, signed with the local password (RFC 8445, section 7.3.1.2; RFC 8489, section
-    /// 9.1.3).
-    fn reply(&mut self, request: &Request<'_>, path: Path, mut reply: Vec<u8>)
+    /// 9.1.3), after a path was selected, or none.
+    fn reply(
+        &mut self,
+        request: &Request<'_>,
+        path: Path,
+        selected_paths: Option<Path>,
+        mut reply: Vec<u8>,
+    ) -> Emitted
         requires packets { HasPacketRoom self.old }
         requires reply { length reply.items ≡ LONGEST_REPLY }
-        ensures put { IsPut (written (H.mac self.old.provider) (Some self.old.local_creds.pass)
-            (binding_reply request.now.id.0 request.now.path.source)) (binding_reply request.now.id.0 (carried request.now.path.source)) }
-        ensures replied { record_of self.new ≡ replied H.mac (request_view request.now) path (record_of self.old) }
+        ensures replied { Replies H.mac (request_view request.now) path selected_paths (record_of self.old) result (record_of self.new) }
         ensures discovery { UsesDiscoveryRoom 0 self.old self.new }
     {
         let password = self.local_creds.pass.as_str();
@@ -209,11 +208,13 @@ impl<H: Sha1HmacProvider + Drop, P: LocalPreference> Agent<H, P> {
             &self.by_local_key(),
         );
         self.send_reply(path, reply);
+        let issued = Issued::new(path, Class::Success, request.id);
+        Emitted::by(Some(issued), selected_paths, None)
     }
 
     /// Whether a request at the pair causes nomination to be evaluated (RFC 8445, section 7.3.1.5).
     fn evaluates_at(&self, number: u64) -> bool
-        ensures { result ≡ (selects_at_requests (record_of self.now) && is_valid_at number (record_of self.now).pairs) }
+        ensures { result ≡ evaluates_at number (record_of self.now) }
     {
         (self.timing.is_modern() || self.controlling) && is_valid_at(&self.pairs, number)
     }
@@ -272,35 +273,6 @@ impl<H: Sha1HmacProvider + Drop, P: LocalPreference> Agent<H, P> {
         serve_pair(&mut self.pairs, number, &taken, role, trigger);
     }
 
-    /// The pair records the request, nomination is evaluated if the pair is valid, and the response is sent. A controlled agent
-    /// evaluates it only with the profile `Modern`. By this profile the state is evaluated too if a path is selected.
-    fn record_and_respond(
-        &mut self,
-        request: &Request<'_>,
-        l: usize,
-        r: usize,
-        number: u64,
-        reply: Vec<u8>,
-    ) -> Emitted
-        requires local { l < length self.old.local.items }
-        requires remote { r < length self.old.remote.items }
-        requires packets { HasPacketRoom self.old }
-        requires events { HasEventRoom 2 self.old }
-        requires reply { length reply.items ≡ LONGEST_REPLY }
-        ensures served { RecordsAndResponds H.mac (request_view request.now) l r number (record_of self.old) result (record_of self.new) }
-        ensures discovery { UsesDiscoveryRoom 2 self.old self.new }
-    {
-        let path = self.path_between(l, r);
-        let evaluates = self.evaluates_at(number);
-        let now = self.trigger(request).at;
-        self.serve_pair(request, number);
-        let selected_paths = self.nominate_where(evaluates);
-        self.settle_state(selected_paths.is_some(), now);
-        self.reply(request, path, reply);
-        let issued = Issued::new(path, Class::Success, request.id);
-        Emitted::by(Some(issued), selected_paths, None)
-    }
-
     /// The pair of the two candidates, with the next number.
     fn formed(&self, l: usize, r: usize) -> CandidatePair
         requires local { l < length self.now.local.items }
@@ -315,10 +287,11 @@ impl<H: Sha1HmacProvider + Drop, P: LocalPreference> Agent<H, P> {
     fn add_pair(&mut self, l: usize, r: usize)
         requires local { l < length self.old.local.items }
         requires remote { r < length self.old.remote.items }
-        requires pairs { HasRoom 1 self.old.pairs }
+        requires pairs { HasPairRoom 1 self.old }
         requires packets { HasPacketRoom self.old }
         requires number { self.old.next_number < MAX }
         ensures added { record_of self.new ≡ with_pair (formed (record_of self.old) l r) (record_of self.old) }
+        ensures within { (l < length self.new.local.items) × (r < length self.new.remote.items) }
         ensures packets { HasPacketRoom self.new }
         ensures discovery { UsesDiscoveryRoom 0 self.old self.new }
     {
@@ -327,116 +300,81 @@ impl<H: Sha1HmacProvider + Drop, P: LocalPreference> Agent<H, P> {
         self.next_number += 1;
     }
 
-    /// A new pair is added, and records the request.
-    fn add_pair_and_respond(
-        &mut self,
-        request: &Request<'_>,
-        l: usize,
-        r: usize,
-        reply: Vec<u8>,
-    ) -> Emitted
+    /// The number of the pair of both candidates. If there is none, one is added (RFC 8445, section 7.3.1.4), unless the local candidate
+    /// is discarded.
+    fn find_or_add_pair(&mut self, l: usize, r: usize, pair: Option<u64>) -> Option<u64>
         requires local { l < length self.old.local.items }
         requires remote { r < length self.old.remote.items }
-        requires pairs { HasRoom 1 self.old.pairs }
+        requires pairs { HasPairRoom 1 self.old }
         requires packets { HasPacketRoom self.old }
-        requires events { HasEventRoom 2 self.old }
-        requires reply { length reply.items ≡ LONGEST_REPLY }
-        requires number { self.old.next_number < MAX }
-        ensures served { AddsPairAndResponds H.mac (request_view request.now) l r (record_of self.old) result (record_of self.new) }
-        ensures discovery { UsesDiscoveryRoom 2 self.old self.new }
+        requires number { pair ≡ None → (candidate_at self.old.local.items l).discarded ≡ false → self.old.next_number < MAX }
+        ensures number { result ≡ pair_number l pair (record_of self.old) }
+        ensures added { record_of self.new ≡ pair_added l r pair (record_of self.old) }
+        ensures within { (l < length self.new.local.items) × (r < length self.new.remote.items) }
+        ensures packets { HasPacketRoom self.new }
+        ensures discovery { UsesDiscoveryRoom 0 self.old self.new }
     {
+        if pair.is_some() {
+            return pair;
+        }
+        if is_discarded_at(&self.local, l) {
+            return None;
+        }
         let number = self.next_number;
         self.add_pair(l, r);
-        self.record_and_respond(request, l, r, number, reply)
+        Some(number)
     }
 
-    /// The pair of both candidates records the request. If there is none, one is added, unless the local candidate is discarded
-    /// (RFC 8445, section 7.3.1.4).
-    fn find_or_add_pair(
+    /// The index of the sender among the remote candidates. An unknown sender is added as a peer-reflexive candidate (RFC 8445, section
+    /// 7.3.1.3); at the limit it replaces one without a pair. None: there is no place for it, or all its candidates are discarded.
+    fn add_sender(
         &mut self,
         request: &Request<'_>,
-        l: usize,
-        r: usize,
-        pair: Option<u64>,
-        reply: Vec<u8>,
-    ) -> Emitted
-        requires local { l < length self.old.local.items }
-        requires remote { r < length self.old.remote.items }
-        requires pairs { HasRoom 1 self.old.pairs }
-        requires packets { HasPacketRoom self.old }
-        requires events { HasEventRoom 2 self.old }
-        requires reply { length reply.items ≡ LONGEST_REPLY }
-        requires number { pair ≡ None → (candidate_at self.old.local.items l).discarded ≡ false → self.old.next_number < MAX }
-        ensures served { FindsOrAddsPair H.mac (request_view request.now) l r pair (record_of self.old) result (record_of self.new) }
-        ensures discovery { UsesDiscoveryRoom 2 self.old self.new }
+        place: RemotePlace,
+        sender: Option<Candidate>,
+    ) -> Option<usize>
+        requires within { IsWithin (length self.old.remote.items) place }
+        requires sender { sender ≡ sender_at (record_of self.old) (request_view request.now) place }
+        requires room { HasServingRoom self.old }
+        ensures index { result ≡ sender_index (record_of self.old).remote place }
+        ensures added { record_of self.new ≡ sender_added (request_view request.now) place (record_of self.old) }
+        ensures within { IfSome result (λ r. r < length self.new.remote.items) }
+        ensures local { length self.new.local.items ≡ length self.old.local.items }
+        ensures pairs { HasPairRoom 1 self.new }
+        ensures packets { HasPacketRoom self.new }
+        ensures discovery { UsesDiscoveryRoom 0 self.old self.new }
     {
-        match pair {
-            Some(number) => self.record_and_respond(request, l, r, number, reply),
-            None => {
-                if is_discarded_at(&self.local, l) {
-                    return Emitted::nothing();
-                }
-                self.add_pair_and_respond(request, l, r, reply)
-            }
-        }
-    }
-
-    /// An unknown sender is added as a peer-reflexive candidate (RFC 8445, section 7.3.1.3), then the pair is found or added. At
-    /// the limit it replaces one without a pair. A request is dropped if there is no place for its sender, or if all
-    /// candidates of its sender are discarded.
-    fn add_unknown_sender(
-        &mut self,
-        request: &Request<'_>,
-        at: Places,
-        supplies: Supplies,
-    ) -> Emitted
-        requires { IsReady (needs_pair_at at.remote at.pair (candidate_at self.old.local.items at.local).discarded) self.old
-            (request_view request.now) at supplies }
-        ensures served { AddsUnknownSender H.mac (request_view request.now) at.local at.remote (record_of self.old) result (record_of self.new) }
-        ensures discovery { UsesDiscoveryRoom 2 self.old self.new }
-    {
-        let Supplies { reply, sender } = supplies;
-        match (at.remote, sender) {
-            (RemotePlace::Known(r), _) => self.find_or_add_pair(
-                request, at.local, r, at.pair, reply,
-            ),
+        match (place, sender) {
+            (RemotePlace::Known(r), _) => Some(r),
             (RemotePlace::Unknown, Some(sender)) => {
                 let r = self.remote.len();
                 self.remote.push_reserved(sender);
-                self.find_or_add_pair(request, at.local, r, at.pair, reply)
+                Some(r)
             }
             (RemotePlace::Vacant(r), Some(sender)) => {
                 put(&mut self.remote, r, sender);
                 self.pairs.forget_removed(r);
-                self.find_or_add_pair(request, at.local, r, at.pair, reply)
+                Some(r)
             }
-            _ => Emitted::nothing(),
+            _ => None,
         }
     }
 
-    /// A request with USE-CANDIDATE is dropped while controlling, since only the controlling agent nominates (RFC 8445, section
-    /// 8.1.1). Any other request counts and is served.
-    fn count_and_serve(&mut self, request: &Request<'_>, at: Places, supplies: Supplies) -> Emitted
-        requires { IsReady (not (is_misled self.old.controlling (request_view request.now)) && needs_pair_at at.remote at.pair
-            (candidate_at self.old.local.items at.local).discarded) self.old (request_view request.now) at supplies }
-        ensures served { CountsAndServes H.mac (request_view request.now) at.local (record_of self.old) result (record_of self.new) }
-        ensures discovery { UsesDiscoveryRoom 2 self.old self.new }
+    fn count_request(&mut self)
+        ensures counted { record_of self.new ≡ request_counted (record_of self.old) }
+        ensures room { HasServingRoom self.old → HasServingRoom self.new }
+        ensures discovery { UsesDiscoveryRoom 0 self.old self.new }
     {
-        if is_misled(self.controlling, request) {
-            return Emitted::nothing();
-        }
         self.stats.bind_request_recv = self.stats.bind_request_recv.saturating_add(1);
-        self.add_unknown_sender(request, at, supplies)
     }
 
     /// Sends the 487 on the reverse path of the request, signed with the local password (RFC 8445, section 7.3.1.1).
-    fn send_role_conflict(&mut self, request: &Request<'_>, supplies: Supplies) -> Emitted
+    fn send_role_conflict(&mut self, request: &Request<'_>, mut reply: Vec<u8>) -> Emitted
         requires packets { HasPacketRoom self.old }
-        requires reply { length supplies.reply.items ≡ LONGEST_REPLY }
+        requires reply { length reply.items ≡ LONGEST_REPLY }
         ensures conflict_sent { SendsRoleConflict H.mac (request_view request.now) (record_of self.old) result (record_of self.new) }
         ensures discovery { UsesDiscoveryRoom 0 self.old self.new }
     {
-        let Supplies { mut reply, .. } = supplies;
         let password = self.local_creds.pass.as_str();
         write_conflict(&mut reply, request.id, password, &self.by_local_key());
         let path = request.path.reversed();
@@ -444,38 +382,40 @@ impl<H: Sha1HmacProvider + Drop, P: LocalPreference> Agent<H, P> {
         Emitted::issued_only(path, Class::Failure, request.id)
     }
 
-    /// The role switches, and the request is served.
-    fn switch_role_and_serve(
+    /// Serves a request at these places, as planned: the steps in the order of RFC 8445, section 7.3.1. A request with USE-CANDIDATE is
+    /// dropped while controlling, since only the controlling agent nominates (section 8.1.1).
+    pub(crate) fn serve_at(
         &mut self,
         request: &Request<'_>,
         at: Places,
         supplies: Supplies,
     ) -> Emitted
-        requires { IsReady (not (is_misled (not self.old.controlling) (request_view request.now)) && needs_pair_at at.remote at.pair
-            (candidate_at self.old.local.items at.local).discarded) self.old (request_view request.now) at supplies }
-        ensures served { CountsAndServes H.mac (request_view request.now) at.local (switched (record_of self.old)) result (record_of self.new) }
+        requires { IsReady self.old (request_view request.now) at supplies }
+        ensures served { ServesAt H.mac (request_view request.now) at (record_of self.old) result (record_of self.new) }
         ensures discovery { UsesDiscoveryRoom 2 self.old self.new }
     {
-        self.switch_role();
-        self.count_and_serve(request, at, supplies)
-    }
-
-    /// A sender that claims the agent's role: the greater tie-breaker keeps it (RFC 8445, section 7.3.1.1).
-    pub(crate) fn resolve_role_conflict(
-        &mut self,
-        request: &Request<'_>,
-        at: Places,
-        supplies: Supplies,
-    ) -> Emitted
-        requires { IsReady (needs_pair (record_of self.old) (request_view request.now) at) self.old (request_view request.now) at supplies }
-        ensures served { ResolvesRoleConflict H.mac (request_view request.now) at.local (record_of self.old) result (record_of self.new) }
-        ensures discovery { UsesDiscoveryRoom 2 self.old self.new }
-    {
-        match self.conflict(request) {
-            Conflict::Absent => self.count_and_serve(request, at, supplies),
-            Conflict::Send487 => self.send_role_conflict(request, supplies),
-            Conflict::SwitchRole => self.switch_role_and_serve(request, at, supplies),
+        let Supplies { reply, sender } = supplies;
+        if self.sends_487(request) {
+            return self.send_role_conflict(request, reply);
         }
+        self.resolve_role_conflict(request);
+        if is_misled(self.controlling, request) {
+            return Emitted::nothing();
+        }
+        self.count_request();
+        let Some(r) = self.add_sender(request, at.remote, sender) else {
+            return Emitted::nothing();
+        };
+        let Some(number) = self.find_or_add_pair(at.local, r, at.pair) else {
+            return Emitted::nothing();
+        };
+        let path = self.path_between(at.local, r);
+        let now = self.trigger(request).at;
+        let evaluates = self.evaluates_at(number);
+        self.serve_pair(request, number);
+        let selected_paths = self.nominate_where(evaluates);
+        self.update_state(selected_paths.is_some(), now);
+        self.reply(request, path, selected_paths, reply)
     }
 
     /// Serves a request (RFC 8445, section 7.3), or drops it, and returns what was emitted. Numbers are checked before
@@ -492,6 +432,6 @@ impl<H: Sha1HmacProvider + Drop, P: LocalPreference> Agent<H, P> {
             return Ok(Emitted::nothing());
         };
         self.reserve_serving_room(3)?;
-        Ok(self.resolve_role_conflict(request, at, supplies))
+        Ok(self.serve_at(request, at, supplies))
     }
 }

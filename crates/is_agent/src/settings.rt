@@ -18,7 +18,7 @@ use std::ops::RangeInclusive;
 /// and FINGERPRINT.
 const MTU_FLOOR: usize = 20 + (4 + USERNAME_LIMIT) + 12 + 8 + 4 + 24 + 8;
 
-/// The same with NOMINATION.
+/// The length of the longest check with NOMINATION in bytes.
 pub(crate) const CHECK_ROOM: usize = MTU_FLOOR + 8;
 
 impl<H: Sha1HmacProvider + Drop, P: LocalPreference> Agent<H, P> {

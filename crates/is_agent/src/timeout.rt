@@ -155,7 +155,7 @@ impl<H: Sha1HmacProvider + Drop, P: LocalPreference> Agent<H, P> {
         }
     }
 
-    /// The same if the peer is known; the due time of each pair is fixed first. A lite agent sends no check.
+    /// Fixes the due time of each pair and checks the next one, if the peer is known. A lite agent sends no check.
     fn may_check<R: Rng>(&mut self, now: Instant, rng: &mut R)
         requires { HasCheckRoomAt now.0 self.old }
         ensures { (first second : Option Path) → emitted_of self.old ≡ emitted_by None first second → (issued : Option Issued)
@@ -225,7 +225,8 @@ impl<H: Sha1HmacProvider + Drop, P: LocalPreference> Agent<H, P> {
         self.pairs.reserve_check(self.timing.max_retransmits)
     }
 
-    /// Does this if a check may be due at time `now`. If there is nothing to check, it only gives back what is not used.
+    /// Reserves capacity for a check (`reserve_check`), if one may be due at time `now`. If there is nothing to check, it only gives back
+    /// what is not used.
     fn reserve_check_room(&mut self, now: Instant) -> Result<(), AllocError>
         ensures record { record_of self.new ≡ record_of self.old }
         ensures room { OnOk result (HasCheckRoomAt now.0 self.new) }
@@ -331,7 +332,7 @@ impl<H: Sha1HmacProvider + Drop, P: LocalPreference> Agent<H, P> {
         Ok(self.run_timeout_without_request(now, expired, rng)?)
     }
 
-    /// The same. Mostly the queue is empty.
+    /// Serves the first early request that is not outdated, or does the work of the call without one. Mostly the queue is empty.
     fn run_timeout<R: Rng>(&mut self, now: Instant, rng: &mut R) -> Result<(), IceError>
         ensures passed { OnOk result (MatchOption (request_at now.0 (record_of self.old))
             (MaintainsPairs H.mac now.0 (timeout_begun now.0 (record_of self.old)) (R.stream rng.old) (emitted_of self.new) (record_of self.new) (R.stream rng.new))

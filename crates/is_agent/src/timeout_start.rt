@@ -57,7 +57,7 @@ impl<H: Sha1HmacProvider + Drop, P: LocalPreference> Agent<H, P> {
         drop_first(&mut self.queue, expired);
     }
 
-    /// The same after the first call: there is no start event.
+    /// Evaluates the state and removes this many outdated requests, in a call after the first one: there is no start event.
     pub(crate) fn begin_later_timeout(&mut self, now: Instant, expired: usize)
         requires later { same_state (record_of self.old).state New ≡ false }
         requires expired { expired ≡ outdated now.0 self.old.timing self.old.remote_creds (record_of self.old) }
@@ -72,7 +72,7 @@ impl<H: Sha1HmacProvider + Drop, P: LocalPreference> Agent<H, P> {
         }
     }
 
-    /// The request names another peer than the known one. Only an early one can: of others the peer's username fragment is
+    /// The request names another peer than the known one. Only an early request can: of others the peer's username fragment is
     /// checked when they are received.
     fn is_for_other_peer(&self, request: &Request<'_>) -> bool
         ensures { result ≡ is_for_other_peer (record_of self.now) (request_view request.now) }
@@ -152,6 +152,6 @@ impl<H: Sha1HmacProvider + Drop, P: LocalPreference> Agent<H, P> {
         };
         self.reserve_serving_room(4)?;
         let waiting = self.begin_with_request(now, start, expired);
-        Ok(self.resolve_role_conflict(&waiting.request(), at, supplies))
+        Ok(self.serve_at(&waiting.request(), at, supplies))
     }
 }

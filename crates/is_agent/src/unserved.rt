@@ -57,7 +57,7 @@ impl fmt::Display for Unserved {
     }
 }
 
-/// A pair is added for the request, if there is none; but not with a local candidate that was invalidated.
+/// A request gets no response if it needs a new pair of a local candidate that was invalidated.
 fn unserved_without(pair: Option<u64>, discarded: bool) -> Option<Unserved>
     ensures { result ≡ unserved_without pair discarded }
 {
@@ -95,7 +95,7 @@ fn unserved_as(
     }
 }
 
-/// A role conflict comes before that: a 487 is a response, and USE-CANDIDATE counts in the role after a switch.
+/// A role conflict comes before the other reasons: a 487 is a response, and USE-CANDIDATE counts in the role after a switch.
 fn unserved_by(
     conflict: Conflict,
     controlling: bool,

@@ -2,22 +2,22 @@
 use Rattle.std.specs.Prelude.{Option, Some, true, refl}
 use Rattle.std.specs.Borrow.{Lends, LendsIf, MutBor, Fml}
 use Rattle.is_c.specs.declared.handle.Handle.{Handle}
-use Rattle.is_c.specs.declared.home.Home.{Home}
+use Rattle.is_c.specs.declared.held.HeldAgent.{HeldAgent}
 use Rattle.is_c.specs.declared.slot.Slot.{Slot}
 use Rattle.is_c.specs.contracts.handle.Handle.{the_row as handle_row}
-use Rattle.is_c.specs.contracts.home.Home.{the_row as home_row}
+use Rattle.is_c.specs.contracts.held.HeldAgent.{the_row as held_row}
 use Rattle.is_c.specs.contracts.slot.Slot.{the_row as slot_row}
 
--- the same handle, with this agent in the place of its own
-abbrev pub with_home : Handle → Home → Handle
-with_home h home = record h { home = Some home }
+-- the handle, with this agent in place of its own
+abbrev pub with_agent : Handle → HeldAgent → Handle
+with_agent h held = record h { held = Some held }
 
-abbrev pub BorrowsHome : MutBor Handle → MutBor Home → Fml
-BorrowsHome h r = Lends handle_row home_row h r (with_home h.now)
+abbrev pub BorrowsAgent : MutBor Handle → MutBor HeldAgent → Fml
+BorrowsAgent h r = Lends handle_row held_row h r (with_agent h.now)
 
 -- the slot with this agent
-abbrev pub with_held : Slot → Home → Slot
-with_held s home = record { is_held = true; handle = with_home s.handle home; agrees = refl }
+abbrev pub with_held : Slot → HeldAgent → Slot
+with_held s held = record { is_held = true; handle = with_agent s.handle held; agrees = refl }
 
-abbrev pub BorrowsHeld : MutBor Slot → Option (MutBor Home) → Fml
-BorrowsHeld s r = LendsIf slot_row home_row s r (with_held s.now) s.now
+abbrev pub BorrowsHeld : MutBor Slot → Option (MutBor HeldAgent) → Fml
+BorrowsHeld s r = LendsIf slot_row held_row s r (with_held s.now) s.now

@@ -13,7 +13,7 @@ use Rattle.is_c.specs.declared.fields.Fields.{Fields}
 use Rattle.is_c_calls.specs.Addresses.{socket_of, protocol_of}
 use Rattle.is_c_calls.specs.Candidates.{Made, MakesCandidate, ReadsBytes}
 use Rattle.is_c_calls.specs.Codes.{OK, BAD_ADDRESS, NOT_UTF8, code_of}
-use Rattle.is_c_calls.specs.Held.{Held, HomeRecord}
+use Rattle.is_c_calls.specs.Held.{Held, HeldRecord}
 use Rattle.is_c.specs.Questions.{PutsLine}
 use Rattle.is_c.specs.StunMessage.{IsAddress}
 use Rattle.is_c_calls.specs.Texts.{PutsNone}
@@ -51,7 +51,7 @@ PutsFields None before was old code after count new = PutsLine None before was c
 PutsFields (Some c) before was old code after count new =
     PutsLine (Some c) before was code after count × (code ≡ OK → AreFields c new) × (¬ (code ≡ OK) → new ≡ old)
 
--- the same of a candidate that was made, or the code of why there is none
+-- the text and the fields of a candidate that was made, or the code of why there is none
 abbrev pub PutsMadeFields : ℤ → Made → List ℕ → ℕ → Fields → ℤ → List ℕ → ℕ → Fields → Type 0
 PutsMadeFields why None before was old code after count new = PutsNone why before was code after count × (new ≡ old)
 PutsMadeFields why (Some (Err e)) before was old code after count new = PutsNone (code_of e) before was code after count × (new ≡ old)
@@ -68,6 +68,6 @@ ReturnsGivenFields c before was old code after count new =
     (made : Made) × MakesCandidate c made × PutsMadeFields BAD_ADDRESS made before was old code after count new
 
 -- `is_ice_local_fields` and `is_ice_remote_fields`: candidates are counted as by `is_ice_local_candidate`
-abbrev pub ReturnsListedFields : (Held → List CandidateRecord) → ℕ → List ℕ → ℕ → Fields → List ℕ → ℕ → Fields → HomeRecord → ℤ → HomeRecord → Type 0
+abbrev pub ReturnsListedFields : (Held → List CandidateRecord) → ℕ → List ℕ → ℕ → Fields → List ℕ → ℕ → Fields → HeldRecord → ℤ → HeldRecord → Type 0
 ReturnsListedFields candidates index before was f after count g old code new =
     PutsFields (slice_get (live (candidates old.agent)) index) before was f code after count g × (new ≡ old)

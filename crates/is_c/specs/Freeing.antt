@@ -6,7 +6,7 @@ use Rattle.std.specs.Prelude.{Option, None}
 use Rattle.is_c.specs.declared.slot.Slot.{Slot}
 use Rattle.is_c.specs.contracts.slot.Slot.{the_row as slot_row}
 use Rattle.is_c.specs.Slots.{held_by}
-use Rattle.is_c_calls.specs.Held.{HomeRecord}
+use Rattle.is_c_calls.specs.Held.{HeldRecord}
 
 abbrev pub freed_at : Ptr → Fml
-freed_at p = fex Slot (λ s. fsep (lies_at slot_row full_share p s) (feq (Option HomeRecord) (held_by s) None))
+freed_at p = fex Slot (λ s. fsep (lies_at slot_row full_share p s) (feq (Option HeldRecord) (held_by s) None))

@@ -9,7 +9,7 @@ is_between least most n = nat_le least n && nat_le n most
 abbrev pub is_ice_char : ℕ → Bool
 is_ice_char b = is_between 65 90 b || is_between 97 122 b || is_between 48 57 b || b == 43 || b == 47
 
--- from `least` to `most` ice-chars, and nothing else
+-- the text has `least` to `most` ice-chars, and nothing else
 abbrev pub is_token : ℕ → ℕ → List ℕ → Bool
 is_token least most text = is_between least most (length text) && list_all is_ice_char text
 

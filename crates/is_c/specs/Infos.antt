@@ -29,7 +29,7 @@ ReadsFlat json r =
     (IsErrAnd r (RejectsWith (codes "candidate info has more than 8 opening brackets")))
     ((read : Result CandidateRecord IceError) × ReadsInfoText json read × KeepsWord read r)
 
--- the same of bytes, if they are UTF-8
+-- the candidate of a JSON text in bytes (`ReadsFlat`), or none if they are not UTF-8
 abbrev pub ReadsInfoBytes : List ℕ → Made → Type 0
 ReadsInfoBytes json made = MatchOption made (¬ IsUtf8 json) (ReadsFlat json)
 

@@ -23,7 +23,7 @@ use Rattle.is_c.specs.declared.log_texts.Said.TheVariants.{Begins, Enters, Disco
 use Rattle.is_c.specs.LogTexts.{kind_text, reason_text, line_text}
 use Rattle.is_c_calls.specs.Addresses.{socket_of}
 use Rattle.is_c_calls.specs.Codes.{NOTHING, BAD_ADDRESS, OUT_OF_MEMORY}
-use Rattle.is_c_calls.specs.Held.{Held, HomeRecord}
+use Rattle.is_c_calls.specs.Held.{Held, HeldRecord}
 use Rattle.is_c_calls.specs.Packets.{Mac}
 use Rattle.is_c_calls.specs.Texts.{Puts, PutsNone}
 
@@ -48,7 +48,7 @@ said_between said (Some source) (Some destination) = Some (said source destinati
 said_between said (Some source) None = None
 said_between said None destination = None
 
--- by the kind of the event; None: C passed no event
+-- what the line of an event says, by its kind; None: C passed no event
 abbrev pub event_said : Event → Option Said
 event_said e = by e.kind where
   by : ℤ → Option Said
@@ -66,7 +66,7 @@ PutsEvent ufrag None before was code after count = PutsNone BAD_ADDRESS before w
 PutsEvent ufrag (Some said) before was code after count = PutsSaid ufrag said before was code after count
 
 -- `is_ice_event_line`
-abbrev pub LogsEvent : Event → List ℕ → ℕ → List ℕ → ℕ → HomeRecord → ℤ → HomeRecord → Type 0
+abbrev pub LogsEvent : Event → List ℕ → ℕ → List ℕ → ℕ → HeldRecord → ℤ → HeldRecord → Type 0
 LogsEvent e before was after count old code new =
     PutsEvent old.agent.local_creds.ufrag (event_said e) before was code after count × (new ≡ old)
 
@@ -78,7 +78,7 @@ PutsRemoved a (Some p) before was code after count =
     PutsSaid a.local_creds.ufrag (Loses p (path_between_some a p.local p.remote)) before was code after count
 
 -- `is_ice_removed_line`: the one that was removed first has index 0
-abbrev pub LogsRemoved : List RemovedPair → ℕ → List ℕ → ℕ → List ℕ → ℕ → HomeRecord → ℤ → HomeRecord → Type 0
+abbrev pub LogsRemoved : List RemovedPair → ℕ → List ℕ → ℕ → List ℕ → ℕ → HeldRecord → ℤ → HeldRecord → Type 0
 LogsRemoved removed index before was after count old code new =
     PutsRemoved old.agent (slice_get removed index) before was code after count × (new ≡ old)
 
@@ -110,7 +110,7 @@ PutsPacket mac a (Some path) bytes before was code after count =
     × PutsSaid a.local_creds.ufrag (Leaves kind why path) before was code after count
 
 -- `is_ice_packet_line`
-abbrev pub LogsPacket : Mac → Option Path → List ℕ → List ℕ → ℕ → List ℕ → ℕ → HomeRecord → ℤ → HomeRecord → Type 0
+abbrev pub LogsPacket : Mac → Option Path → List ℕ → List ℕ → ℕ → List ℕ → ℕ → HeldRecord → ℤ → HeldRecord → Type 0
 LogsPacket mac path bytes before was after count old code new =
     PutsPacket mac old.agent path bytes before was code after count × (new ≡ old)
 
@@ -122,6 +122,6 @@ PutsKind mac a (Some path) bytes before was code after count =
     × (PutsNone OUT_OF_MEMORY before was code after count ⊎ Puts (kind_text kind ++ reason_text why) before code after count)
 
 -- `is_ice_packet_kind`
-abbrev pub NamesPacket : Mac → Option Path → List ℕ → List ℕ → ℕ → List ℕ → ℕ → HomeRecord → ℤ → HomeRecord → Type 0
+abbrev pub NamesPacket : Mac → Option Path → List ℕ → List ℕ → ℕ → List ℕ → ℕ → HeldRecord → ℤ → HeldRecord → Type 0
 NamesPacket mac path bytes before was after count old code new =
     PutsKind mac old.agent path bytes before was code after count × (new ≡ old)

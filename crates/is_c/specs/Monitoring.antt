@@ -8,29 +8,29 @@ use Rattle.is_c_calls.specs.declared.address.Address.{Address}
 use Rattle.is_c_calls.specs.Addresses.{socket_of, protocol_of}
 use Rattle.is_c_calls.specs.Clock.{agent_time}
 use Rattle.is_c_calls.specs.Codes.{OK, NOTHING, BAD_ADDRESS, found_code}
-use Rattle.is_c_calls.specs.Held.{HomeRecord}
+use Rattle.is_c_calls.specs.Held.{HeldRecord}
 use Rattle.is_c_calls.specs.Packets.{WritesTime}
 use Rattle.is_c.specs.declared.monitoring.FailedSend.{FailedSend}
 use Rattle.is_c.specs.declared.paths.MediaPath.{MediaPath}
 use Rattle.is_c.specs.Paths.{PutsPath}
 
 -- `is_ice_path_for_media`
-abbrev pub ReturnsMediaPath : ℕ → MediaPath → MediaPath → HomeRecord → ℤ → HomeRecord → Type 0
+abbrev pub ReturnsMediaPath : ℕ → MediaPath → MediaPath → HeldRecord → ℤ → HeldRecord → Type 0
 ReturnsMediaPath now before after old code new =
     (path : Option Path) × FindsMediaPath (agent_time now) old.agent old.monitor path × PutsPath path before after code × (new ≡ old)
 
 -- `is_ice_takes_media_from`
-abbrev pub ReturnsTakes : ℕ → Address → HomeRecord → ℤ → HomeRecord → Type 0
+abbrev pub ReturnsTakes : ℕ → Address → HeldRecord → ℤ → HeldRecord → Type 0
 ReturnsTakes now address old code new =
     MatchOption (socket_of address) (code ≡ BAD_ADDRESS) (λ source. code ≡ found_code (takes_media_from (agent_time now) old.agent old.monitor source))
     × (new ≡ old)
 
 -- `is_ice_silent_since`
-abbrev pub ReturnsSilentSince : ℕ → ℕ → HomeRecord → ℤ → HomeRecord → Type 0
+abbrev pub ReturnsSilentSince : ℕ → ℕ → HeldRecord → ℤ → HeldRecord → Type 0
 ReturnsSilentSince before after old code new = WritesTime (silent_since old.monitor) before after code × (new ≡ old)
 
 -- `is_ice_failed_send_count`
-abbrev pub CountsFailures : ℕ → HomeRecord → ℤ → HomeRecord → Type 0
+abbrev pub CountsFailures : ℕ → HeldRecord → ℤ → HeldRecord → Type 0
 CountsFailures count old code new = (code ≡ OK) × (count ≡ length old.failures) × (new ≡ old)
 
 -- C gets this failure
@@ -44,5 +44,5 @@ PutsFailure None before after code = (code ≡ NOTHING) × (after ≡ before)
 PutsFailure (Some f) before after code = (code ≡ OK) × IsFailure f after
 
 -- `is_ice_failed_send_at`: the oldest first
-abbrev pub ReturnsFailure : ℕ → FailedSend → FailedSend → HomeRecord → ℤ → HomeRecord → Type 0
+abbrev pub ReturnsFailure : ℕ → FailedSend → FailedSend → HeldRecord → ℤ → HeldRecord → Type 0
 ReturnsFailure index before after old code new = PutsFailure (slice_get old.failures index) before after code × (new ≡ old)

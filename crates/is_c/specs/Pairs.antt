@@ -11,7 +11,7 @@ use Rattle.is_c.specs.declared.pairs.Pair.{Pair}
 use Rattle.is_c_calls.specs.Candidates.{Made, ReadsBytes}
 use Rattle.is_c_calls.specs.Clock.{caller_time}
 use Rattle.is_c_calls.specs.Codes.{OK, NOTHING, NOT_UTF8, code_of}
-use Rattle.is_c_calls.specs.Held.{Held, HomeRecord}
+use Rattle.is_c_calls.specs.Held.{Held, HeldRecord}
 
 abbrev pub check_number : CheckState → ℤ
 check_number Waiting = pos 0
@@ -40,12 +40,12 @@ ReturnsOfPair a None before after code = (code ≡ NOTHING) × (after ≡ before
 ReturnsOfPair a (Some p) before after code = (code ≡ OK) × IsPair a p after
 
 -- `is_ice_pair_at`: pairs are counted from 0 in the order in which they were formed
-abbrev pub ReturnsPair : ℕ → Pair → Pair → HomeRecord → ℤ → HomeRecord → Type 0
+abbrev pub ReturnsPair : ℕ → Pair → Pair → HeldRecord → ℤ → HeldRecord → Type 0
 ReturnsPair index before after old code new =
     ReturnsOfPair old.agent (slice_get old.agent.pairs index) before after code × (new ≡ old)
 
 -- `is_ice_pair_count`
-abbrev pub ReportsCount : ℕ → HomeRecord → ℤ → HomeRecord → Type 0
+abbrev pub ReportsCount : ℕ → HeldRecord → ℤ → HeldRecord → Type 0
 ReportsCount count old code new = (code ≡ OK) × (count ≡ length old.agent.pairs) × (new ≡ old)
 
 -- the pair whose remote candidate equals this one, if there is a candidate
@@ -59,5 +59,5 @@ abbrev pub FindsPair : List ℕ → Pair → Pair → Held → ℤ → Type 0
 FindsPair line before after a code = (made : Made) × ReadsBytes line made × FindsMade made before after a code
 
 -- `is_ice_find_pair`
-abbrev pub ReturnsFound : List ℕ → Pair → Pair → HomeRecord → ℤ → HomeRecord → Type 0
+abbrev pub ReturnsFound : List ℕ → Pair → Pair → HeldRecord → ℤ → HeldRecord → Type 0
 ReturnsFound line before after old code new = FindsPair line before after old.agent code × (new ≡ old)

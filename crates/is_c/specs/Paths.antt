@@ -5,7 +5,7 @@ use Rattle.is_rules.specs.Questions.{FindsValidPath}
 use Rattle.is_c.specs.declared.paths.MediaPath.{MediaPath}
 use Rattle.is_c_calls.specs.Addresses.{socket_of, protocol_of}
 use Rattle.is_c_calls.specs.Codes.{OK, NOTHING}
-use Rattle.is_c_calls.specs.Held.{HomeRecord}
+use Rattle.is_c_calls.specs.Held.{HeldRecord}
 
 -- C gets this path
 abbrev pub IsMediaPath : Path → MediaPath → Type 0
@@ -18,6 +18,6 @@ PutsPath None before after code = (code ≡ NOTHING) × (after ≡ before)
 PutsPath (Some path) before after code = (code ≡ OK) × IsMediaPath path after
 
 -- `is_ice_valid_path`: the path of a valid pair of greatest priority
-abbrev pub ReturnsValidPath : MediaPath → MediaPath → HomeRecord → ℤ → HomeRecord → Type 0
+abbrev pub ReturnsValidPath : MediaPath → MediaPath → HeldRecord → ℤ → HeldRecord → Type 0
 ReturnsValidPath before after old code new =
     (path : Option Path) × FindsValidPath old.agent path × PutsPath path before after code × (new ≡ old)

@@ -11,17 +11,17 @@ use Rattle.is_c_calls.specs.declared.address.Address.{Address}
 use Rattle.is_c_calls.specs.Addresses.{socket_of}
 use Rattle.is_c_calls.specs.Codes.{OK, NOTHING, BAD_ADDRESS, OUT_OF_MEMORY, found_code}
 use Rattle.is_c_calls.specs.Events.{state_number}
-use Rattle.is_c_calls.specs.Held.{Held, HomeRecord}
+use Rattle.is_c_calls.specs.Held.{Held, HeldRecord}
 use Rattle.is_c_calls.specs.Texts.{Puts, PutsNone}
 
 -- `is_ice_status`
-abbrev pub IsStatus : HomeRecord → Status → Type 0
+abbrev pub IsStatus : HeldRecord → Status → Type 0
 IsStatus h s =
     (s.state ≡ state_number h.agent.state) × (s.controlling ≡ h.agent.controlling) × (s.lite ≡ h.agent.lite)
     × (s.mtu ≡ h.agent.mtu) × (s.mtu_warn ≡ h.agent.mtu_warn) × (s.ice_timeout ≡ ice_timeout h.agent)
     × (s.max_candidates ≡ h.max_candidates)
 
-abbrev pub ReturnsStatus : Status → HomeRecord → ℤ → HomeRecord → Type 0
+abbrev pub ReturnsStatus : Status → HeldRecord → ℤ → HeldRecord → Type 0
 ReturnsStatus status old code new = (code ≡ OK) × IsStatus old status × (new ≡ old)
 
 -- `is_ice_stats`
@@ -34,11 +34,11 @@ stats_of s = record {
   nomination_send_count = s.nomination_send_count;
 }
 
-abbrev pub ReturnsStats : Stats → HomeRecord → ℤ → HomeRecord → Type 0
+abbrev pub ReturnsStats : Stats → HeldRecord → ℤ → HeldRecord → Type 0
 ReturnsStats stats old code new = (code ≡ OK) × (stats_of stats ≡ old.agent.stats) × (new ≡ old)
 
 -- `is_ice_early_count`
-abbrev pub CountsEarly : ℕ → HomeRecord → ℤ → HomeRecord → Type 0
+abbrev pub CountsEarly : ℕ → HeldRecord → ℤ → HeldRecord → Type 0
 CountsEarly count old code new = (code ≡ OK) × (count ≡ length old.agent.queue) × (new ≡ old)
 
 -- the candidate attribute of a candidate, in the caller's buffer
@@ -48,7 +48,7 @@ PutsLine (Some c) before was code after count = PutsNone OUT_OF_MEMORY before wa
 
 -- `is_ice_local_candidate` and `is_ice_remote_candidate`: candidates are counted from 0 in the order in which they were
 -- added, without the discarded ones
-abbrev pub ReturnsLine : (Held → List CandidateRecord) → ℕ → List ℕ → ℕ → List ℕ → ℕ → HomeRecord → ℤ → HomeRecord → Type 0
+abbrev pub ReturnsLine : (Held → List CandidateRecord) → ℕ → List ℕ → ℕ → List ℕ → ℕ → HeldRecord → ℤ → HeldRecord → Type 0
 ReturnsLine candidates index before was after count old code new =
     PutsLine (slice_get (live (candidates old.agent)) index) before was code after count × (new ≡ old)
 
@@ -57,7 +57,7 @@ abbrev pub AnswersViable : Address → Held → ℤ → Type 0
 AnswersViable address a code =
     MatchOption (socket_of address) (code ≡ BAD_ADDRESS) (λ at. code ≡ found_code (has_viable_remote a at))
 
-abbrev pub ReturnsViable : Address → HomeRecord → ℤ → HomeRecord → Type 0
+abbrev pub ReturnsViable : Address → HeldRecord → ℤ → HeldRecord → Type 0
 ReturnsViable address old code new = AnswersViable address old.agent code × (new ≡ old)
 
 -- a text of the remote credentials, if they are known
@@ -66,5 +66,5 @@ PutsOf text None before was code after count = PutsNone NOTHING before was code 
 PutsOf text (Some creds) before was code after count = Puts (text creds) before code after count
 
 -- C gets a text of the remote credentials, and nothing changes.
-abbrev pub ReturnsRemote : (IceCreds → List ℕ) → List ℕ → ℕ → List ℕ → ℕ → HomeRecord → ℤ → HomeRecord → Type 0
+abbrev pub ReturnsRemote : (IceCreds → List ℕ) → List ℕ → ℕ → List ℕ → ℕ → HeldRecord → ℤ → HeldRecord → Type 0
 ReturnsRemote text before was after count old code new = PutsOf text old.agent.remote_creds before was code after count × (new ≡ old)

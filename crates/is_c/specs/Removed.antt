@@ -10,13 +10,13 @@ use Rattle.is_c.specs.declared.paths.MediaPath.{MediaPath}
 use Rattle.is_c.specs.declared.removed.Removed.{Removed}
 use Rattle.is_c.specs.declared.slot.Slot.{Slot}
 use Rattle.is_c_calls.specs.Codes.{OK, NOTHING}
-use Rattle.is_c_calls.specs.Held.{Held, HomeRecord}
+use Rattle.is_c_calls.specs.Held.{Held, HeldRecord}
 use Rattle.is_c.specs.Pairs.{check_number}
 use Rattle.is_c.specs.Paths.{IsMediaPath}
 
--- those of the agent in the slot, the oldest first
+-- the removed pairs of the agent in the slot, the oldest first
 abbrev pub removed_by : Slot → List RemovedPair
-removed_by slot = option_map_or (λ h. removed_of h.agent) slot.handle.home []
+removed_by slot = option_map_or (λ h. removed_of h.agent) slot.handle.held []
 
 abbrev pub removal_number : Removal → ℤ
 removal_number NoResponse = pos 1
@@ -48,10 +48,10 @@ ReturnsOfRemoved a None before after code = (code ≡ NOTHING) × (after ≡ bef
 ReturnsOfRemoved a (Some p) before after code = (code ≡ OK) × IsRemoved a p before.path after
 
 -- `is_ice_removed_at`: the one that was removed first has index 0
-abbrev pub ReturnsRemoved : List RemovedPair → ℕ → Removed → Removed → HomeRecord → ℤ → HomeRecord → Type 0
+abbrev pub ReturnsRemoved : List RemovedPair → ℕ → Removed → Removed → HeldRecord → ℤ → HeldRecord → Type 0
 ReturnsRemoved removed index before after old code new =
     ReturnsOfRemoved old.agent (slice_get removed index) before after code × (new ≡ old)
 
 -- `is_ice_removed_count`
-abbrev pub ReportsRemoved : List RemovedPair → ℕ → HomeRecord → ℤ → HomeRecord → Type 0
+abbrev pub ReportsRemoved : List RemovedPair → ℕ → HeldRecord → ℤ → HeldRecord → Type 0
 ReportsRemoved removed count old code new = (code ≡ OK) × (count ≡ length removed) × (new ≡ old)

@@ -8,7 +8,7 @@ use Rattle.is_agent.specs.Added.{listed_index}
 use Rattle.is_c.specs.declared.questions.Nominated.{Nominated}
 use Rattle.is_c_calls.specs.Addresses.{socket_of, protocol_of}
 use Rattle.is_c_calls.specs.Codes.{OK, NOTHING}
-use Rattle.is_c_calls.specs.Held.{Held, HomeRecord}
+use Rattle.is_c_calls.specs.Held.{Held, HeldRecord}
 use Rattle.is_c.specs.Pairs.{IsTime}
 
 -- the candidate of a pair, as it is listed
@@ -28,7 +28,7 @@ IsNominatedOf p (Some local) (Some remote) None = ⊥
 IsNominatedOf p (Some local) None n = n ≡ None
 IsNominatedOf p None remote n = n ≡ None
 
--- of a pair that exists
+-- the figures that C gets of the pair that was selected last, if there is one
 abbrev pub IsNominatedIn : Held → Option PairRecord → Option Nominated → Type 0
 IsNominatedIn a None n = n ≡ None
 IsNominatedIn a (Some p) n = IsNominatedOf p (candidate_of a.local p.local) (candidate_of a.remote p.remote) n
@@ -38,6 +38,6 @@ PutsNominated None before after code = (code ≡ NOTHING) × (after ≡ before)
 PutsNominated (Some n) before after code = (code ≡ OK) × (after ≡ n)
 
 -- `is_ice_nominated`: the pair that was selected last, if it still exists
-abbrev pub ReturnsNominated : Nominated → Nominated → HomeRecord → ℤ → HomeRecord → Type 0
+abbrev pub ReturnsNominated : Nominated → Nominated → HeldRecord → ℤ → HeldRecord → Type 0
 ReturnsNominated before after old code new =
     (found : Option Nominated) × IsNominatedIn old.agent (nominated_pair old.agent) found × PutsNominated found before after code × (new ≡ old)

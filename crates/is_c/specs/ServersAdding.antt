@@ -36,7 +36,7 @@ abbrev pub timing_over : Transport → ClientTiming
 timing_over Udp = modern
 timing_over Tcp = reliable
 
--- in seconds (RFC 8656, section 3.2)
+-- the lifetime of an allocation that is requested, in seconds (RFC 8656, section 3.2)
 abbrev pub LIFETIME : ℕ
 LIFETIME = 600
 

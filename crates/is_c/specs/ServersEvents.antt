@@ -44,7 +44,7 @@ IsAllocated (Some mapped) relayed before after =
     (after ≡ record before { kind = pos 2; relayed = after.relayed; mapped = after.mapped; has_mapped = true })
     × (socket_of after.relayed ≡ Some relayed) × (socket_of after.mapped ≡ Some mapped)
 
--- by its kind; a field that the kind does not have stays as it was
+-- what C gets of an event, by its kind; a field that the kind does not have stays as it was
 abbrev pub SaysWhat : Transport → Happened → Event → Event → Type 0
 SaysWhat transport (Mapped mapped) before after =
     (after ≡ record before { kind = pos 1; mapped = after.mapped }) × (socket_of after.mapped ≡ Some mapped)

@@ -9,7 +9,7 @@ use Rattle.is_servers.specs.declared.transport.Transport.{Transport}
 use Rattle.is_servers.specs.declared.transport.Transport.TheVariants.{Udp, Tcp}
 use Rattle.is_servers.specs.Servers.{mappings_of, udp_of, tcp_of, IsSame}
 use Rattle.is_c.specs.declared.servers.ends.Ends.{Ends}
-use Rattle.is_c.specs.declared.servers.home.ServersHome.{ServersHome}
+use Rattle.is_c.specs.declared.servers.held.HeldServers.{HeldServers}
 use Rattle.is_c.specs.declared.servers.slot.ServersSlot.{ServersSlot}
 use Rattle.is_c_calls.specs.declared.address.Address.{Address}
 use Rattle.is_c_calls.specs.Addresses.{socket_of}
@@ -34,11 +34,11 @@ HAS_SERVERS = negsuc 20
 abbrev pub Clients : Type 0
 Clients = Servers DefaultSha1HmacProvider
 
-abbrev pub clients_of : ServersHome → Clients
-clients_of home = home.servers
+abbrev pub clients_of : HeldServers → Clients
+clients_of held = held.servers
 
 abbrev pub clients_held : ServersSlot → Option Clients
-clients_held slot = option_map clients_of slot.handle.home
+clients_held slot = option_map clients_of slot.handle.held
 
 -- there is no client
 pub record AreNone (s : Clients) : Type 0 where

@@ -34,7 +34,7 @@ unfoldable pub mapped_text : Option SocketAddr → List ℕ
 mapped_text None = []
 mapped_text (Some mapped) = codes ", mapped " ++ socket_text mapped
 
--- of no code none
+-- the text of a code, and none of no code
 unfoldable pub code_text : ℕ → List ℕ
 code_text n = if n == 0 then [] else codes ", " ++ decimal n
 
@@ -67,7 +67,7 @@ why_of (negsuc n) = None
 abbrev pub mapped_in : Event → Option (Option SocketAddr)
 mapped_in e = if e.has_mapped then option_map Some (socket_of e.mapped) else Some None
 
--- by the kind of the event; None: C passed no event
+-- what the line of an event says, by its kind; None: C passed no event
 abbrev pub said_of : Event → Option Said
 said_of e = by e.kind where
   by : ℤ → Option Said

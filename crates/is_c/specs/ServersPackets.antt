@@ -57,7 +57,7 @@ abbrev pub TakesArrival : Mac → ℕ → List ℕ → Arrival → Arrival → E
 TakesArrival mac now bytes before after ends old code new =
     (d : Option Arrived) × Receives ends.transport mac (at_time now) ends.local ends.remote bytes old d new × PutsArrival bytes d before after code
 
--- without addresses what would be written stays
+-- a datagram is taken with these addresses; without them what would be written stays
 abbrev pub TakesWith : Mac → ℕ → Option Ends → List ℕ → Arrival → Arrival → Clients → ℤ → Clients → Type 0
 TakesWith mac now None bytes before after old code new = Fails BAD_ADDRESS old code new × (after ≡ before)
 TakesWith mac now (Some ends) bytes before after old code new = TakesArrival mac now bytes before after ends old code new
@@ -90,7 +90,7 @@ GoesOut now bytes random room written before after pair old code new =
     (r : Result ServerOutgoing StunError) × Sends (at_time now) pair.0 pair.1 bytes (id_in random) room written old r new
     × PutsOutgoing r before after code
 
--- it does not go out: what would be written stays
+-- a packet does not go out: what would be written stays
 abbrev pub StaysHere : ℤ → (room written : List ℕ) → (before after : Packet) → Clients → ℤ → Clients → Type 0
 StaysHere why room written before after old code new = Fails why old code new × (written ≡ room) × (after ≡ before)
 

@@ -3,12 +3,12 @@ use Rattle.std.specs.Prelude.{Option, option_map}
 use Rattle.is_proto.specs.Packets.{packet_of}
 use Rattle.is_agent.specs.View.{record_of}
 use Rattle.is_monitor.specs.Failures.{failures_of}
-use Rattle.is_c_calls.specs.Held.{HomeRecord}
-use Rattle.is_c.specs.declared.home.Home.{Home}
+use Rattle.is_c_calls.specs.Held.{HeldRecord}
+use Rattle.is_c.specs.declared.held.HeldAgent.{HeldAgent}
 use Rattle.is_c.specs.declared.slot.Slot.{Slot}
 
-abbrev pub home_of : Home → HomeRecord
-home_of h = record {
+abbrev pub held_record : HeldAgent → HeldRecord
+held_record h = record {
   agent = record_of h.agent;
   waiting = option_map packet_of h.waiting;
   max_candidates = h.max_candidates;
@@ -17,5 +17,5 @@ home_of h = record {
   failures = failures_of h.failures;
 }
 
-abbrev pub held_by : Slot → Option HomeRecord
-held_by slot = option_map home_of slot.handle.home
+abbrev pub held_by : Slot → Option HeldRecord
+held_by slot = option_map held_record slot.handle.held

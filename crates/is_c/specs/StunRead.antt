@@ -24,7 +24,8 @@ ReturnsMessage bytes P Same code =
     ((e : StunError) × FailsAnyBy bytes e × (code ≡ UNPARSED) × Same)
     ⊎ ((m : Message) × ReadsAny bytes m × P m code)
 
--- the same of a message that has what ICE requires of it: the reading of `is_ice_handle_packet`
+-- P holds of the message that the bytes encode, which has what ICE requires of it, as `is_ice_handle_packet` reads it; if they encode
+-- none, the code says so and all is as it was
 abbrev pub ReturnsStrict : List ℕ → (Message → ℤ → Type 0) → Type 0 → ℤ → Type 0
 ReturnsStrict bytes P Same code =
     ((e : StunError) × FailsBy bytes e × (code ≡ UNPARSED) × Same)

@@ -8,7 +8,7 @@ use Rattle.is_agent.specs.declared.unserved.Unserved.{Unserved}
 use Rattle.is_agent.specs.declared.unserved.Unserved.TheVariants.{Early, OtherDestination, UseCandidate, SenderInvalidated, SendersAtLimit, LocalInvalidated}
 use Rattle.is_agent.specs.Unserved.{UnservedIs}
 use Rattle.is_c_calls.specs.Codes.{OK, BAD_ADDRESS, UNPARSED}
-use Rattle.is_c_calls.specs.Held.{Held, HomeRecord}
+use Rattle.is_c_calls.specs.Held.{Held, HeldRecord}
 use Rattle.is_c_calls.specs.Packets.{Mac}
 
 -- the code of the reason; OK if there is none
@@ -32,5 +32,5 @@ AsksUnservedOn mac a None bytes code = code ≡ BAD_ADDRESS
 AsksUnservedOn mac a (Some path) bytes code = ReturnsUnserved mac a path bytes code
 
 -- `is_ice_unserved`
-abbrev pub AsksUnserved : Mac → Option Path → List ℕ → HomeRecord → ℤ → HomeRecord → Type 0
+abbrev pub AsksUnserved : Mac → Option Path → List ℕ → HeldRecord → ℤ → HeldRecord → Type 0
 AsksUnserved mac path bytes old code new = AsksUnservedOn mac old.agent path bytes code × (new ≡ old)

@@ -9,7 +9,7 @@ ghost use Rattle.is_c_calls.specs.Held.{At};
 ghost use Rattle.is_c_calls.specs.Packets.{packet_path};
 
 use crate::codes;
-use crate::home::Home;
+use crate::held::HeldAgent;
 use crate::packets::packet_path;
 use crate::slot::Slot;
 use is_c_calls::Address;
@@ -18,8 +18,8 @@ use is_rules::emitted::Path;
 use is_stun::stun::{StunMessage, StunPacket};
 use std::alloc::Global;
 
-fn accepts_bytes(home: &Home, path: Path, bytes: &[u8]) -> i32
-    ensures { ReturnsWhether (IsAcceptedOn ⟦<DefaultSha1HmacProvider as Sha1HmacProvider>⟧.mac (record_of home.now.agent) path) bytes.now result }
+fn accepts_bytes(held: &HeldAgent, path: Path, bytes: &[u8]) -> i32
+    ensures { ReturnsWhether (IsAcceptedOn ⟦<DefaultSha1HmacProvider as Sha1HmacProvider>⟧.mac (record_of held.now.agent) path) bytes.now result }
 {
     match StunMessage::parse(bytes) {
         Ok(message) => {
@@ -29,7 +29,7 @@ fn accepts_bytes(home: &Home, path: Path, bytes: &[u8]) -> i32
                 destination: path.destination,
                 message,
             };
-            codes::found_code(home.agent.accepts_packet(&packet))
+            codes::found_code(held.agent.accepts_packet(&packet))
         }
         Err(_) => codes::UNPARSED,
     }
@@ -49,11 +49,11 @@ pub extern "C" fn is_ice_accepts_packet(
         (held_by slot.old) result (held_by slot.new) }
     ensures stays { held_by slot.new ≡ held_by slot.old }
 {
-    let Some(home) = slot.home() else {
+    let Some(held) = slot.held() else {
         return codes::NO_AGENT;
     };
     match packet_path(protocol, source, destination) {
-        Some(path) => accepts_bytes(home, path, bytes),
+        Some(path) => accepts_bytes(held, path, bytes),
         None => codes::BAD_ADDRESS,
     }
 }
@@ -64,17 +64,17 @@ pub extern "C" fn is_ice_accepts_message(alloc: Global, slot: &mut Slot, bytes: 
     ensures returned { At (AsksMessage ⟦<DefaultSha1HmacProvider as Sha1HmacProvider>⟧.mac bytes.now) (held_by slot.old) result (held_by slot.new) }
     ensures stays { held_by slot.new ≡ held_by slot.old }
 {
-    let Some(home) = slot.home() else {
+    let Some(held) = slot.held() else {
         return codes::NO_AGENT;
     };
     match StunMessage::parse(bytes) {
-        Ok(message) => codes::found_code(home.agent.accepts_message(&message)),
+        Ok(message) => codes::found_code(held.agent.accepts_message(&message)),
         Err(_) => codes::UNPARSED,
     }
 }
 
-fn bytes_rejection(home: &Home, path: Path, bytes: &[u8]) -> i32
-    ensures { ReturnsReason ⟦<DefaultSha1HmacProvider as Sha1HmacProvider>⟧.mac (record_of home.now.agent) path bytes.now result }
+fn bytes_rejection(held: &HeldAgent, path: Path, bytes: &[u8]) -> i32
+    ensures { ReturnsReason ⟦<DefaultSha1HmacProvider as Sha1HmacProvider>⟧.mac (record_of held.now.agent) path bytes.now result }
 {
     match StunMessage::parse(bytes) {
         Ok(message) => {
@@ -84,7 +84,7 @@ fn bytes_rejection(home: &Home, path: Path, bytes: &[u8]) -> i32
                 destination: path.destination,
                 message,
             };
-            codes::rejection_code(home.agent.rejection(&packet))
+            codes::rejection_code(held.agent.rejection(&packet))
         }
         Err(_) => codes::UNPARSED,
     }
@@ -104,11 +104,11 @@ pub extern "C" fn is_ice_rejection(
         (held_by slot.old) result (held_by slot.new) }
     ensures stays { held_by slot.new ≡ held_by slot.old }
 {
-    let Some(home) = slot.home() else {
+    let Some(held) = slot.held() else {
         return codes::NO_AGENT;
     };
     match packet_path(protocol, source, destination) {
-        Some(path) => bytes_rejection(home, path, bytes),
+        Some(path) => bytes_rejection(held, path, bytes),
         None => codes::BAD_ADDRESS,
     }
 }

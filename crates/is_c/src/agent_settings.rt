@@ -112,18 +112,18 @@ pub extern "C" fn is_ice_set_settings(
 ) -> i32
     ensures { At (Followed in_turn (SetSettings settings.now)) (held_by slot.old) result (held_by slot.new) }
 {
-    let Some(home) = slot.home() else {
+    let Some(held) = slot.held() else {
         return codes::NO_AGENT;
     };
     if settings.max_retransmits == 0 {
         return codes::BAD_LIMIT;
     }
-    home.agent.set_settings(settings_of(settings));
-    home.max_candidates = settings.max_candidates;
-    followed(home, false, codes::OK)
+    held.agent.set_settings(settings_of(settings));
+    held.max_candidates = settings.max_candidates;
+    followed(held, false, codes::OK)
 }
 
-/// Writes what is set.
+/// Writes the agent's settings.
 #[unsafe(no_mangle)]
 pub extern "C" fn is_ice_settings(
     alloc: Global,
@@ -134,9 +134,9 @@ pub extern "C" fn is_ice_settings(
     ensures stays { held_by slot.new ≡ held_by slot.old }
     ensures without { held_by slot.old ≡ None → settings.new ≡ settings.old }
 {
-    let Some(home) = slot.home() else {
+    let Some(held) = slot.held() else {
         return codes::NO_AGENT;
     };
-    *settings = reported_settings(home.agent.settings(), home.max_candidates);
+    *settings = reported_settings(held.agent.settings(), held.max_candidates);
     codes::OK
 }

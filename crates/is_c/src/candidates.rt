@@ -4,7 +4,7 @@ ghost use Rattle.std.specs.Prelude.{◌≡◌, None};
 ghost use Rattle.is_agent.specs.View.{record_of};
 ghost use Rattle.is_c_calls.specs.Adding.{addition_index, addition_code, has_room, PutsAddition, AddsGiven, AddsLocalRead, AddsRead};
 ghost use Rattle.is_c_calls.specs.Codes.{found_code};
-ghost use Rattle.is_c.specs.Slots.{home_of, held_by};
+ghost use Rattle.is_c.specs.Slots.{held_record, held_by};
 ghost use Rattle.is_c_calls.specs.Following.{Followed, at_once};
 ghost use Rattle.is_c_calls.specs.Held.{At};
 ghost use Rattle.is_c_calls.specs.Given.{CallsGiven, CallsMade, CallsRead, Discards, CountsMade, CountsGiven};
@@ -13,7 +13,7 @@ ghost use Rattle.is_c_calls.specs.Uses.{AddLocal, AddLocalLine, AddRemote, Inval
 use crate::candidate::{line_candidate, local_candidate};
 use crate::codes;
 use crate::deadlines::followed;
-use crate::home::Home;
+use crate::held::HeldAgent;
 use crate::questions::{local_at, remote_at};
 use crate::slot::Slot;
 use is_agent::Addition;
@@ -28,29 +28,29 @@ use std::alloc::Global;
 
 /// Whether fewer local candidates are listed than the limit: whether the last place that it allows is free.
 #[tactic(auto, using(crate::proofs::RoomLemmas::room, crate::proofs::RoomLemmas::no_room))]
-fn has_local_room(home: &Home) -> bool
-    ensures { result ≡ has_room home.now.max_candidates (record_of home.now.agent).local }
+fn has_local_room(held: &HeldAgent) -> bool
+    ensures { result ≡ has_room held.now.max_candidates (record_of held.now.agent).local }
 {
-    let limit = home.max_candidates;
+    let limit = held.max_candidates;
     if limit == 0 {
         return false;
     }
-    match local_at(home, limit - 1) {
+    match local_at(held, limit - 1) {
         Some(_) => false,
         None => true,
     }
 }
 
-/// The same of remote ones.
+/// Whether fewer remote candidates are listed than the limit: whether the last place that it allows is free.
 #[tactic(auto, using(crate::proofs::RoomLemmas::room, crate::proofs::RoomLemmas::no_room))]
-fn has_remote_room(home: &Home) -> bool
-    ensures { result ≡ has_room home.now.max_candidates (record_of home.now.agent).remote }
+fn has_remote_room(held: &HeldAgent) -> bool
+    ensures { result ≡ has_room held.now.max_candidates (record_of held.now.agent).remote }
 {
-    let limit = home.max_candidates;
+    let limit = held.max_candidates;
     if limit == 0 {
         return false;
     }
-    match remote_at(home, limit - 1) {
+    match remote_at(held, limit - 1) {
         Some(_) => false,
         None => true,
     }
@@ -95,14 +95,19 @@ fn put_addition(outcome: Result<Addition, IceError>, index: &mut usize) -> i32
     }
 }
 
-fn add_local(alloc: Global, home: &mut Home, candidate: &LocalCandidate, index: &mut usize) -> i32
-    ensures { AddsGiven candidate.now index.old index.new (home_of home.old) result (home_of home.new) }
+fn add_local(
+    alloc: Global,
+    held: &mut HeldAgent,
+    candidate: &LocalCandidate,
+    index: &mut usize,
+) -> i32
+    ensures { AddsGiven candidate.now index.old index.new (held_record held.old) result (held_record held.new) }
 {
-    if !has_local_room(home) {
+    if !has_local_room(held) {
         return codes::TOO_MANY_CANDIDATES;
     }
     match local_candidate(alloc, candidate) {
-        Some(Ok(candidate)) => put_addition(add_local_listed(&mut home.agent, candidate), index),
+        Some(Ok(candidate)) => put_addition(add_local_listed(&mut held.agent, candidate), index),
         Some(Err(error)) => codes::code_of(&error),
         None => codes::BAD_ADDRESS,
     }
@@ -120,27 +125,27 @@ pub extern "C" fn is_ice_add_local(
     ensures added { At (Followed at_once (AddLocal candidate.now index.old index.new)) (held_by slot.old) result (held_by slot.new) }
     ensures without { held_by slot.old ≡ None → index.new ≡ index.old }
 {
-    let Some(home) = slot.home() else {
+    let Some(held) = slot.held() else {
         return codes::NO_AGENT;
     };
-    let code = add_local(alloc, home, candidate, index);
-    followed(home, true, code)
+    let code = add_local(alloc, held, candidate, index);
+    followed(held, true, code)
 }
 
-fn add_local_line(alloc: Global, home: &mut Home, line: &[u8], index: &mut usize) -> i32
-    ensures { AddsLocalRead line.now index.old index.new (home_of home.old) result (home_of home.new) }
+fn add_local_line(alloc: Global, held: &mut HeldAgent, line: &[u8], index: &mut usize) -> i32
+    ensures { AddsLocalRead line.now index.old index.new (held_record held.old) result (held_record held.new) }
 {
-    if !has_local_room(home) {
+    if !has_local_room(held) {
         return codes::TOO_MANY_CANDIDATES;
     }
     match line_candidate(alloc, line) {
-        Some(Ok(candidate)) => put_addition(add_local_listed(&mut home.agent, candidate), index),
+        Some(Ok(candidate)) => put_addition(add_local_listed(&mut held.agent, candidate), index),
         Some(Err(error)) => codes::code_of(&error),
         None => codes::NOT_UTF8,
     }
 }
 
-/// Adds a local candidate, by its candidate attribute, and writes the index at which it is listed, in the same way. A candidate
+/// Adds a local candidate, by its candidate attribute, and writes the index at which it is listed, as `is_ice_add_local`. A candidate
 /// attribute has no base, so packets go from its address.
 #[unsafe(no_mangle)]
 pub extern "C" fn is_ice_add_local_line(
@@ -152,28 +157,28 @@ pub extern "C" fn is_ice_add_local_line(
     ensures added { At (Followed at_once (AddLocalLine line.now index.old index.new)) (held_by slot.old) result (held_by slot.new) }
     ensures without { held_by slot.old ≡ None → index.new ≡ index.old }
 {
-    let Some(home) = slot.home() else {
+    let Some(held) = slot.held() else {
         return codes::NO_AGENT;
     };
-    let code = add_local_line(alloc, home, line, index);
-    followed(home, true, code)
+    let code = add_local_line(alloc, held, line, index);
+    followed(held, true, code)
 }
 
-fn add_remote(alloc: Global, home: &mut Home, line: &[u8], index: &mut usize) -> i32
-    ensures { AddsRead line.now index.old index.new (home_of home.old) result (home_of home.new) }
+fn add_remote(alloc: Global, held: &mut HeldAgent, line: &[u8], index: &mut usize) -> i32
+    ensures { AddsRead line.now index.old index.new (held_record held.old) result (held_record held.new) }
 {
-    if !has_remote_room(home) {
+    if !has_remote_room(held) {
         return codes::TOO_MANY_CANDIDATES;
     }
     match line_candidate(alloc, line) {
-        Some(Ok(candidate)) => put_addition(add_remote_listed(&mut home.agent, candidate), index),
+        Some(Ok(candidate)) => put_addition(add_remote_listed(&mut held.agent, candidate), index),
         Some(Err(error)) => codes::code_of(&error),
         None => codes::NOT_UTF8,
     }
 }
 
-/// Adds a remote candidate, by its candidate attribute, and writes the index at which it is listed, in the same way. Its code says why
-/// one is ignored. Fails with `TOO_MANY_CANDIDATES` in the same way.
+/// Adds a remote candidate, by its candidate attribute, and writes the index at which it is listed, as `is_ice_add_local`. Its code says
+/// why one is ignored. Fails with `TOO_MANY_CANDIDATES` if as many remote candidates are listed as the limit allows.
 #[unsafe(no_mangle)]
 pub extern "C" fn is_ice_add_remote(
     alloc: Global,
@@ -184,28 +189,28 @@ pub extern "C" fn is_ice_add_remote(
     ensures added { At (Followed at_once (AddRemote line.now index.old index.new)) (held_by slot.old) result (held_by slot.new) }
     ensures without { held_by slot.old ≡ None → index.new ≡ index.old }
 {
-    let Some(home) = slot.home() else {
+    let Some(held) = slot.held() else {
         return codes::NO_AGENT;
     };
-    let code = add_remote(alloc, home, line, index);
-    followed(home, true, code)
+    let code = add_remote(alloc, held, line, index);
+    followed(held, true, code)
 }
 
 /// Discards a candidate that equals the one that was made, or returns the code of why there is none.
-fn invalidate_made(home: &mut Home, made: Option<Result<Candidate, IceError>>, why: i32) -> i32
-    ensures { CallsMade Discards found_code why made (home_of home.old) result (home_of home.new) }
+fn invalidate_made(held: &mut HeldAgent, made: Option<Result<Candidate, IceError>>, why: i32) -> i32
+    ensures { CallsMade Discards found_code why made (held_record held.old) result (held_record held.new) }
 {
     match made {
-        Some(Ok(candidate)) => codes::found_code(home.agent.invalidate_candidate(&candidate)),
+        Some(Ok(candidate)) => codes::found_code(held.agent.invalidate_candidate(&candidate)),
         Some(Err(error)) => codes::code_of(&error),
         None => why,
     }
 }
 
-fn invalidate_local(alloc: Global, home: &mut Home, candidate: &LocalCandidate) -> i32
-    ensures { CallsGiven Discards found_code candidate.now (home_of home.old) result (home_of home.new) }
+fn invalidate_local(alloc: Global, held: &mut HeldAgent, candidate: &LocalCandidate) -> i32
+    ensures { CallsGiven Discards found_code candidate.now (held_record held.old) result (held_record held.new) }
 {
-    invalidate_made(home, local_candidate(alloc, candidate), codes::BAD_ADDRESS)
+    invalidate_made(held, local_candidate(alloc, candidate), codes::BAD_ADDRESS)
 }
 
 /// Discards a candidate that equals this one.
@@ -217,17 +222,17 @@ pub extern "C" fn is_ice_invalidate_local(
 ) -> i32
     ensures { At (Followed at_once (InvalidateLocal candidate.now)) (held_by slot.old) result (held_by slot.new) }
 {
-    let Some(home) = slot.home() else {
+    let Some(held) = slot.held() else {
         return codes::NO_AGENT;
     };
-    let code = invalidate_local(alloc, home, candidate);
-    followed(home, true, code)
+    let code = invalidate_local(alloc, held, candidate);
+    followed(held, true, code)
 }
 
-fn invalidate(alloc: Global, home: &mut Home, line: &[u8]) -> i32
-    ensures { CallsRead Discards found_code line.now (home_of home.old) result (home_of home.new) }
+fn invalidate(alloc: Global, held: &mut HeldAgent, line: &[u8]) -> i32
+    ensures { CallsRead Discards found_code line.now (held_record held.old) result (held_record held.new) }
 {
-    invalidate_made(home, line_candidate(alloc, line), codes::NOT_UTF8)
+    invalidate_made(held, line_candidate(alloc, line), codes::NOT_UTF8)
 }
 
 /// Discards a candidate that equals the one of the candidate attribute.
@@ -235,20 +240,24 @@ fn invalidate(alloc: Global, home: &mut Home, line: &[u8]) -> i32
 pub extern "C" fn is_ice_invalidate(alloc: Global, slot: &mut Slot, line: &[u8]) -> i32
     ensures { At (Followed at_once (Invalidate line.now)) (held_by slot.old) result (held_by slot.new) }
 {
-    let Some(home) = slot.home() else {
+    let Some(held) = slot.held() else {
         return codes::NO_AGENT;
     };
-    let code = invalidate(alloc, home, line);
-    followed(home, true, code)
+    let code = invalidate(alloc, held, line);
+    followed(held, true, code)
 }
 
 /// Counts the local candidates that are alike, or returns the code of why there is no candidate.
-fn count_made(home: &Home, made: &Option<Result<Candidate, IceError>>, count: &mut usize) -> i32
-    ensures { CountsMade made.now count.old count.new (home_of home.now) result (home_of home.now) }
+fn count_made(
+    held: &HeldAgent,
+    made: &Option<Result<Candidate, IceError>>,
+    count: &mut usize,
+) -> i32
+    ensures { CountsMade made.now count.old count.new (held_record held.now) result (held_record held.now) }
 {
     match made {
         Some(Ok(candidate)) => {
-            *count = alike_local(&home.agent, candidate);
+            *count = alike_local(&held.agent, candidate);
             codes::OK
         }
         Some(Err(error)) => codes::code_of(error),
@@ -268,8 +277,8 @@ pub extern "C" fn is_ice_alike_local(
     ensures stays { held_by slot.new ≡ held_by slot.old }
     ensures without { held_by slot.old ≡ None → count.new ≡ count.old }
 {
-    let Some(home) = slot.home() else {
+    let Some(held) = slot.held() else {
         return codes::NO_AGENT;
     };
-    count_made(home, &local_candidate(alloc, candidate), count)
+    count_made(held, &local_candidate(alloc, candidate), count)
 }

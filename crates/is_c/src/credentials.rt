@@ -3,14 +3,14 @@
 ghost use Rattle.std.specs.Prelude.{◌≡◌, None, IfOk};
 ghost use Rattle.is_c_calls.specs.Credentials.{MakesCreds, CallsWith, drawn, PutsBoth, Draws, Returns};
 ghost use Rattle.is_rules.specs.Credentials.{SetsRemote};
-ghost use Rattle.is_c.specs.Slots.{home_of, held_by};
+ghost use Rattle.is_c.specs.Slots.{held_record, held_by};
 ghost use Rattle.is_c_calls.specs.Following.{Followed, at_once};
 ghost use Rattle.is_c_calls.specs.Held.{At};
 ghost use Rattle.is_c_calls.specs.Uses.{Does, SetLocalCredentials, SetRemoteCredentials};
 
 use crate::codes;
 use crate::deadlines::followed;
-use crate::home::Home;
+use crate::held::HeldAgent;
 use crate::random::Given;
 use crate::slot::Slot;
 use crate::text::put;
@@ -41,20 +41,20 @@ pub extern "C" fn is_ice_set_local_credentials(
 ) -> i32
     ensures { At (Does (SetLocalCredentials ufrag.now pass.now)) (held_by slot.old) result (held_by slot.new) }
 {
-    let Some(home) = slot.home() else {
+    let Some(held) = slot.held() else {
         return codes::NO_AGENT;
     };
     match creds_of(alloc, ufrag, pass) {
-        Ok(creds) => codes::done_code(home.agent.set_local_credentials(creds)),
+        Ok(creds) => codes::done_code(held.agent.set_local_credentials(creds)),
         Err(code) => code,
     }
 }
 
-fn set_remote(alloc: Global, home: &mut Home, ufrag: &[u8], pass: &[u8]) -> i32
-    ensures { CallsWith SetsRemote ufrag.now pass.now (home_of home.old) result (home_of home.new) }
+fn set_remote(alloc: Global, held: &mut HeldAgent, ufrag: &[u8], pass: &[u8]) -> i32
+    ensures { CallsWith SetsRemote ufrag.now pass.now (held_record held.old) result (held_record held.new) }
 {
     match creds_of(alloc, ufrag, pass) {
-        Ok(creds) => codes::done_code(home.agent.set_remote_credentials(creds)),
+        Ok(creds) => codes::done_code(held.agent.set_remote_credentials(creds)),
         Err(code) => code,
     }
 }
@@ -69,11 +69,11 @@ pub extern "C" fn is_ice_set_remote_credentials(
 ) -> i32
     ensures { At (Followed at_once (SetRemoteCredentials ufrag.now pass.now)) (held_by slot.old) result (held_by slot.new) }
 {
-    let Some(home) = slot.home() else {
+    let Some(held) = slot.held() else {
         return codes::NO_AGENT;
     };
-    let code = set_remote(alloc, home, ufrag, pass);
-    followed(home, true, code)
+    let code = set_remote(alloc, held, ufrag, pass);
+    followed(held, true, code)
 }
 
 // ---- random credentials
@@ -136,10 +136,10 @@ pub extern "C" fn is_ice_local_ufrag(
     ensures stays { held_by slot.new ≡ held_by slot.old }
     ensures without { held_by slot.old ≡ None → (buffer.new ≡ buffer.old) × (length.new ≡ length.old) }
 {
-    let Some(home) = slot.home() else {
+    let Some(held) = slot.held() else {
         return codes::NO_AGENT;
     };
-    let text = home.agent.local_credentials().ufrag.as_str();
+    let text = held.agent.local_credentials().ufrag.as_str();
     put(text.as_bytes(), buffer, length)
 }
 
@@ -155,9 +155,9 @@ pub extern "C" fn is_ice_local_pass(
     ensures stays { held_by slot.new ≡ held_by slot.old }
     ensures without { held_by slot.old ≡ None → (buffer.new ≡ buffer.old) × (length.new ≡ length.old) }
 {
-    let Some(home) = slot.home() else {
+    let Some(held) = slot.held() else {
         return codes::NO_AGENT;
     };
-    let text = home.agent.local_credentials().pass.as_str();
+    let text = held.agent.local_credentials().pass.as_str();
     put(text.as_bytes(), buffer, length)
 }

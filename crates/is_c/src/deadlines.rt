@@ -8,20 +8,20 @@ ghost use Rattle.is_agent.specs.View.{record_of};
 ghost use Rattle.is_c_calls.specs.Codes.{OK};
 ghost use Rattle.is_c_calls.specs.Deadlines.{time_to_call, earlier, moved, FixesTimes};
 ghost use Rattle.is_c_calls.specs.Following.{Follows};
-ghost use Rattle.is_c.specs.Slots.{home_of};
+ghost use Rattle.is_c.specs.Slots.{held_record};
 
 use crate::codes;
-use crate::home::Home;
+use crate::held::HeldAgent;
 use is_proto::Instant;
 
 /// When the agent has something to do next; soon: with credit 5 ms after its last call at the latest.
-fn time_to_call(home: &Home, soon: bool) -> Option<Instant>
-    ensures { option_map (λ at. at.0) result ≡ time_to_call soon (record_of home.now.agent) }
+fn time_to_call(held: &HeldAgent, soon: bool) -> Option<Instant>
+    ensures { option_map (λ at. at.0) result ≡ time_to_call soon (record_of held.now.agent) }
 {
     if soon {
-        home.agent.next_call_soon()
+        held.agent.next_call_soon()
     } else {
-        home.agent.next_call()
+        held.agent.next_call()
     }
 }
 
@@ -43,23 +43,23 @@ fn moved(settled: bool, kept: Option<Instant>, next: Option<Instant>) -> Option<
 }
 
 /// Fixes the due times, and moves the deadline.
-fn fix_times(home: &mut Home, soon: bool)
-    ensures { FixesTimes soon (home_of home.old) OK (home_of home.new) }
+fn fix_times(held: &mut HeldAgent, soon: bool)
+    ensures { FixesTimes soon (held_record held.old) OK (held_record held.new) }
 {
-    let next = time_to_call(home, soon);
-    let settled = home.agent.is_settled();
-    home.agent.poll_timeout();
-    home.deadline = moved(settled, home.deadline, next);
+    let next = time_to_call(held, soon);
+    let settled = held.agent.is_settled();
+    held.agent.poll_timeout();
+    held.deadline = moved(settled, held.deadline, next);
 }
 
 /// With the profile `Modern`, fixes the due times after a call that returned OK. Returns the code of that call.
-pub(crate) fn followed(home: &mut Home, soon: bool, code: i32) -> i32
+pub(crate) fn followed(held: &mut HeldAgent, soon: bool, code: i32) -> i32
     ensures code { result ≡ code }
-    ensures fixed { Follows soon code (home_of home.old) (home_of home.new) }
-    ensures others { result ≢ OK → home_of home.new ≡ home_of home.old }
+    ensures fixed { Follows soon code (held_record held.old) (held_record held.new) }
+    ensures others { result ≢ OK → held_record held.new ≡ held_record held.old }
 {
-    if code == codes::OK && home.agent.profile().is_modern() {
-        fix_times(home, soon);
+    if code == codes::OK && held.agent.profile().is_modern() {
+        fix_times(held, soon);
     }
     code
 }

@@ -117,7 +117,7 @@ fn put_fields(
     }
 }
 
-/// Writes them of a candidate that was made, or returns the code of why there is none.
+/// Writes the candidate attribute and the fields of a candidate that was made, or returns the code of why there is none.
 pub(crate) fn put_made_fields(
     alloc: Global,
     made: &Option<Result<Candidate, IceError>>,
@@ -181,10 +181,10 @@ pub extern "C" fn is_ice_local_fields(
     ensures stays { held_by slot.new ≡ held_by slot.old }
     ensures without { held_by slot.old ≡ None → (buffer.new ≡ buffer.old) × (length.new ≡ length.old) × (fields.new ≡ fields.old) }
 {
-    let Some(home) = slot.home() else {
+    let Some(held) = slot.held() else {
         return codes::NO_AGENT;
     };
-    put_fields(alloc, local_at(home, index), buffer, length, fields)
+    put_fields(alloc, local_at(held, index), buffer, length, fields)
 }
 
 /// Writes the candidate attribute of a remote candidate, with its fields. Candidates are counted from 0, without the discarded
@@ -203,8 +203,8 @@ pub extern "C" fn is_ice_remote_fields(
     ensures stays { held_by slot.new ≡ held_by slot.old }
     ensures without { held_by slot.old ≡ None → (buffer.new ≡ buffer.old) × (length.new ≡ length.old) × (fields.new ≡ fields.old) }
 {
-    let Some(home) = slot.home() else {
+    let Some(held) = slot.held() else {
         return codes::NO_AGENT;
     };
-    put_fields(alloc, remote_at(home, index), buffer, length, fields)
+    put_fields(alloc, remote_at(held, index), buffer, length, fields)
 }

@@ -24,7 +24,7 @@ fn has_ice_chars(text: &[u8]) -> bool
     text.iter().all(|byte| is_ice_char(*byte))
 }
 
-/// Whether the text is of so many of these characters.
+/// Whether the text has so many bytes, each a letter, a digit, '+' or '/'.
 fn is_token(least: usize, most: usize, text: &[u8]) -> bool
     ensures { result ≡ is_token least most text.now }
 {

@@ -86,7 +86,7 @@ fn flat_candidate(alloc: Global, text: &str) -> Result<Candidate, IceError>
     with_word(alloc, text_candidate(alloc, text))
 }
 
-/// The same of bytes, if they are UTF-8.
+/// The candidate of a JSON text in bytes, read as `flat_candidate` does. None: they are not UTF-8.
 fn info_candidate(alloc: Global, json: &[u8]) -> Option<Result<Candidate, IceError>>
     ensures { ReadsInfoBytes json.now result }
 {
@@ -110,7 +110,7 @@ pub extern "C" fn is_ice_line_from_json(
     put_made(alloc, &made, codes::NOT_UTF8, buffer, length)
 }
 
-/// Writes the same attribute with its fields.
+/// Writes the candidate attribute of the candidate of a JSON text, with its fields.
 #[unsafe(no_mangle)]
 pub extern "C" fn is_ice_json_fields(
     alloc: Global,

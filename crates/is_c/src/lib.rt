@@ -17,7 +17,7 @@ mod fields;
 mod from_fields;
 mod grammar;
 mod handle;
-mod home;
+mod held;
 mod infos;
 mod lines;
 mod log_lines;
@@ -50,7 +50,7 @@ mod unserved;
 
 pub use fields::Fields;
 pub use handle::{Handle, Opaque};
-pub use home::Home;
+pub use held::HeldAgent;
 pub use is_c_calls::{
     Address, AgentSettings, Event, KindPreferences, LocalCandidate, Packet, Preference,
     PreferenceTable,
@@ -60,7 +60,7 @@ pub use pairs::Pair;
 pub use paths::MediaPath;
 pub use questions::{Nominated, Stats, Status};
 pub use removed::Removed;
-pub use servers::{Arrival, Event as ServerEvent, ServersHome, ServersSlot, Url};
+pub use servers::{Arrival, Event as ServerEvent, HeldServers, ServersSlot, Url};
 pub use slot::Slot;
 pub use stun_client::{Response, Transaction};
 pub use stun_message::{Message, Number};

@@ -130,7 +130,7 @@ pub extern "C" fn is_ice_line_with_ufrag(
     put_made(alloc, &made, codes::NOT_UTF8, buffer, length)
 }
 
-/// Writes the same attribute with its fields.
+/// Writes the candidate attribute again, with this username fragment in place of its own, and its fields.
 #[unsafe(no_mangle)]
 pub extern "C" fn is_ice_line_with_ufrag_fields(
     alloc: Global,
@@ -178,7 +178,7 @@ pub extern "C" fn is_ice_candidate_preference(
     put_preference(&made, codes::BAD_ADDRESS, same_kind, preference)
 }
 
-/// Writes the same of the candidate of a candidate attribute.
+/// Writes the default local preference of the candidate of a candidate attribute, after `same_kind` others of its kind and IP version.
 #[unsafe(no_mangle)]
 pub extern "C" fn is_ice_line_preference(
     alloc: Global,

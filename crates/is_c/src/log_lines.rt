@@ -13,7 +13,7 @@ ghost use Rattle.is_c_calls.specs.Packets.{packet_path};
 
 use crate::address::socket_of;
 use crate::codes;
-use crate::home::Home;
+use crate::held::HeldAgent;
 use crate::log_texts::{Kind, Reason, Said, kind_line, line};
 use crate::packets::packet_path;
 use crate::slot::Slot;
@@ -26,10 +26,16 @@ use is_rules::emitted::Path;
 use is_stun::stun::{StunMessage, StunPacket};
 use std::alloc::Global;
 
-fn put_said(alloc: Global, home: &Home, said: &Said, buffer: &mut [u8], length: &mut usize) -> i32
-    ensures { PutsSaid (record_of home.now.agent).local_creds.ufrag said.now buffer.old length.old result buffer.new length.new }
+fn put_said(
+    alloc: Global,
+    held: &HeldAgent,
+    said: &Said,
+    buffer: &mut [u8],
+    length: &mut usize,
+) -> i32
+    ensures { PutsSaid (record_of held.now.agent).local_creds.ufrag said.now buffer.old length.old result buffer.new length.new }
 {
-    match line(alloc, home, said) {
+    match line(alloc, held, said) {
         Ok(text) => put(text.as_bytes(), buffer, length),
         Err(_) => codes::OUT_OF_MEMORY,
     }
@@ -78,11 +84,11 @@ pub extern "C" fn is_ice_event_line(
     ensures stays { held_by slot.new ≡ held_by slot.old }
     ensures without { held_by slot.old ≡ None → (buffer.new ≡ buffer.old) × (length.new ≡ length.old) }
 {
-    let Some(home) = slot.home() else {
+    let Some(held) = slot.held() else {
         return codes::NO_AGENT;
     };
     match event_said(event) {
-        Some(said) => put_said(alloc, home, &said, buffer, length),
+        Some(said) => put_said(alloc, held, &said, buffer, length),
         None => codes::BAD_ADDRESS,
     }
 }
@@ -91,17 +97,17 @@ pub extern "C" fn is_ice_event_line(
 
 fn put_removed(
     alloc: Global,
-    home: &Home,
+    held: &HeldAgent,
     found: Option<&RemovedPair>,
     buffer: &mut [u8],
     length: &mut usize,
 ) -> i32
-    ensures { PutsRemoved (record_of home.now.agent) (option_copied found.entry) buffer.old length.old result buffer.new length.new }
+    ensures { PutsRemoved (record_of held.now.agent) (option_copied found.entry) buffer.old length.old result buffer.new length.new }
 {
     match found {
         Some(pair) => {
-            let said = Said::Loses(*pair, home.agent.removed_pair_path(pair));
-            put_said(alloc, home, &said, buffer, length)
+            let said = Said::Loses(*pair, held.agent.removed_pair_path(pair));
+            put_said(alloc, held, &said, buffer, length)
         }
         None => codes::NOTHING,
     }
@@ -122,10 +128,10 @@ pub extern "C" fn is_ice_removed_line(
     ensures kept { removed_by slot.new ≡ removed_by slot.old }
     ensures without { held_by slot.old ≡ None → (buffer.new ≡ buffer.old) × (length.new ≡ length.old) }
 {
-    let Some(home) = slot.home() else {
+    let Some(held) = slot.held() else {
         return codes::NO_AGENT;
     };
-    put_removed(alloc, home, home.agent.removed_pair(index), buffer, length)
+    put_removed(alloc, held, held.agent.removed_pair(index), buffer, length)
 }
 
 // ---- datagrams
@@ -136,7 +142,7 @@ fn error_of(message: &StunMessage<'_>) -> Option<u16>
     Some(message.error_code()?.0)
 }
 
-/// What kind of message the bytes are. None: they are none.
+/// What kind of message the bytes are. None: they are no message.
 fn kind_of(bytes: &[u8]) -> Option<Kind>
     ensures { IsKind bytes.now result }
 {
@@ -160,8 +166,8 @@ fn reason_of(rejected: Option<Rejection>, left: Option<Unserved>) -> Option<Reas
 }
 
 /// Why the agent would not accept the datagram, or would send no response to it.
-fn reason_in(home: &Home, path: Path, bytes: &[u8]) -> Option<Reason>
-    ensures { IsReason ⟦<DefaultSha1HmacProvider as Sha1HmacProvider>⟧.mac (record_of home.now.agent) path bytes.now result }
+fn reason_in(held: &HeldAgent, path: Path, bytes: &[u8]) -> Option<Reason>
+    ensures { IsReason ⟦<DefaultSha1HmacProvider as Sha1HmacProvider>⟧.mac (record_of held.now.agent) path bytes.now result }
 {
     match StunMessage::parse(bytes) {
         Ok(message) => {
@@ -171,7 +177,7 @@ fn reason_in(home: &Home, path: Path, bytes: &[u8]) -> Option<Reason>
                 destination: path.destination,
                 message,
             };
-            reason_of(home.agent.rejection(&packet), home.agent.unserved(&packet))
+            reason_of(held.agent.rejection(&packet), held.agent.unserved(&packet))
         }
         Err(_) => None,
     }
@@ -179,19 +185,19 @@ fn reason_in(home: &Home, path: Path, bytes: &[u8]) -> Option<Reason>
 
 fn put_packet(
     alloc: Global,
-    home: &Home,
+    held: &HeldAgent,
     path: Option<Path>,
     bytes: &[u8],
     buffer: &mut [u8],
     length: &mut usize,
 ) -> i32
-    ensures { PutsPacket ⟦<DefaultSha1HmacProvider as Sha1HmacProvider>⟧.mac (record_of home.now.agent) path bytes.now buffer.old length.old result
+    ensures { PutsPacket ⟦<DefaultSha1HmacProvider as Sha1HmacProvider>⟧.mac (record_of held.now.agent) path bytes.now buffer.old length.old result
         buffer.new length.new }
 {
     match path {
         Some(path) => {
-            let said = Said::Leaves(kind_of(bytes), reason_in(home, path, bytes), path);
-            put_said(alloc, home, &said, buffer, length)
+            let said = Said::Leaves(kind_of(bytes), reason_in(held, path, bytes), path);
+            put_said(alloc, held, &said, buffer, length)
         }
         None => codes::BAD_ADDRESS,
     }
@@ -214,12 +220,12 @@ pub extern "C" fn is_ice_packet_line(
     ensures stays { held_by slot.new ≡ held_by slot.old }
     ensures without { held_by slot.old ≡ None → (buffer.new ≡ buffer.old) × (length.new ≡ length.old) }
 {
-    let Some(home) = slot.home() else {
+    let Some(held) = slot.held() else {
         return codes::NO_AGENT;
     };
     put_packet(
         alloc,
-        home,
+        held,
         packet_path(protocol, source, destination),
         bytes,
         buffer,
@@ -229,17 +235,17 @@ pub extern "C" fn is_ice_packet_line(
 
 fn put_kind(
     alloc: Global,
-    home: &Home,
+    held: &HeldAgent,
     path: Option<Path>,
     bytes: &[u8],
     buffer: &mut [u8],
     length: &mut usize,
 ) -> i32
-    ensures { PutsKind ⟦<DefaultSha1HmacProvider as Sha1HmacProvider>⟧.mac (record_of home.now.agent) path bytes.now buffer.old length.old result
+    ensures { PutsKind ⟦<DefaultSha1HmacProvider as Sha1HmacProvider>⟧.mac (record_of held.now.agent) path bytes.now buffer.old length.old result
         buffer.new length.new }
 {
     match path {
-        Some(path) => match kind_line(alloc, kind_of(bytes), reason_in(home, path, bytes)) {
+        Some(path) => match kind_line(alloc, kind_of(bytes), reason_in(held, path, bytes)) {
             Ok(text) => put(text.as_bytes(), buffer, length),
             Err(_) => codes::OUT_OF_MEMORY,
         },
@@ -247,7 +253,7 @@ fn put_kind(
     }
 }
 
-/// Writes the kind of message and the reason of that line: under this text a program counts datagrams.
+/// Writes the kind of message and the reason, as `is_ice_packet_line` has them: under this text a program counts datagrams.
 #[unsafe(no_mangle)]
 pub extern "C" fn is_ice_packet_kind(
     alloc: Global,
@@ -264,12 +270,12 @@ pub extern "C" fn is_ice_packet_kind(
     ensures stays { held_by slot.new ≡ held_by slot.old }
     ensures without { held_by slot.old ≡ None → (buffer.new ≡ buffer.old) × (length.new ≡ length.old) }
 {
-    let Some(home) = slot.home() else {
+    let Some(held) = slot.held() else {
         return codes::NO_AGENT;
     };
     put_kind(
         alloc,
-        home,
+        held,
         packet_path(protocol, source, destination),
         bytes,
         buffer,

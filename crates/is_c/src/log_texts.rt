@@ -5,7 +5,7 @@ ghost use Rattle.is_agent.specs.View.{record_of};
 ghost use Rattle.is_c.specs.LogTexts.{state_word, check_word, removal_word, method_word, class_word};
 ghost use Rattle.is_c.specs.LogTexts.{way_text, path_text, error_text, sent_text, answered_text, counts_text, pair_text, code_text, kind_text, reason_text, fate_text, said_text, line_text};
 
-use crate::home::Home;
+use crate::held::HeldAgent;
 use is_agent::removed::{Removal, RemovedPair};
 use is_agent::{IceConnectionState, Rejection, Unserved};
 use is_pair::pair::CheckState;
@@ -46,7 +46,7 @@ pub enum Said {
     Selects(SocketAddr, SocketAddr),
     /// Checks on the selected path have no responses now.
     Silent(SocketAddr, SocketAddr),
-    /// One has a response again.
+    /// A check on the selected path has a response again.
     Heard(SocketAddr, SocketAddr),
     /// A pair was removed. Its path is known while its candidates are listed.
     Loses(RemovedPair, Option<Path>),
@@ -328,10 +328,10 @@ impl fmt::Display for Said {
 }
 
 /// The line: the local username fragment, a colon, and what is said.
-pub fn line(alloc: Global, home: &Home, said: &Said) -> Result<String, AllocError>
-    ensures { IfOk result (λ text. string_bytes text ≡ line_text (record_of home.now.agent).local_creds.ufrag said.now) }
+pub fn line(alloc: Global, held: &HeldAgent, said: &Said) -> Result<String, AllocError>
+    ensures { IfOk result (λ text. string_bytes text ≡ line_text (record_of held.now.agent).local_creds.ufrag said.now) }
 {
-    let ufrag = home.agent.local_credentials().ufrag.as_str();
+    let ufrag = held.agent.local_credentials().ufrag.as_str();
     let mut text = String::from_str(alloc, ufrag)?;
     write!(text, ": {said}")?;
     Ok(text)

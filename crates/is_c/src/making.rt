@@ -6,15 +6,15 @@ ghost use Rattle.std.specs.Prelude.{◌≡◌, None, false, IfOk, IfErr, MatchBo
 ghost use Rattle.std.specs.Ptr.{lies_at, if_non_null};
 ghost use Rattle.is_rules.specs.Fitting.{are_too_long};
 ghost use Rattle.is_c_calls.specs.Codes.{OUT_OF_MEMORY, CREDENTIALS_TOO_LONG};
-ghost use Rattle.is_c_calls.specs.Making.{fresh_home, MakesAt};
+ghost use Rattle.is_c_calls.specs.Making.{fresh_held, MakesAt};
 ghost use Rattle.is_c.specs.Freeing.{freed_at};
 ghost use Rattle.is_c.specs.contracts.slot.Slot.{the_row as slot_row};
-ghost use Rattle.is_c.specs.Slots.{home_of, held_by};
+ghost use Rattle.is_c.specs.Slots.{held_record, held_by};
 ghost use Rattle.is_c_calls.specs.Limits.{CANDIDATE_LIMIT};
 
 use crate::codes;
 use crate::credentials::creds_of;
-use crate::home::Home;
+use crate::held::HeldAgent;
 use crate::slot::Slot;
 use is_agent::{Agent, IceCreds};
 use is_monitor::{FailedSends, Monitor};
@@ -32,8 +32,8 @@ pub(crate) fn candidate_limit() -> usize
 /// After what time the selected path counts as silent, until another one is set.
 const SILENCE: Duration = Duration(5_000_000_000);
 
-fn boxed_agent(alloc: Global, creds: IceCreds, tie_breaker: u64) -> Result<Box<Home>, i32>
-    ensures made { IfOk result (λ home. (are_too_long creds None ≡ false) × (home_of home.value ≡ fresh_home creds tie_breaker)) }
+fn boxed_agent(alloc: Global, creds: IceCreds, tie_breaker: u64) -> Result<Box<HeldAgent>, i32>
+    ensures made { IfOk result (λ held. (are_too_long creds None ≡ false) × (held_record held.value ≡ fresh_held creds tie_breaker)) }
     ensures rejected { IfErr result (λ why. MatchBool (are_too_long creds None) (why ≡ CREDENTIALS_TOO_LONG) (why ≡ OUT_OF_MEMORY)) }
 {
     let mut agent = match Agent::new(alloc, creds, tie_breaker) {
@@ -41,7 +41,7 @@ fn boxed_agent(alloc: Global, creds: IceCreds, tie_breaker: u64) -> Result<Box<H
         Err(error) => return Err(codes::code_of(&error)),
     };
     agent.set_settings(Settings::modern());
-    let home = Home {
+    let held = HeldAgent {
         agent,
         waiting: None,
         max_candidates: candidate_limit(),
@@ -49,8 +49,8 @@ fn boxed_agent(alloc: Global, creds: IceCreds, tie_breaker: u64) -> Result<Box<H
         monitor: Monitor::new(Some(SILENCE)),
         failures: FailedSends::new(alloc),
     };
-    match Box::new(alloc, home) {
-        Ok(home) => Ok(home),
+    match Box::new(alloc, held) {
+        Ok(held) => Ok(held),
         Err(_) => Err(codes::OUT_OF_MEMORY),
     }
 }
@@ -74,8 +74,8 @@ pub extern "C" fn is_ice_agent_new(
         Err(code) => return code,
     };
     match boxed_agent(alloc, creds, tie_breaker) {
-        Ok(home) => {
-            *slot = Slot::of(home);
+        Ok(held) => {
+            *slot = Slot::of(held);
             codes::OK
         }
         Err(code) => code,
@@ -92,9 +92,9 @@ pub(crate) fn free(alloc: Global, slot: &mut Slot)
 /// Frees the agent of a slot, if it holds one. At a null pointer it does nothing, as `free` of C does.
 #[unsafe(no_mangle)]
 pub unsafe extern "C" fn is_ice_agent_free(alloc: Global, slot: *mut Slot)
-    ghost held: { Slot }
+    ghost before: { Slot }
     requires testable { Testable slot }
-    requires* memory { sem 𝓛 (if_non_null slot (lies_at slot_row full_share slot held)) }
+    requires* memory { sem 𝓛 (if_non_null slot (lies_at slot_row full_share slot before)) }
     ensures* freed { sem 𝓛 (if_non_null slot (freed_at slot)) }
 {
     if slot.is_null() {

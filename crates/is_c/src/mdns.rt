@@ -134,7 +134,7 @@ pub extern "C" fn is_ice_line_with_address(
     put_made(alloc, &made, codes::NOT_UTF8, buffer, length)
 }
 
-/// Writes the same attribute with its fields.
+/// Writes the candidate attribute again, with this IP address in place of its own, or of the name that it has there, and its fields.
 #[unsafe(no_mangle)]
 pub extern "C" fn is_ice_line_with_address_fields(
     alloc: Global,

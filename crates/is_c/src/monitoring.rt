@@ -6,12 +6,12 @@ ghost use Rattle.is_c_calls.specs.Monitoring.{threshold_of, NotesFailure, NotesO
 ghost use Rattle.is_c_calls.specs.Packets.{packet_path};
 ghost use Rattle.is_c_calls.specs.Uses.{Does, SetSilence, SendFailed};
 ghost use Rattle.is_c.specs.Monitoring.{ReturnsMediaPath, ReturnsTakes, ReturnsSilentSince, CountsFailures, IsFailure, ReturnsFailure};
-ghost use Rattle.is_c.specs.Slots.{home_of, held_by};
+ghost use Rattle.is_c.specs.Slots.{held_record, held_by};
 
 use crate::address::{address_of, number_of, socket_of};
 use crate::clock::agent_time;
 use crate::codes;
-use crate::home::Home;
+use crate::held::HeldAgent;
 use crate::packets::{packet_path, write_time};
 use crate::paths::{MediaPath, reported_path};
 use crate::slot::Slot;
@@ -36,10 +36,10 @@ pub extern "C" fn is_ice_path_for_media(
     ensures stays { held_by slot.new ≡ held_by slot.old }
     ensures without { held_by slot.old ≡ None → path.new ≡ path.old }
 {
-    let Some(home) = slot.home() else {
+    let Some(held) = slot.held() else {
         return codes::NO_AGENT;
     };
-    match home.monitor.media_path(&home.agent, agent_time(now)) {
+    match held.monitor.media_path(&held.agent, agent_time(now)) {
         Some(found) => {
             *path = reported_path(found);
             codes::OK
@@ -59,13 +59,13 @@ pub extern "C" fn is_ice_takes_media_from(
     ensures returned { At (ReturnsTakes now source.now) (held_by slot.old) result (held_by slot.new) }
     ensures stays { held_by slot.new ≡ held_by slot.old }
 {
-    let Some(home) = slot.home() else {
+    let Some(held) = slot.held() else {
         return codes::NO_AGENT;
     };
     match socket_of(source) {
         Some(source) => codes::found_code(
-            home.monitor
-                .takes_media_from(&home.agent, agent_time(now), source),
+            held.monitor
+                .takes_media_from(&held.agent, agent_time(now), source),
         ),
         None => codes::BAD_ADDRESS,
     }
@@ -80,10 +80,10 @@ pub extern "C" fn is_ice_silent_since(alloc: Global, slot: &mut Slot, since: &mu
     ensures stays { held_by slot.new ≡ held_by slot.old }
     ensures without { held_by slot.old ≡ None → since.new ≡ since.old }
 {
-    let Some(home) = slot.home() else {
+    let Some(held) = slot.held() else {
         return codes::NO_AGENT;
     };
-    write_time(home.monitor.silent_since(), since)
+    write_time(held.monitor.silent_since(), since)
 }
 
 fn threshold_of(nanoseconds: u64) -> Option<Duration>
@@ -101,10 +101,10 @@ fn threshold_of(nanoseconds: u64) -> Option<Duration>
 pub extern "C" fn is_ice_set_silence(alloc: Global, slot: &mut Slot, nanoseconds: u64) -> i32
     ensures { At (Does (SetSilence nanoseconds)) (held_by slot.old) result (held_by slot.new) }
 {
-    let Some(home) = slot.home() else {
+    let Some(held) = slot.held() else {
         return codes::NO_AGENT;
     };
-    home.monitor.set_threshold(threshold_of(nanoseconds));
+    held.monitor.set_threshold(threshold_of(nanoseconds));
     codes::OK
 }
 
@@ -116,26 +116,26 @@ pub extern "C" fn is_ice_set_silence(alloc: Global, slot: &mut Slot, nanoseconds
 pub struct FailedSend {
     pub source: Address,
     pub destination: Address,
-    /// How many packets.
+    /// How many packets could not be sent.
     pub times: u64,
     pub reason: u32,
     pub protocol: u8,
 }
 
-fn note(home: &mut Home, path: Path, reason: u32) -> i32
-    ensures { NotesOn path reason (home_of home.old) result (home_of home.new) }
+fn note(held: &mut HeldAgent, path: Path, reason: u32) -> i32
+    ensures { NotesOn path reason (held_record held.old) result (held_record held.new) }
 {
-    match home.failures.note(path, reason) {
+    match held.failures.note(path, reason) {
         Ok(()) => codes::OK,
         Err(_) => codes::OUT_OF_MEMORY,
     }
 }
 
-fn note_on(home: &mut Home, path: Option<Path>, reason: u32) -> i32
-    ensures { NotesFailure path reason (home_of home.old) result (home_of home.new) }
+fn note_on(held: &mut HeldAgent, path: Option<Path>, reason: u32) -> i32
+    ensures { NotesFailure path reason (held_record held.old) result (held_record held.new) }
 {
     match path {
-        Some(path) => note(home, path, reason),
+        Some(path) => note(held, path, reason),
         None => codes::BAD_ADDRESS,
     }
 }
@@ -152,10 +152,10 @@ pub extern "C" fn is_ice_send_failed(
 ) -> i32
     ensures { At (Does (SendFailed protocol source.now destination.now reason)) (held_by slot.old) result (held_by slot.new) }
 {
-    let Some(home) = slot.home() else {
+    let Some(held) = slot.held() else {
         return codes::NO_AGENT;
     };
-    note_on(home, packet_path(protocol, source, destination), reason)
+    note_on(held, packet_path(protocol, source, destination), reason)
 }
 
 /// Writes how many failures are kept since the last ICE restart.
@@ -165,10 +165,10 @@ pub extern "C" fn is_ice_failed_send_count(alloc: Global, slot: &mut Slot, count
     ensures stays { held_by slot.new ≡ held_by slot.old }
     ensures without { held_by slot.old ≡ None → count.new ≡ count.old }
 {
-    let Some(home) = slot.home() else {
+    let Some(held) = slot.held() else {
         return codes::NO_AGENT;
     };
-    *count = home.failures.len();
+    *count = held.failures.len();
     codes::OK
 }
 
@@ -196,10 +196,10 @@ pub extern "C" fn is_ice_failed_send_at(
     ensures stays { held_by slot.new ≡ held_by slot.old }
     ensures without { held_by slot.old ≡ None → failed.new ≡ failed.old }
 {
-    let Some(home) = slot.home() else {
+    let Some(held) = slot.held() else {
         return codes::NO_AGENT;
     };
-    match home.failures.get(index) {
+    match held.failures.get(index) {
         Some(found) => {
             *failed = reported_failure(found);
             codes::OK

@@ -10,7 +10,7 @@ ghost use Rattle.is_c.specs.Pairs.{check_number, IsPair, ReturnsOfPair, ReturnsP
 use crate::candidate::line_candidate;
 use crate::clock::caller_time;
 use crate::codes;
-use crate::home::Home;
+use crate::held::HeldAgent;
 use crate::slot::Slot;
 use is_pair::pair::{CandidatePair, CheckState};
 use std::alloc::Global;
@@ -23,23 +23,23 @@ pub struct Pair {
     pub local: usize,
     pub remote: usize,
     pub priority: u64,
-    /// The number of checks that were sent on it, and of checks of the other agent that arrived on it.
+    /// The number of checks that were sent on the pair, and of checks of the other agent that arrived on it.
     pub checks_sent: u64,
     pub requests_received: u64,
-    /// The number of responses to its checks.
+    /// The number of responses to the pair's checks.
     pub responses: u64,
-    /// The sum of the round-trip times of its checks.
+    /// The sum of the round-trip times of the pair's checks.
     pub total_rtt: u64,
     /// The last round-trip time.
     pub rtt: u64,
     /// When the last check of the other agent arrived.
     pub last_request: u64,
-    /// When its next check is due.
+    /// When the pair's next check is due.
     pub due: u64,
     /// 0 Waiting, 1 InProgress, 2 Succeeded.
     pub state: i32,
     pub nominated: bool,
-    /// It is the pair of the last `NominatedSend`.
+    /// Whether the pair is that of the last `NominatedSend`.
     pub selected: bool,
     pub has_rtt: bool,
     pub has_request: bool,
@@ -56,10 +56,10 @@ pub(crate) fn check_number(state: CheckState) -> i32
     }
 }
 
-fn reported_pair(home: &Home, pair: &CandidatePair) -> Pair
-    ensures { IsPair (record_of home.now.agent) pair.now result }
+fn reported_pair(held: &HeldAgent, pair: &CandidatePair) -> Pair
+    ensures { IsPair (record_of held.now.agent) pair.now result }
 {
-    let agent = &home.agent;
+    let agent = &held.agent;
     let rtt = pair.last_successful_rtt();
     let request = pair.remote_binding_request_time();
     let due = agent.next_check_due(pair);
@@ -92,12 +92,12 @@ fn reported_pair(home: &Home, pair: &CandidatePair) -> Pair
     }
 }
 
-fn return_pair(home: &Home, found: Option<&CandidatePair>, pair: &mut Pair) -> i32
-    ensures { ReturnsOfPair (record_of home.now.agent) (option_copied found.entry) pair.old pair.new result }
+fn return_pair(held: &HeldAgent, found: Option<&CandidatePair>, pair: &mut Pair) -> i32
+    ensures { ReturnsOfPair (record_of held.now.agent) (option_copied found.entry) pair.old pair.new result }
 {
     match found {
         Some(found) => {
-            *pair = reported_pair(home, found);
+            *pair = reported_pair(held, found);
             codes::OK
         }
         None => codes::NOTHING,
@@ -116,10 +116,10 @@ pub extern "C" fn is_ice_pair_at(
     ensures stays { held_by slot.new ≡ held_by slot.old }
     ensures without { held_by slot.old ≡ None → pair.new ≡ pair.old }
 {
-    let Some(home) = slot.home() else {
+    let Some(held) = slot.held() else {
         return codes::NO_AGENT;
     };
-    return_pair(home, home.agent.candidate_pair(index), pair)
+    return_pair(held, held.agent.candidate_pair(index), pair)
 }
 
 /// Writes how many pairs there are.
@@ -129,10 +129,10 @@ pub extern "C" fn is_ice_pair_count(alloc: Global, slot: &mut Slot, count: &mut 
     ensures stays { held_by slot.new ≡ held_by slot.old }
     ensures without { held_by slot.old ≡ None → count.new ≡ count.old }
 {
-    let Some(home) = slot.home() else {
+    let Some(held) = slot.held() else {
         return codes::NO_AGENT;
     };
-    *count = home.agent.candidate_pair_count();
+    *count = held.agent.candidate_pair_count();
     codes::OK
 }
 
@@ -148,15 +148,15 @@ pub extern "C" fn is_ice_find_pair(
     ensures stays { held_by slot.new ≡ held_by slot.old }
     ensures without { held_by slot.old ≡ None → pair.new ≡ pair.old }
 {
-    let Some(home) = slot.home() else {
+    let Some(held) = slot.held() else {
         return codes::NO_AGENT;
     };
     match line_candidate(alloc, line) {
         Some(Ok(candidate)) => {
-            let found = home
+            let found = held
                 .agent
                 .find_pair_for_equivalent_remote_candidate(&candidate);
-            return_pair(home, found, pair)
+            return_pair(held, found, pair)
         }
         Some(Err(error)) => codes::code_of(&error),
         None => codes::NOT_UTF8,

@@ -16,11 +16,11 @@ use std::alloc::Global;
 #[repr(C)]
 #[derive(Clone, Copy)]
 pub struct MediaPath {
-    /// Media is sent from here,
+    /// The address from which media is sent.
     pub source: Address,
-    /// to here,
+    /// The address to which media is sent.
     pub destination: Address,
-    /// and over this protocol.
+    /// The protocol over which media is sent.
     pub protocol: u8,
 }
 
@@ -42,10 +42,10 @@ pub extern "C" fn is_ice_valid_path(alloc: Global, slot: &mut Slot, path: &mut M
     ensures stays { held_by slot.new ≡ held_by slot.old }
     ensures without { held_by slot.old ≡ None → path.new ≡ path.old }
 {
-    let Some(home) = slot.home() else {
+    let Some(held) = slot.held() else {
         return codes::NO_AGENT;
     };
-    match home.agent.valid_path() {
+    match held.agent.valid_path() {
         Some(found) => {
             *path = reported_path(found);
             codes::OK

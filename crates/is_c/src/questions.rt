@@ -6,7 +6,7 @@ ghost use Rattle.is_pair.specs.Pairs.{PairRecord};
 ghost use Rattle.is_rules.specs.Questions.{live, nominated_pair};
 ghost use Rattle.is_agent.specs.Added.{listed_index};
 ghost use Rattle.is_agent.specs.View.{record_of};
-ghost use Rattle.is_c.specs.Slots.{home_of, held_by};
+ghost use Rattle.is_c.specs.Slots.{held_record, held_by};
 ghost use Rattle.is_c_calls.specs.Held.{At};
 ghost use Rattle.is_c.specs.Questions.{IsStatus, ReturnsStatus, stats_of, ReturnsStats, PutsLine, ReturnsLine};
 ghost use Rattle.is_c.specs.Questions.{CountsEarly, ReturnsRemote, ReturnsViable};
@@ -15,7 +15,7 @@ ghost use Rattle.is_c.specs.Selected.{candidate_of, IsNominated, IsNominatedIn, 
 use crate::address::{address_of, number_of, socket_of};
 use crate::codes;
 use crate::events::state_number;
-use crate::home::Home;
+use crate::held::HeldAgent;
 use crate::slot::Slot;
 use crate::text::put;
 use is_c_calls::Address;
@@ -55,24 +55,24 @@ pub struct Stats {
 #[repr(C)]
 #[derive(Clone, Copy)]
 pub struct Nominated {
-    /// Media is sent from here, as the last `NominatedSend` says,
+    /// The address from which media is sent, as the last `NominatedSend` says.
     pub source: Address,
-    /// to here,
+    /// The address to which media is sent.
     pub destination: Address,
-    /// The sum over all answered checks.
+    /// The sum of the round-trip times of all answered checks.
     pub total_rtt: u64,
     pub responses: u64,
-    /// Of the last answered check, if there is one.
+    /// The round-trip time of the last answered check, if there is one.
     pub rtt: u64,
-    /// and over this protocol.
+    /// The protocol over which media is sent.
     pub protocol: u8,
     pub has_rtt: bool,
 }
 
-fn reported_status(home: &Home) -> Status
-    ensures { IsStatus (home_of home.now) result }
+fn reported_status(held: &HeldAgent) -> Status
+    ensures { IsStatus (held_record held.now) result }
 {
-    let agent = &home.agent;
+    let agent = &held.agent;
     Status {
         state: state_number(agent.state()),
         controlling: agent.controlling(),
@@ -80,7 +80,7 @@ fn reported_status(home: &Home) -> Status
         mtu: agent.mtu(),
         mtu_warn: agent.mtu_warn(),
         ice_timeout: agent.ice_timeout().0,
-        max_candidates: home.max_candidates,
+        max_candidates: held.max_candidates,
     }
 }
 
@@ -91,17 +91,17 @@ pub extern "C" fn is_ice_status(alloc: Global, slot: &mut Slot, figures: &mut St
     ensures stays { held_by slot.new ≡ held_by slot.old }
     ensures without { held_by slot.old ≡ None → figures.new ≡ figures.old }
 {
-    let Some(home) = slot.home() else {
+    let Some(held) = slot.held() else {
         return codes::NO_AGENT;
     };
-    *figures = reported_status(home);
+    *figures = reported_status(held);
     codes::OK
 }
 
-fn reported_stats(home: &Home) -> Stats
-    ensures { stats_of result ≡ (record_of home.now.agent).stats }
+fn reported_stats(held: &HeldAgent) -> Stats
+    ensures { stats_of result ≡ (record_of held.now.agent).stats }
 {
-    let stats = home.agent.stats();
+    let stats = held.agent.stats();
     Stats {
         bind_request_sent: stats.bind_request_sent,
         bind_success_recv: stats.bind_success_recv,
@@ -118,10 +118,10 @@ pub extern "C" fn is_ice_stats(alloc: Global, slot: &mut Slot, figures: &mut Sta
     ensures stays { held_by slot.new ≡ held_by slot.old }
     ensures without { held_by slot.old ≡ None → figures.new ≡ figures.old }
 {
-    let Some(home) = slot.home() else {
+    let Some(held) = slot.held() else {
         return codes::NO_AGENT;
     };
-    *figures = reported_stats(home);
+    *figures = reported_stats(held);
     codes::OK
 }
 
@@ -132,20 +132,20 @@ pub extern "C" fn is_ice_early_count(alloc: Global, slot: &mut Slot, count: &mut
     ensures stays { held_by slot.new ≡ held_by slot.old }
     ensures without { held_by slot.old ≡ None → count.new ≡ count.old }
 {
-    let Some(home) = slot.home() else {
+    let Some(held) = slot.held() else {
         return codes::NO_AGENT;
     };
-    *count = home.agent.early_request_count();
+    *count = held.agent.early_request_count();
     codes::OK
 }
 
 /// The pair that was selected last, if it still exists.
-fn selected_pair(home: &Home) -> Option<&CandidatePair>
-    ensures { option_copied result ≡ nominated_pair (record_of home.now.agent) }
+fn selected_pair(held: &HeldAgent) -> Option<&CandidatePair>
+    ensures { option_copied result ≡ nominated_pair (record_of held.now.agent) }
 {
-    for index in 0..home.agent.candidate_pair_count() {
-        let pair = home.agent.candidate_pair(index)?;
-        if home.agent.is_selected_pair(pair) {
+    for index in 0..held.agent.candidate_pair_count() {
+        let pair = held.agent.candidate_pair(index)?;
+        if held.agent.is_selected_pair(pair) {
             return Some(pair);
         }
     }
@@ -171,12 +171,12 @@ fn reported_nominated(pair: &CandidatePair, local: &Candidate, remote: &Candidat
     }
 }
 
-fn selected(home: &Home) -> Option<Nominated>
-    ensures { IsNominatedIn (record_of home.now.agent) (nominated_pair (record_of home.now.agent)) result }
+fn selected(held: &HeldAgent) -> Option<Nominated>
+    ensures { IsNominatedIn (record_of held.now.agent) (nominated_pair (record_of held.now.agent)) result }
 {
-    let pair = selected_pair(home)?;
-    let local = local_at(home, home.agent.local_candidate_index(pair))?;
-    let remote = remote_at(home, home.agent.remote_candidate_index(pair))?;
+    let pair = selected_pair(held)?;
+    let local = local_at(held, held.agent.local_candidate_index(pair))?;
+    let remote = remote_at(held, held.agent.remote_candidate_index(pair))?;
     Some(reported_nominated(pair, local, remote))
 }
 
@@ -187,10 +187,10 @@ pub extern "C" fn is_ice_nominated(alloc: Global, slot: &mut Slot, figures: &mut
     ensures stays { held_by slot.new ≡ held_by slot.old }
     ensures without { held_by slot.old ≡ None → figures.new ≡ figures.old }
 {
-    let Some(home) = slot.home() else {
+    let Some(held) = slot.held() else {
         return codes::NO_AGENT;
     };
-    match selected(home) {
+    match selected(held) {
         Some(found) => {
             *figures = found;
             codes::OK
@@ -219,16 +219,16 @@ pub(crate) fn put_line(
     }
 }
 
-pub(crate) fn local_at(home: &Home, index: usize) -> Option<&Candidate>
-    ensures { option_copied result ≡ slice_get (live (record_of home.now.agent).local) index }
+pub(crate) fn local_at(held: &HeldAgent, index: usize) -> Option<&Candidate>
+    ensures { option_copied result ≡ slice_get (live (record_of held.now.agent).local) index }
 {
-    home.agent.local_candidates().nth(index)
+    held.agent.local_candidates().nth(index)
 }
 
-pub(crate) fn remote_at(home: &Home, index: usize) -> Option<&Candidate>
-    ensures { option_copied result ≡ slice_get (live (record_of home.now.agent).remote) index }
+pub(crate) fn remote_at(held: &HeldAgent, index: usize) -> Option<&Candidate>
+    ensures { option_copied result ≡ slice_get (live (record_of held.now.agent).remote) index }
 {
-    home.agent.remote_candidates().nth(index)
+    held.agent.remote_candidates().nth(index)
 }
 
 /// Writes the candidate attribute of a local candidate, for signaling. Candidates are counted from 0, without the discarded
@@ -245,10 +245,10 @@ pub extern "C" fn is_ice_local_candidate(
     ensures stays { held_by slot.new ≡ held_by slot.old }
     ensures without { held_by slot.old ≡ None → (buffer.new ≡ buffer.old) × (length.new ≡ length.old) }
 {
-    let Some(home) = slot.home() else {
+    let Some(held) = slot.held() else {
         return codes::NO_AGENT;
     };
-    put_line(alloc, local_at(home, index), buffer, length)
+    put_line(alloc, local_at(held, index), buffer, length)
 }
 
 /// Writes the candidate attribute of a remote candidate. Candidates are counted from 0, without the discarded ones.
@@ -264,10 +264,10 @@ pub extern "C" fn is_ice_remote_candidate(
     ensures stays { held_by slot.new ≡ held_by slot.old }
     ensures without { held_by slot.old ≡ None → (buffer.new ≡ buffer.old) × (length.new ≡ length.old) }
 {
-    let Some(home) = slot.home() else {
+    let Some(held) = slot.held() else {
         return codes::NO_AGENT;
     };
-    put_line(alloc, remote_at(home, index), buffer, length)
+    put_line(alloc, remote_at(held, index), buffer, length)
 }
 
 /// Whether a check succeeded on a pair whose remote candidate has this address.
@@ -276,11 +276,11 @@ pub extern "C" fn is_ice_has_viable_remote(alloc: Global, slot: &mut Slot, addre
     ensures returned { At (ReturnsViable address.now) (held_by slot.old) result (held_by slot.new) }
     ensures stays { held_by slot.new ≡ held_by slot.old }
 {
-    let Some(home) = slot.home() else {
+    let Some(held) = slot.held() else {
         return codes::NO_AGENT;
     };
     match socket_of(address) {
-        Some(address) => codes::found_code(home.agent.has_viable_remote_candidate(address)),
+        Some(address) => codes::found_code(held.agent.has_viable_remote_candidate(address)),
         None => codes::BAD_ADDRESS,
     }
 }
@@ -299,10 +299,10 @@ pub extern "C" fn is_ice_remote_ufrag(
     ensures stays { held_by slot.new ≡ held_by slot.old }
     ensures without { held_by slot.old ≡ None → (buffer.new ≡ buffer.old) × (length.new ≡ length.old) }
 {
-    let Some(home) = slot.home() else {
+    let Some(held) = slot.held() else {
         return codes::NO_AGENT;
     };
-    match home.agent.remote_credentials() {
+    match held.agent.remote_credentials() {
         Some(creds) => put(creds.ufrag.as_str().as_bytes(), buffer, length),
         None => codes::NOTHING,
     }
@@ -320,10 +320,10 @@ pub extern "C" fn is_ice_remote_pass(
     ensures stays { held_by slot.new ≡ held_by slot.old }
     ensures without { held_by slot.old ≡ None → (buffer.new ≡ buffer.old) × (length.new ≡ length.old) }
 {
-    let Some(home) = slot.home() else {
+    let Some(held) = slot.held() else {
         return codes::NO_AGENT;
     };
-    match home.agent.remote_credentials() {
+    match held.agent.remote_credentials() {
         Some(creds) => put(creds.pass.as_str().as_bytes(), buffer, length),
         None => codes::NOTHING,
     }

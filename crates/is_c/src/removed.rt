@@ -8,7 +8,7 @@ ghost use Rattle.is_c_calls.specs.Held.{At};
 ghost use Rattle.is_c.specs.Removed.{error_number, removal_number, removed_by, IsRemoved, ReturnsOfRemoved, ReturnsRemoved, ReportsRemoved};
 
 use crate::codes;
-use crate::home::Home;
+use crate::held::HeldAgent;
 use crate::pairs::check_number;
 use crate::paths::{MediaPath, reported_path};
 use crate::slot::Slot;
@@ -20,12 +20,12 @@ use std::alloc::Global;
 #[derive(Clone, Copy)]
 pub struct Removed {
     pub priority: u64,
-    /// The number of checks that were sent on it, and of the success responses that arrived.
+    /// The number of checks that were sent on the pair, and of the success responses that arrived.
     pub checks_sent: u64,
     pub responses: u64,
-    /// Its path, if `has_path`.
+    /// The path of the pair, if `has_path`.
     pub path: MediaPath,
-    /// Its last state, as in `Pair`.
+    /// The last state of the pair, as in `Pair`.
     pub state: i32,
     /// 1 no response, 2 consent lost, 3 no check of the other agent, 4 evicted, 5 replaced, 6 invalidated.
     pub reason: i32,
@@ -56,10 +56,10 @@ fn error_number(error: Option<u16>) -> i32
     }
 }
 
-fn reported_removed(home: &Home, pair: &RemovedPair, before: MediaPath) -> Removed
-    ensures { IsRemoved (record_of home.now.agent) pair.now before result }
+fn reported_removed(held: &HeldAgent, pair: &RemovedPair, before: MediaPath) -> Removed
+    ensures { IsRemoved (record_of held.now.agent) pair.now before result }
 {
-    let path = home.agent.removed_pair_path(pair);
+    let path = held.agent.removed_pair_path(pair);
     Removed {
         priority: pair.priority,
         checks_sent: pair.checks_sent,
@@ -75,12 +75,12 @@ fn reported_removed(home: &Home, pair: &RemovedPair, before: MediaPath) -> Remov
     }
 }
 
-fn return_removed(home: &Home, found: Option<&RemovedPair>, removed: &mut Removed) -> i32
-    ensures { ReturnsOfRemoved (record_of home.now.agent) (option_copied found.entry) removed.old removed.new result }
+fn return_removed(held: &HeldAgent, found: Option<&RemovedPair>, removed: &mut Removed) -> i32
+    ensures { ReturnsOfRemoved (record_of held.now.agent) (option_copied found.entry) removed.old removed.new result }
 {
     match found {
         Some(found) => {
-            *removed = reported_removed(home, found, removed.path);
+            *removed = reported_removed(held, found, removed.path);
             codes::OK
         }
         None => codes::NOTHING,
@@ -101,10 +101,10 @@ pub extern "C" fn is_ice_removed_at(
     ensures kept { removed_by slot.new ≡ removed_by slot.old }
     ensures without { held_by slot.old ≡ None → removed.new ≡ removed.old }
 {
-    let Some(home) = slot.home() else {
+    let Some(held) = slot.held() else {
         return codes::NO_AGENT;
     };
-    return_removed(home, home.agent.removed_pair(index), removed)
+    return_removed(held, held.agent.removed_pair(index), removed)
 }
 
 /// Writes how many removed pairs are kept.
@@ -115,9 +115,9 @@ pub extern "C" fn is_ice_removed_count(alloc: Global, slot: &mut Slot, count: &m
     ensures kept { removed_by slot.new ≡ removed_by slot.old }
     ensures without { held_by slot.old ≡ None → count.new ≡ count.old }
 {
-    let Some(home) = slot.home() else {
+    let Some(held) = slot.held() else {
         return codes::NO_AGENT;
     };
-    *count = home.agent.removed_pair_count();
+    *count = held.agent.removed_pair_count();
     codes::OK
 }

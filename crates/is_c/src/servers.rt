@@ -7,7 +7,7 @@ pub(crate) mod calls;
 mod ends;
 pub(crate) mod events;
 mod handle;
-mod home;
+mod held;
 pub(crate) mod lines;
 pub(crate) mod making;
 pub(crate) mod packets;
@@ -18,7 +18,7 @@ pub(crate) mod urls;
 
 pub use ends::Ends;
 pub use events::Event;
-pub use home::ServersHome;
+pub use held::HeldServers;
 pub use lines::{Line, Said};
 pub use packets::Arrival;
 pub use slot::ServersSlot;

@@ -22,14 +22,14 @@ use std::alloc::Global;
 pub extern "C" fn is_ice_set_controlling(alloc: Global, slot: &mut Slot, controlling: bool) -> i32
     ensures { At (Followed at_once (SetControlling controlling)) (held_by slot.old) result (held_by slot.new) }
 {
-    let Some(home) = slot.home() else {
+    let Some(held) = slot.held() else {
         return codes::NO_AGENT;
     };
-    if home.agent.keeps_role() && controlling {
+    if held.agent.keeps_role() && controlling {
         return codes::LITE_STAYS_CONTROLLED;
     }
-    home.agent.set_controlling(controlling);
-    followed(home, true, codes::OK)
+    held.agent.set_controlling(controlling);
+    followed(held, true, codes::OK)
 }
 
 fn is_controlling(made_offer: bool, lite: bool, other_is_lite: bool) -> bool
@@ -55,11 +55,11 @@ pub extern "C" fn is_ice_role(made_offer: bool, lite: bool, other_is_lite: bool)
 pub extern "C" fn is_ice_set_lite(alloc: Global, slot: &mut Slot, lite: bool) -> i32
     ensures { At (Followed in_turn (SetLite lite)) (held_by slot.old) result (held_by slot.new) }
 {
-    let Some(home) = slot.home() else {
+    let Some(held) = slot.held() else {
         return codes::NO_AGENT;
     };
-    home.agent.set_ice_lite(lite);
-    followed(home, false, codes::OK)
+    held.agent.set_ice_lite(lite);
+    followed(held, false, codes::OK)
 }
 
 /// Lets each nomination replace the ones before, so that both agents select the same path.
@@ -67,11 +67,11 @@ pub extern "C" fn is_ice_set_lite(alloc: Global, slot: &mut Slot, lite: bool) ->
 pub extern "C" fn is_ice_set_renomination(alloc: Global, slot: &mut Slot, enabled: bool) -> i32
     ensures { At (Followed in_turn (SetRenomination enabled)) (held_by slot.old) result (held_by slot.new) }
 {
-    let Some(home) = slot.home() else {
+    let Some(held) = slot.held() else {
         return codes::NO_AGENT;
     };
-    home.agent.set_renomination(enabled);
-    followed(home, false, codes::OK)
+    held.agent.set_renomination(enabled);
+    followed(held, false, codes::OK)
 }
 
 /// Sets the number that resolves role conflicts.
@@ -79,10 +79,10 @@ pub extern "C" fn is_ice_set_renomination(alloc: Global, slot: &mut Slot, enable
 pub extern "C" fn is_ice_set_tie_breaker(alloc: Global, slot: &mut Slot, tie_breaker: u64) -> i32
     ensures { At (Does (SetTieBreaker tie_breaker)) (held_by slot.old) result (held_by slot.new) }
 {
-    let Some(home) = slot.home() else {
+    let Some(held) = slot.held() else {
         return codes::NO_AGENT;
     };
-    home.agent.set_control_tie_breaker(tie_breaker);
+    held.agent.set_control_tie_breaker(tie_breaker);
     codes::OK
 }
 
@@ -91,10 +91,10 @@ pub extern "C" fn is_ice_set_tie_breaker(alloc: Global, slot: &mut Slot, tie_bre
 pub extern "C" fn is_ice_set_max_pairs(alloc: Global, slot: &mut Slot, limit: usize) -> i32
     ensures { At (Does (SetMaxPairs limit)) (held_by slot.old) result (held_by slot.new) }
 {
-    let Some(home) = slot.home() else {
+    let Some(held) = slot.held() else {
         return codes::NO_AGENT;
     };
-    home.agent.set_max_candidate_pairs(limit);
+    held.agent.set_max_candidate_pairs(limit);
     codes::OK
 }
 
@@ -114,10 +114,10 @@ pub(crate) fn limit_of(number: usize) -> Option<usize>
 pub extern "C" fn is_ice_set_max_discovered(alloc: Global, slot: &mut Slot, limit: usize) -> i32
     ensures { At (Does (SetMaxDiscovered limit)) (held_by slot.old) result (held_by slot.new) }
 {
-    let Some(home) = slot.home() else {
+    let Some(held) = slot.held() else {
         return codes::NO_AGENT;
     };
-    home.agent.set_max_discovered(limit_of(limit));
+    held.agent.set_max_discovered(limit_of(limit));
     codes::OK
 }
 
@@ -126,10 +126,10 @@ pub extern "C" fn is_ice_set_max_discovered(alloc: Global, slot: &mut Slot, limi
 pub extern "C" fn is_ice_set_max_candidates(alloc: Global, slot: &mut Slot, limit: usize) -> i32
     ensures { At (Does (SetMaxCandidates limit)) (held_by slot.old) result (held_by slot.new) }
 {
-    let Some(home) = slot.home() else {
+    let Some(held) = slot.held() else {
         return codes::NO_AGENT;
     };
-    home.max_candidates = limit;
+    held.max_candidates = limit;
     codes::OK
 }
 
@@ -138,11 +138,11 @@ pub extern "C" fn is_ice_set_max_candidates(alloc: Global, slot: &mut Slot, limi
 pub extern "C" fn is_ice_set_timing_advance(alloc: Global, slot: &mut Slot, nanoseconds: u64) -> i32
     ensures { At (Followed in_turn (SetTimingAdvance nanoseconds)) (held_by slot.old) result (held_by slot.new) }
 {
-    let Some(home) = slot.home() else {
+    let Some(held) = slot.held() else {
         return codes::NO_AGENT;
     };
-    home.agent.set_timing_advance(Duration(nanoseconds));
-    followed(home, false, codes::OK)
+    held.agent.set_timing_advance(Duration(nanoseconds));
+    followed(held, false, codes::OK)
 }
 
 /// Sets the RTO after a pair's first check, in nanoseconds.
@@ -150,11 +150,11 @@ pub extern "C" fn is_ice_set_timing_advance(alloc: Global, slot: &mut Slot, nano
 pub extern "C" fn is_ice_set_initial_rto(alloc: Global, slot: &mut Slot, nanoseconds: u64) -> i32
     ensures { At (Followed in_turn (SetInitialRto nanoseconds)) (held_by slot.old) result (held_by slot.new) }
 {
-    let Some(home) = slot.home() else {
+    let Some(held) = slot.held() else {
         return codes::NO_AGENT;
     };
-    home.agent.set_initial_stun_rto(Duration(nanoseconds));
-    followed(home, false, codes::OK)
+    held.agent.set_initial_stun_rto(Duration(nanoseconds));
+    followed(held, false, codes::OK)
 }
 
 /// Sets the greatest RTO after a check, in nanoseconds.
@@ -162,11 +162,11 @@ pub extern "C" fn is_ice_set_initial_rto(alloc: Global, slot: &mut Slot, nanosec
 pub extern "C" fn is_ice_set_max_rto(alloc: Global, slot: &mut Slot, nanoseconds: u64) -> i32
     ensures { At (Followed in_turn (SetMaxRto nanoseconds)) (held_by slot.old) result (held_by slot.new) }
 {
-    let Some(home) = slot.home() else {
+    let Some(held) = slot.held() else {
         return codes::NO_AGENT;
     };
-    home.agent.set_max_stun_rto(Duration(nanoseconds));
-    followed(home, false, codes::OK)
+    held.agent.set_max_stun_rto(Duration(nanoseconds));
+    followed(held, false, codes::OK)
 }
 
 /// Sets how long an ICE-lite agent keeps a pair after the peer's last check on it, in nanoseconds.
@@ -174,11 +174,11 @@ pub extern "C" fn is_ice_set_max_rto(alloc: Global, slot: &mut Slot, nanoseconds
 pub extern "C" fn is_ice_set_lite_timeout(alloc: Global, slot: &mut Slot, nanoseconds: u64) -> i32
     ensures { At (Followed in_turn (SetLiteTimeout nanoseconds)) (held_by slot.old) result (held_by slot.new) }
 {
-    let Some(home) = slot.home() else {
+    let Some(held) = slot.held() else {
         return codes::NO_AGENT;
     };
-    home.agent.set_lite_timeout(Duration(nanoseconds));
-    followed(home, false, codes::OK)
+    held.agent.set_lite_timeout(Duration(nanoseconds));
+    followed(held, false, codes::OK)
 }
 
 /// Makes the number of the next pair at least this one.
@@ -186,10 +186,10 @@ pub extern "C" fn is_ice_set_lite_timeout(alloc: Global, slot: &mut Slot, nanose
 pub extern "C" fn is_ice_skip_pair_ids(alloc: Global, slot: &mut Slot, number: u64) -> i32
     ensures { At (Does (SkipPairIds number)) (held_by slot.old) result (held_by slot.new) }
 {
-    let Some(home) = slot.home() else {
+    let Some(held) = slot.held() else {
         return codes::NO_AGENT;
     };
-    home.agent.skip_pair_ids(number);
+    held.agent.skip_pair_ids(number);
     codes::OK
 }
 
@@ -198,10 +198,10 @@ pub extern "C" fn is_ice_skip_pair_ids(alloc: Global, slot: &mut Slot, number: u
 pub extern "C" fn is_ice_set_mtu(alloc: Global, slot: &mut Slot, mtu: usize, warn: usize) -> i32
     ensures { At (Does (SetMtu mtu warn)) (held_by slot.old) result (held_by slot.new) }
 {
-    let Some(home) = slot.home() else {
+    let Some(held) = slot.held() else {
         return codes::NO_AGENT;
     };
-    codes::done_code(home.agent.set_mtu(mtu..=warn))
+    codes::done_code(held.agent.set_mtu(mtu..=warn))
 }
 
 /// Sets this number as the preference of local candidates that are added from now on.
@@ -213,10 +213,10 @@ pub extern "C" fn is_ice_set_local_preference(
 ) -> i32
     ensures { At (Does (SetPreference (Fixed preference))) (held_by slot.old) result (held_by slot.new) }
 {
-    let Some(home) = slot.home() else {
+    let Some(held) = slot.held() else {
         return codes::NO_AGENT;
     };
-    home.agent
+    held.agent
         .set_local_preference(Preference::Fixed(preference));
     codes::OK
 }
@@ -230,10 +230,10 @@ pub extern "C" fn is_ice_set_preference_table(
 ) -> i32
     ensures { At (Does (SetPreference (ByTable table.now))) (held_by slot.old) result (held_by slot.new) }
 {
-    let Some(home) = slot.home() else {
+    let Some(held) = slot.held() else {
         return codes::NO_AGENT;
     };
-    home.agent.set_local_preference(Preference::ByTable(*table));
+    held.agent.set_local_preference(Preference::ByTable(*table));
     codes::OK
 }
 
@@ -242,10 +242,10 @@ pub extern "C" fn is_ice_set_preference_table(
 pub extern "C" fn is_ice_reset_local_preference(alloc: Global, slot: &mut Slot) -> i32
     ensures { At (Does (SetPreference ByDefault)) (held_by slot.old) result (held_by slot.new) }
 {
-    let Some(home) = slot.home() else {
+    let Some(held) = slot.held() else {
         return codes::NO_AGENT;
     };
-    home.agent.set_local_preference(Preference::ByDefault);
+    held.agent.set_local_preference(Preference::ByDefault);
     codes::OK
 }
 
@@ -254,12 +254,12 @@ pub extern "C" fn is_ice_reset_local_preference(alloc: Global, slot: &mut Slot) 
 pub extern "C" fn is_ice_set_max_retransmits(alloc: Global, slot: &mut Slot, limit: usize) -> i32
     ensures { At (Followed in_turn (SetMaxRetransmits limit)) (held_by slot.old) result (held_by slot.new) }
 {
-    let Some(home) = slot.home() else {
+    let Some(held) = slot.held() else {
         return codes::NO_AGENT;
     };
     if limit == 0 {
         return codes::BAD_LIMIT;
     }
-    home.agent.set_max_stun_retransmits(limit);
-    followed(home, false, codes::OK)
+    held.agent.set_max_stun_retransmits(limit);
+    followed(held, false, codes::OK)
 }

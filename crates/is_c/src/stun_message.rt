@@ -35,7 +35,7 @@ pub struct Message {
     pub controlled: Number,
     pub controlling: Number,
     pub error_code: Number,
-    /// In seconds.
+    /// LIFETIME in seconds.
     pub lifetime: Number,
     pub channel_number: Number,
     /// NETWORK-COST: the ID of the network, and its cost.

@@ -7,7 +7,7 @@ ghost use Rattle.is_c_calls.specs.Held.{At};
 ghost use Rattle.is_c_calls.specs.Packets.{packet_path};
 
 use crate::codes;
-use crate::home::Home;
+use crate::held::HeldAgent;
 use crate::packets::packet_path;
 use crate::slot::Slot;
 use is_agent::Unserved;
@@ -31,8 +31,8 @@ fn unserved_code(why: Option<Unserved>) -> i32
     }
 }
 
-fn bytes_unserved(home: &Home, path: Path, bytes: &[u8]) -> i32
-    ensures { ReturnsUnserved ⟦<DefaultSha1HmacProvider as Sha1HmacProvider>⟧.mac (record_of home.now.agent) path bytes.now result }
+fn bytes_unserved(held: &HeldAgent, path: Path, bytes: &[u8]) -> i32
+    ensures { ReturnsUnserved ⟦<DefaultSha1HmacProvider as Sha1HmacProvider>⟧.mac (record_of held.now.agent) path bytes.now result }
 {
     match StunMessage::parse(bytes) {
         Ok(message) => {
@@ -42,7 +42,7 @@ fn bytes_unserved(home: &Home, path: Path, bytes: &[u8]) -> i32
                 destination: path.destination,
                 message,
             };
-            unserved_code(home.agent.unserved(&packet))
+            unserved_code(held.agent.unserved(&packet))
         }
         Err(_) => codes::UNPARSED,
     }
@@ -62,11 +62,11 @@ pub extern "C" fn is_ice_unserved(
         (held_by slot.old) result (held_by slot.new) }
     ensures stays { held_by slot.new ≡ held_by slot.old }
 {
-    let Some(home) = slot.home() else {
+    let Some(held) = slot.held() else {
         return codes::NO_AGENT;
     };
     match packet_path(protocol, source, destination) {
-        Some(path) => bytes_unserved(home, path, bytes),
+        Some(path) => bytes_unserved(held, path, bytes),
         None => codes::BAD_ADDRESS,
     }
 }

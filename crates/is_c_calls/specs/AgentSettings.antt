@@ -10,7 +10,7 @@ use Rattle.is_rules.specs.Settings as rules
 use Rattle.is_rules.specs.Settings.{with_settings}
 use Rattle.is_c_calls.specs.declared.agent_settings.AgentSettings.{AgentSettings}
 use Rattle.is_c_calls.specs.Codes.{OK, BAD_LIMIT}
-use Rattle.is_c_calls.specs.Held.{HomeRecord, Rejects}
+use Rattle.is_c_calls.specs.Held.{HeldRecord, Rejects}
 use Rattle.is_c_calls.specs.Limits.{NO_LIMIT, limit_of}
 
 abbrev pub profile_of : Bool → Profile
@@ -59,12 +59,12 @@ abbrev pub GivesSettings : Settings → ℕ → AgentSettings → ℤ → Type 0
 GivesSettings s candidates given code = (code ≡ OK) × (given ≡ reported_settings s candidates) × (settings_of given ≡ s)
 
 -- `is_ice_set_settings`
-abbrev pub SetsSettings : AgentSettings → HomeRecord → ℤ → HomeRecord → Type 0
+abbrev pub SetsSettings : AgentSettings → HeldRecord → ℤ → HeldRecord → Type 0
 SetsSettings s old code new =
     MatchBool (s.max_retransmits == 0)
     (Rejects BAD_LIMIT old code new)
     ((code ≡ OK) × (new ≡ record old { agent = with_settings (settings_of s) old.agent; max_candidates = s.max_candidates }))
 
 -- `is_ice_settings`
-abbrev pub ReturnsSettings : AgentSettings → HomeRecord → ℤ → HomeRecord → Type 0
+abbrev pub ReturnsSettings : AgentSettings → HeldRecord → ℤ → HeldRecord → Type 0
 ReturnsSettings s old code new = (code ≡ OK) × (s ≡ reported_settings (rules.settings_of old.agent) old.max_candidates) × (new ≡ old)

@@ -3,7 +3,7 @@ use Rattle.std.specs.Prelude.{◌≡◌, ℕ, Bool, min, Option, Some, None, ℤ
 use Rattle.is_rules.specs.Polls.{is_settled, PollsTimeout}
 use Rattle.is_agent.specs.Polls.{next_call, next_call_soon}
 use Rattle.is_c_calls.specs.Codes.{OK}
-use Rattle.is_c_calls.specs.Held.{Held, HomeRecord}
+use Rattle.is_c_calls.specs.Held.{Held, HeldRecord}
 
 -- when the agent has something to do next; soon: with credit 5 ms after its last call at the latest
 abbrev pub time_to_call : Bool → Held → Option ℕ
@@ -19,10 +19,10 @@ earlier (Some kept) (Some at) = Some (min kept at)
 abbrev pub moved : (settled : Bool) → Option ℕ → Option ℕ → Option ℕ
 moved settled kept next = if settled then next else earlier kept next
 
-abbrev pub with_deadline : Bool → HomeRecord → HomeRecord
-with_deadline soon home = record home { deadline = moved (is_settled home.agent) home.deadline (time_to_call soon home.agent) }
+abbrev pub with_deadline : Bool → HeldRecord → HeldRecord
+with_deadline soon held = record held { deadline = moved (is_settled held.agent) held.deadline (time_to_call soon held.agent) }
 
 -- The agent is polled for its next timeout, which fixes the due times of its pairs, and the deadline is moved.
-abbrev pub FixesTimes : Bool → HomeRecord → ℤ → HomeRecord → Type 0
+abbrev pub FixesTimes : Bool → HeldRecord → ℤ → HeldRecord → Type 0
 FixesTimes soon old code new =
     (polled : Option ℕ) × PollsTimeout old.agent polled new.agent × (code ≡ OK) × (new ≡ record (with_deadline soon old) { agent = new.agent })

@@ -13,7 +13,7 @@ Held = AgentRecord DefaultSha1HmacProvider Preference
 
 -- the agent, a packet that waits for a longer buffer, the limit on candidates of each side, the time of the agent at which
 -- `is_ice_handle_timeout` is to be called, the monitor of the agent's paths, and packets that C could not send
-pub record HomeRecord : Type 0 where
+pub record HeldRecord : Type 0 where
   pub agent : Held
   pub waiting : Option Packet
   pub max_candidates : ℕ
@@ -22,32 +22,32 @@ pub record HomeRecord : Type 0 where
   pub failures : List FailedSend
 
 -- what an export returns and does: without an agent nothing, and it returns `NO_AGENT`
-abbrev pub At : (HomeRecord → ℤ → HomeRecord → Type 0) → Option HomeRecord → ℤ → Option HomeRecord → Type 0
+abbrev pub At : (HeldRecord → ℤ → HeldRecord → Type 0) → Option HeldRecord → ℤ → Option HeldRecord → Type 0
 At Does None code new = (code ≡ NO_AGENT) × (new ≡ None)
 At Does (Some old) code None = ⊥
 At Does (Some old) code (Some new) = Does old code new
 
 -- a call that always succeeds
-abbrev pub AgentBecomes : (Held → Held) → HomeRecord → ℤ → HomeRecord → Type 0
+abbrev pub AgentBecomes : (Held → Held) → HeldRecord → ℤ → HeldRecord → Type 0
 AgentBecomes change old code new = (code ≡ OK) × (new ≡ record old { agent = change old.agent })
 
 -- what no call of the agent changes
-abbrev pub KeepsOwn : HomeRecord → HomeRecord → Type 0
+abbrev pub KeepsOwn : HeldRecord → HeldRecord → Type 0
 KeepsOwn old new = (new.max_candidates ≡ old.max_candidates) × (new.failures ≡ old.failures)
 
 -- only the agent may change, and the monitor becomes this one
-abbrev pub KeepsRestWith : Monitor → HomeRecord → HomeRecord → Type 0
+abbrev pub KeepsRestWith : Monitor → HeldRecord → HeldRecord → Type 0
 KeepsRestWith monitor old new = (new.waiting ≡ old.waiting) × (new.monitor ≡ monitor) × (new.deadline ≡ old.deadline) × KeepsOwn old new
 
 -- only the agent may change
-abbrev pub KeepsRest : HomeRecord → HomeRecord → Type 0
+abbrev pub KeepsRest : HeldRecord → HeldRecord → Type 0
 KeepsRest old new = KeepsRestWith old.monitor old new
 
 -- a call of the library, whose result the code contains
-abbrev pub Calls : {R : Type 0} → (Held → R → Held → Type 0) → (R → ℤ) → HomeRecord → ℤ → HomeRecord → Type 0
+abbrev pub Calls : {R : Type 0} → (Held → R → Held → Type 0) → (R → ℤ) → HeldRecord → ℤ → HeldRecord → Type 0
 Calls {R} Does to_code old code new =
     (r : R) × Does old.agent r new.agent × (code ≡ to_code r) × KeepsRest old new
 
 -- a call that fails before the library is called
-abbrev pub Rejects : ℤ → HomeRecord → ℤ → HomeRecord → Type 0
+abbrev pub Rejects : ℤ → HeldRecord → ℤ → HeldRecord → Type 0
 Rejects why old code new = (code ≡ why) × (new ≡ old)

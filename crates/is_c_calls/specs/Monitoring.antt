@@ -13,7 +13,7 @@ use Rattle.is_monitor.specs.Monitors.{fresh_monitor, observed, restarted, with_t
 use Rattle.is_c_calls.specs.declared.events.Event.{Event}
 use Rattle.is_c_calls.specs.Addresses.{socket_of, protocol_of}
 use Rattle.is_c_calls.specs.Codes.{OK, NOTHING, BAD_ADDRESS, OUT_OF_MEMORY}
-use Rattle.is_c_calls.specs.Held.{Held, HomeRecord, Rejects}
+use Rattle.is_c_calls.specs.Held.{Held, HeldRecord, Rejects}
 use Rattle.is_c_calls.specs.Limits.{limit_of}
 
 -- ---- silence
@@ -30,7 +30,7 @@ abbrev pub default_monitor : Monitor
 default_monitor = fresh_monitor (Some (record { 0 = DEFAULT_SILENCE }))
 
 -- `is_ice_set_silence`
-abbrev pub SetsSilence : ℕ → HomeRecord → ℤ → HomeRecord → Type 0
+abbrev pub SetsSilence : ℕ → HeldRecord → ℤ → HeldRecord → Type 0
 SetsSilence n old code new = (code ≡ OK) × (new ≡ record old { monitor = with_threshold (threshold_of n) old.monitor })
 
 -- what C gets of a path that is silent, or heard again
@@ -74,12 +74,12 @@ failures_left (Ok _) fs = []
 failures_left (Err e) fs = fs
 
 -- only the failures change
-abbrev pub NotesOn : Path → ℕ → HomeRecord → ℤ → HomeRecord → Type 0
+abbrev pub NotesOn : Path → ℕ → HeldRecord → ℤ → HeldRecord → Type 0
 NotesOn path reason old code new =
     Rejects OUT_OF_MEMORY old code new
     ⊎ ((code ≡ OK) × Notes path reason old.failures new.failures × (new ≡ record old { failures = new.failures }))
 
 -- `is_ice_send_failed`
-abbrev pub NotesFailure : Option Path → ℕ → HomeRecord → ℤ → HomeRecord → Type 0
+abbrev pub NotesFailure : Option Path → ℕ → HeldRecord → ℤ → HeldRecord → Type 0
 NotesFailure None reason old code new = Rejects BAD_ADDRESS old code new
 NotesFailure (Some path) reason old code new = NotesOn path reason old code new

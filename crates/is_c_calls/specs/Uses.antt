@@ -20,7 +20,7 @@ use Rattle.is_c_calls.specs.Credentials.{CallsWith}
 use Rattle.is_c_calls.specs.Deadlines.{FixesTimes}
 use Rattle.is_c_calls.specs.Events.{ReturnsEvent}
 use Rattle.is_c_calls.specs.Given.{CallsGiven, CallsRead, Discards}
-use Rattle.is_c_calls.specs.Held.{HomeRecord, AgentBecomes, Calls, Rejects}
+use Rattle.is_c_calls.specs.Held.{HeldRecord, AgentBecomes, Calls, Rejects}
 use Rattle.is_c_calls.specs.Limits.{limit_of}
 use Rattle.is_c_calls.specs.Monitoring.{SetsSilence, NotesFailure}
 use Rattle.is_c_calls.specs.Packets.{Mac, packet_path, HandlesDatagram, TimesOutBy, ReturnsTimeout, RestartsWith, Gives}
@@ -72,7 +72,7 @@ abbrev pub mac_of : Mac
 mac_of provider key text = hmac_sha1 key text
 
 -- The call leads from the first state of what the slot holds to the second, and returns this code.
-abbrev pub Does : Use → HomeRecord → ℤ → HomeRecord → Type 0
+abbrev pub Does : Use → HeldRecord → ℤ → HeldRecord → Type 0
 Does Ask old code new = new ≡ old
 Does (SetControlling role) old code new =
     MatchBool (keeps_role old.agent && role) (Rejects (code_of LiteStaysControlled) old code new) (AgentBecomes (controlling_set role) old code new)

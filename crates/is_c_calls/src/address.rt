@@ -7,7 +7,7 @@ pub struct Address {
     pub family: u8,
     pub bytes: [u8; 16],
     pub port: u16,
-    /// Only for family 6.
+    /// The flow information, only for family 6.
     pub flow: u32,
     pub scope: u32,
 }

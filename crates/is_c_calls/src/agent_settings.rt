@@ -6,9 +6,9 @@
 pub struct AgentSettings {
     /// The pacing interval Ta.
     pub timing_advance: u64,
-    /// The RTO after a pair's first check,
+    /// The RTO after a pair's first check.
     pub initial_rto: u64,
-    /// and the greatest one.
+    /// The greatest RTO after a check.
     pub max_rto: u64,
     /// How long a lite agent keeps a pair without a check.
     pub lite_timeout: u64,

@@ -7,13 +7,13 @@ use crate::address::Address;
 #[repr(C)]
 #[derive(Clone, Copy)]
 pub struct Event {
-    /// Of kinds 3 to 6.
+    /// The source, of kinds 3 to 6.
     pub source: Address,
-    /// Of kinds 4 to 6.
+    /// The destination, of kinds 4 to 6.
     pub destination: Address,
     pub kind: i32,
-    /// Of kind 2: 0 New, 1 Checking, 2 Connected, 3 Completed, 4 Disconnected.
+    /// The connection state, of kind 2: 0 New, 1 Checking, 2 Connected, 3 Completed, 4 Disconnected.
     pub state: i32,
-    /// Of kinds 3 to 6.
+    /// The protocol, of kinds 3 to 6.
     pub protocol: u8,
 }

@@ -1,55 +1,31 @@
 -- What the theorems on executions say of C's calls. What mutants/specifications changes is read by tactics.
-use Rattle.std.proofs.Common.{◌≡◌, ℕ, ◌≤◌, ◌+◌, ◌⊎◌, ◌&&◌, Bool, true, false, suc, List, [], ◌∷◌, ◌++◌, length, Option, Some, None, Ok, Err, ℤ, inl, inr, refl, ap, sym, ◌∙◌, subst, arith, if◌then◌else◌}
 use Rattle.std.proofs.lemmas.List.{length-append}
-use Rattle.is_proto.specs.Lists.{Has}
-use Rattle.is_proto.specs.Packets.{Packet}
-use Rattle.is_pair.specs.Pairs.{PairRecord}
-use Rattle.is_stun.specs.Timing.{is_modern, is_modern_profile}
-use Rattle.is_rules.specs.declared.credentials.IceCreds.{IceCreds}
-use Rattle.is_rules.specs.declared.emitted.Issued.{Issued}
-use Rattle.is_rules.specs.declared.emitted.Path.{Path}
 use Rattle.is_rules.specs.declared.event.IceConnectionState.TheVariants.{New}
-use Rattle.is_rules.specs.declared.settings.Settings.{Settings}
-use Rattle.is_rules.specs.Effects.{lite_set_by}
-use Rattle.is_rules.specs.Issuing.{QueuesPackets, IsQueued}
-use Rattle.is_rules.specs.Nominating.{is_eligible}
-use Rattle.is_rules.specs.Points.{IsNominationPoint}
-use Rattle.is_rules.specs.Polls.{IsPolled, NextTimeoutFrom, is_waiting, is_idle}
-use Rattle.is_rules.specs.Sending.{path_of}
-use Rattle.is_rules.specs.Settings.{modern_settings}
 use Rattle.is_rules.specs.Steps as agent
-use Rattle.is_rules.specs.Steps.{Call, Entry, Step, is_done}
-use Rattle.is_theorems.specs.AskedExecutions.{selected_along}
 use Rattle.is_theorems.specs.Bounds.{IsWithin}
 use Rattle.is_theorems.specs.ConsentExecutions.{AreNeverLite, ConnectedAreAnswered, IsAliveBy, IsConnectedAfter}
 use Rattle.is_theorems.specs.ConsentLogs.{IsConnectedAt}
-use Rattle.is_theorems.specs.Exchange.{Execution}
 use Rattle.is_theorems.specs.Limited.{ListsStayBounded, DiscoveriesStayFew, IsLimitedAt}
-use Rattle.is_theorems.specs.Logs.{Logged, NeverLite, last_selected}
-use Rattle.is_theorems.specs.Polled.{SelectionsAreNominatedSince}
-use Rattle.is_theorems.specs.Reporting.{QueuesTheorem}
 use Rattle.is_theorems.specs.Runs.{IsFresh}
-use Rattle.is_theorems.specs.Settings.{all_settings_of, settings_along, SettingsAreSet}
-use Rattle.is_theorems.specs.Settled.{IsModernAlong, IsAgreed, StatesAgree}
-use Rattle.is_theorems.specs.Shared.{IsControlledSince, IsNewlyCreated, BeforeEach, SelectionsAreAnswered, SelectionsAreTop}
 use Rattle.is_theorems.specs.Waiting.{QueuesAreShort}
-use Rattle.is_theorems.proofs.ExecutionLogs.SegmentsAsExecutions.{calls_onto, onto_is}
-use Rattle.is_c_calls.specs.declared.preference.Preference.{Preference}
-use Rattle.is_c_calls.specs.AgentSettings.{settings_of, profile_of}
-use Rattle.is_c_calls.specs.Held.{Held, HomeRecord, KeepsRest}
-use Rattle.is_c_calls.specs.Packets.{packet_path, HandlesDatagram, AcceptsOn}
-use Rattle.is_c_calls.specs.Codes.{OK}
-use Rattle.is_c_calls.specs.Preferences.{answers}
-use Rattle.is_c_calls.specs.Following.{Follows, Followed}
-use Rattle.is_c_calls.specs.Sessions.{Used, is_ok}
-use Rattle.is_c_calls.specs.Uses.{Use, SetSettings, mac_of, Does}
-use Rattle.is_c_theorems.specs.CallLogs.{settings_onto, IsLogOf, newborn, IsUsed}
-use Rattle.is_c_theorems.specs.Chosen.{EachKeeps, keeps_modern, keeps_consent, keeps_limit}
 use Rattle.is_c_theorems.specs.Headline.{UnacceptedChangeNothing}
-use Rattle.is_c_theorems.specs.Executions.{PathsAreAnswered, PathsAreNominatedByPeer, PathsAreFirstChoice, EachQueuesOne, modern_consent, ConnectedAreAlive, ConnectedHavePath, DISCOVERED_LIMIT, StaysBounded}
+use Rattle.is_c_theorems.proofs.Common.{[], ◌&&◌, ◌++◌, ◌+◌, ◌∙◌, ◌∷◌, ◌≡◌, ◌≤◌, ◌⊎◌, AcceptsOn, all_settings_of, answers, ap, arith}
+use Rattle.is_c_theorems.proofs.Common.{BeforeEach, Bool, Call, calls_onto, ConnectedAreAlive, ConnectedHavePath, DISCOVERED_LIMIT, Does}
+use Rattle.is_c_theorems.proofs.Common.{EachKeeps, EachQueuesOne, Entry, Err, Execution, false, Followed, Follows, HandlesDatagram, Has}
+use Rattle.is_c_theorems.proofs.Common.{Held, HeldRecord, IceCreds, if◌then◌else◌, inl, inr, is_done, is_eligible, is_idle, is_modern}
+use Rattle.is_c_theorems.proofs.Common.{is_modern_profile, is_ok, is_waiting, IsAgreed, IsControlledSince, IsLogOf, IsModernAlong}
+use Rattle.is_c_theorems.proofs.Common.{IsNewlyCreated, IsNominationPoint, IsPolled, IsQueued, Issued, IsUsed, keeps_consent, keeps_limit}
+use Rattle.is_c_theorems.proofs.Common.{keeps_modern, KeepsRest, last_selected, length, List, lite_set_by, Logged, mac_of, modern_consent}
+use Rattle.is_c_theorems.proofs.Common.{modern_settings, NeverLite, newborn, NextTimeoutFrom, None, OK, Ok, onto_is, Option, Packet}
+use Rattle.is_c_theorems.proofs.Common.{packet_path, PairRecord, Path, path_of, PathsAreAnswered, PathsAreFirstChoice}
+use Rattle.is_c_theorems.proofs.Common.{PathsAreNominatedByPeer, Preference, profile_of, QueuesPackets, QueuesTheorem, refl, selected_along}
+use Rattle.is_c_theorems.proofs.Common.{SelectionsAreAnswered, SelectionsAreNominatedSince, SelectionsAreTop, SetSettings, Settings}
+use Rattle.is_c_theorems.proofs.Common.{settings_along, settings_of, settings_onto, SettingsAreSet, Some, StatesAgree, StaysBounded, Step}
+use Rattle.is_c_theorems.proofs.Common.{subst, suc, sym, true, Use, Used, ℕ, ℤ}
 use Rattle.is_c_theorems.proofs.CallsAsSteps.{never, either, one, error_bad}
 use Rattle.is_c_theorems.proofs.LogsOfCalls.{Ran}
-use Rattle.is_c_theorems.proofs.SettingsOfCalls.{Log, Chosen, IsModern, along, begins, settings_last, settings_now, modern_by, rest_of, new_settings, never_lite, modern_log, modern_full, consent_full, consent_by, limit_by}
+use Rattle.is_c_theorems.proofs.SettingsOfCalls.{Log, Chosen, IsModern, along, begins, settings_last, settings_now, modern_by, rest_of}
+use Rattle.is_c_theorems.proofs.SettingsOfCalls.{new_settings, never_lite, modern_log, modern_full, consent_full, consent_by, limit_by}
 
 abbrev pub Set : Type 0
 Set = SettingsAreSet {H = _} {P = Preference} mac_of answers
@@ -139,35 +115,35 @@ onto_never xs none y has = elim (onto_is xs [] y has) [
 -- ---- paths
 
 pub answered : SelectionsAreAnswered {H = _} {P = Preference} mac_of answers → PathsAreAnswered
-answered law uses before x home used each path has =
-    let known : IsUsed uses (x ∷ before) home = search used in
+answered law uses before x held used each path has =
+    let known : IsUsed uses (x ∷ before) held = search used in
     let kept : EachKeeps keeps_modern uses = search each in
     let selected : Has x.entry.emitted.selected_paths (Some path) = search has in
-    search (law (newborn known.creds known.tie_breaker) home.agent x before (is_new known.creds known.tie_breaker) (full_log uses (x ∷ before) known.logs kept)
+    search (law (newborn known.creds known.tie_breaker) held.agent x before (is_new known.creds known.tie_breaker) (full_log uses (x ∷ before) known.logs kept)
     known.run path selected)
 
 pub asked : SelectionsAreNominatedSince {H = _} {P = Preference} mac_of answers → PathsAreNominatedByPeer
-asked law uses before x home used each controlled path has =
+asked law uses before x held used each controlled path has =
     let kept : EachKeeps keeps_modern uses = search each in
-    let calm : IsControlledSince mac_of answers (newborn used.creds used.tie_breaker) (x ∷ before) home.agent used.run = search controlled in
+    let calm : IsControlledSince mac_of answers (newborn used.creds used.tie_breaker) (x ∷ before) held.agent used.run = search controlled in
     let selected : Has x.entry.emitted.selected_paths (Some path) = search has in
-    search (law (newborn used.creds used.tie_breaker) home.agent x before (is_new used.creds used.tie_breaker) (full_log uses (x ∷ before) used.logs kept)
+    search (law (newborn used.creds used.tie_breaker) held.agent x before (is_new used.creds used.tie_breaker) (full_log uses (x ∷ before) used.logs kept)
     (modern_log uses (x ∷ before) used.logs kept) used.run calm path selected)
 
 pub first_choice : SelectionsAreTop {H = _} {P = Preference} mac_of answers → PathsAreFirstChoice
-first_choice law uses before x home used nominates p has is =
+first_choice law uses before x held used nominates p has is =
     let point : IsNominationPoint used.run.0 x.call x.entry = search nominates in
-    let there : Has home.agent.pairs p = search has in
-    let able : is_eligible home.agent.controlling p ≡ true = search is in
-    search (law (newborn used.creds used.tie_breaker) home.agent x before (is_new used.creds used.tie_breaker) used.run point p there able)
+    let there : Has held.agent.pairs p = search has in
+    let able : is_eligible held.agent.controlling p ≡ true = search is in
+    search (law (newborn used.creds used.tie_breaker) held.agent x before (is_new used.creds used.tie_breaker) used.run point p there able)
 
 pub connected_have_path : Set → StatesAgree {H = _} {P = Preference} mac_of answers → ConnectedHavePath
-connected_have_path law agree uses log home used each =
-    let known : IsUsed uses log home = search used in
+connected_have_path law agree uses log held used each =
+    let known : IsUsed uses log held = search used in
     let kept : EachKeeps keeps_modern uses = search each in
-    let k = gone known.creds known.tie_breaker law uses log home.agent known.logs kept known.run in
-    search (subst (λ (path : Option Path). IsAgreed path home.agent) (onto_selected log [])
-    (agree (newborn known.creds known.tie_breaker) home.agent (calls_onto log []) (is_born known.creds known.tie_breaker)
+    let k = gone known.creds known.tie_breaker law uses log held.agent known.logs kept known.run in
+    search (subst (λ (path : Option Path). IsAgreed path held.agent) (onto_selected log [])
+    (agree (newborn known.creds known.tie_breaker) held.agent (calls_onto log []) (is_born known.creds known.tie_breaker)
     (onto_never log (full_log uses log known.logs kept)) k.0 k.1))
 
 -- ---- bounds
@@ -197,12 +173,12 @@ module _ (creds : IceCreds) (tie_breaker : ℕ) (law : Set) where
 
 pub bounded : Set → ListsStayBounded {H = _} {P = Preference} mac_of answers → DiscoveriesStayFew {H = _} {P = Preference} mac_of answers
     → QueuesAreShort {H = _} {P = Preference} mac_of answers → StaysBounded
-bounded law lists few short uses log home used each =
+bounded law lists few short uses log held used each =
     let new = is_new used.creds used.tie_breaker in
-    let within_limit = limited used.creds used.tie_breaker law uses log home.agent used.logs each used.run in (
-      search (lists DISCOVERED_LIMIT (newborn used.creds used.tie_breaker) home.agent log new used.run within_limit),
-      search (few DISCOVERED_LIMIT (newborn used.creds used.tie_breaker) home.agent log new used.run within_limit),
-      search (short (newborn used.creds used.tie_breaker) home.agent log new used.run),
+    let within_limit = limited used.creds used.tie_breaker law uses log held.agent used.logs each used.run in (
+      search (lists DISCOVERED_LIMIT (newborn used.creds used.tie_breaker) held.agent log new used.run within_limit),
+      search (few DISCOVERED_LIMIT (newborn used.creds used.tie_breaker) held.agent log new used.run within_limit),
+      search (short (newborn used.creds used.tie_breaker) held.agent log new used.run),
     )
 
 -- ---- consent
@@ -225,33 +201,33 @@ same_path before x now is =
     ∙ onto_selected before ((x.call, x.entry) ∷ []))
 
 pub alive : Set → ConnectedAreAnswered {H = _} {P = Preference} mac_of answers → ConnectedAreAlive
-alive law answered_by uses before x home now used each k = search (by used.run (search k)) where
-  by : (run : Ran (newborn used.creds used.tie_breaker) (x ∷ before) home.agent) → IsConnectedAt now run.0 x home.agent
-      → (p : PairRecord) × Has home.agent.pairs p × IsAliveBy modern_consent now p × (last_selected (x ∷ before) ≡ Some (path_of home.agent p))
+alive law answered_by uses before x held now used each k = search (by used.run (search k)) where
+  by : (run : Ran (newborn used.creds used.tie_breaker) (x ∷ before) held.agent) → IsConnectedAt now run.0 x held.agent
+      → (p : PairRecord) × Has held.agent.pairs p × IsAliveBy modern_consent now p × (last_selected (x ∷ before) ≡ Some (path_of held.agent p))
   by (mid, s, t, earlier, given, step) is =
-      let c : IsConnectedAfter mac_of answers (calls_onto before []) now x.entry home.agent = record {
+      let c : IsConnectedAfter mac_of answers (calls_onto before []) now x.entry held.agent = record {
         first = newborn used.creds used.tie_breaker;
         near = mid;
         fresh = is_born used.creds used.tie_breaker;
         execution = execution_of before (newborn used.creds used.tie_breaker) mid earlier [] mid refl;
         drawn = s;
         left = t;
-        step = subst (λ (c : Call Preference). Step mac_of answers mid s c x.entry home.agent t) is.call step;
+        step = subst (λ (c : Call Preference). Step mac_of answers mid s c x.entry held.agent t) is.call step;
         done = is.done;
         unqueued = is.unqueued;
         full = is.full;
         connected = is.connected;
       } in
       let never_ = onto_never before (never_lite keeps_consent consent_full new_settings refl uses (x ∷ before) used.logs each).1 in
-      let consent = consent_by uses (all_settings_of (newborn used.creds used.tie_breaker)) home.agent each
-      (settings_now law used.creds used.tie_breaker uses (x ∷ before) home.agent used.logs (mid, s, t, earlier, given, step)) in
-      let found = answered_by (calls_onto before []) now x.entry home.agent modern_consent c never_ consent in
+      let consent = consent_by uses (all_settings_of (newborn used.creds used.tie_breaker)) held.agent each
+      (settings_now law used.creds used.tie_breaker uses (x ∷ before) held.agent used.logs (mid, s, t, earlier, given, step)) in
+      let found = answered_by (calls_onto before []) now x.entry held.agent modern_consent c never_ consent in
       (found.0, found.1, found.2, sym (same_path before x now is.call) ∙ found.3)
 
 -- ---- packets
 
-same_home : (old new : HomeRecord) → new.agent ≡ old.agent → KeepsRest old new → new ≡ old
-same_home old new a (w, m, d, (c, f)) =
+same_held_agent : (old new : HeldRecord) → new.agent ≡ old.agent → KeepsRest old new → new ≡ old
+same_held_agent old new a (w, m, d, (c, f)) =
     ap (λ (x : Held). record new { agent = x }) a
     ∙ (ap (λ x. record new { agent = old.agent; waiting = x }) w
     ∙ (ap (λ x. record old { max_candidates = x; deadline = new.deadline; monitor = new.monitor; failures = new.failures }) c
@@ -271,10 +247,10 @@ unaccepted old new code now protocol source destination bytes does not_accepted 
   by None (is, same) wrong_ = (same, bad code _ is refl)
   by (Some path) (inl (fault, fails, (is, same))) wrong_ = (same, bad code _ is refl)
   by (Some path) (inr (m, reads, (Ok true, (emitted, (accepted, handles), coded, kept)))) wrong_ = absurd (wrong_ (m, reads, accepted))
-  by (Some path) (inr (m, reads, (Ok false, (emitted, (no_one, nothing, made), coded, kept)))) wrong_ = (same_home old new made kept, bad code _ coded refl)
-  by (Some path) (inr (m, reads, (Err error, (emitted, (may, nothing, made), coded, kept)))) wrong_ = (same_home old new made kept, bad code _ coded (error_bad error))
+  by (Some path) (inr (m, reads, (Ok false, (emitted, (no_one, nothing, made), coded, kept)))) wrong_ = (same_held_agent old new made kept, bad code _ coded refl)
+  by (Some path) (inr (m, reads, (Err error, (emitted, (may, nothing, made), coded, kept)))) wrong_ = (same_held_agent old new made kept, bad code _ coded (error_bad error))
 
-uses_one : QueuesTheorem {H = _} {P = Preference} mac_of answers → (export : Use) (old new : HomeRecord) (code : ℤ) → Does export old code new
+uses_one : QueuesTheorem {H = _} {P = Preference} mac_of answers → (export : Use) (old new : HeldRecord) (code : ℤ) → Does export old code new
     → length new.agent.packets ≤ suc (length old.agent.packets)
 uses_one queues export old new code does = elim (one 0 export code old new does) as (λ _. length new.agent.packets ≤ suc (length old.agent.packets)) [
   | inl (same, none) ↦ stays (ap (λ (a : Held). length a.packets) same)
@@ -311,12 +287,12 @@ none_queued (Some last) old new (Some at) h = either (is_waiting old)
     (λ (soon, k). either (is_modern old.timing) (λ is. ap (λ (a : Held). a.packets) is) (λ is. ap (λ (a : Held). a.packets) is) k)
     (λ k. either (is_idle old) (λ l. ap (λ (a : Held). a.packets) l.1) (λ l. ap (λ (a : Held). a.packets) l.1) k) h
 
-follows_none : (soon : Bool) (code : ℤ) (mid new : HomeRecord) → Follows soon code mid new → new.agent.packets ≡ mid.agent.packets
+follows_none : (soon : Bool) (code : ℤ) (mid new : HeldRecord) → Follows soon code mid new → new.agent.packets ≡ mid.agent.packets
 follows_none soon code mid new h = either (is_ok code && is_modern mid.agent.timing)
     (λ (deadline, polls, coded, is). none_queued mid.agent.last_time mid.agent new.agent deadline polls)
-    (λ is. ap (λ (x : HomeRecord). x.agent.packets) is) h
+    (λ is. ap (λ (x : HeldRecord). x.agent.packets) is) h
 
-followed_one : QueuesTheorem {H = _} {P = Preference} mac_of answers → (soon : HomeRecord → HomeRecord → Bool) (export : Use) (old new : HomeRecord) (code : ℤ)
+followed_one : QueuesTheorem {H = _} {P = Preference} mac_of answers → (soon : HeldRecord → HeldRecord → Bool) (export : Use) (old new : HeldRecord) (code : ℤ)
     → Followed soon export old code new → length new.agent.packets ≤ suc (length old.agent.packets)
 followed_one queues soon export old new code (mid, does, follows) =
     let one_more : length mid.agent.packets ≤ suc (length old.agent.packets) = uses_one queues export old mid code does in

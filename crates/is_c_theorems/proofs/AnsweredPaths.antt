@@ -1,41 +1,18 @@
 -- Each path that C gets by a `NominatedSend` was answered, by bytes that C passed. What mutants/specifications changes is read by tactics.
-use Rattle.std.proofs.Common.{◌≡◌, ℕ, Bool, false, List, [], ◌∷◌, length, Option, Some, None, inl, inr, refl, ap, sym, ◌∙◌, subst, if◌then◌else◌}
-use Rattle.rand_core.specs.Stream.{Stream}
-use Rattle.is_proto.specs.Lists.{Has}
 use Rattle.is_proto.specs.Packets as packets
-use Rattle.is_proto.specs.declared.hmac_provider.DefaultSha1HmacProvider.{DefaultSha1HmacProvider}
-use Rattle.is_stun.specs.declared.header.Class.{Class}
 use Rattle.is_stun.specs.declared.header.Class.TheVariants as class
-use Rattle.is_stun.specs.Message.{Message}
-use Rattle.is_rules.specs.declared.credentials.IceCreds.{IceCreds}
-use Rattle.is_rules.specs.declared.emitted.Issued.{Issued}
-use Rattle.is_rules.specs.declared.emitted.Path.{Path}
-use Rattle.is_rules.specs.declared.settings.Settings.{Settings}
-use Rattle.is_rules.specs.Brought.{Brings}
-use Rattle.is_rules.specs.Effects.{clears, PathTheorem, TradeTheorem}
-use Rattle.is_rules.specs.Emitted.{issued_as}
-use Rattle.is_rules.specs.Issuing.{via_out, IsIssued, Says}
-use Rattle.is_rules.specs.Settings.{modern_settings}
-use Rattle.is_rules.specs.Sound.{IsSound, FreshIsSound}
 use Rattle.is_rules.specs.Steps as agent
-use Rattle.is_rules.specs.Steps.{Call, Answer, Entry, Done, Step, is_done, quiet, Becomes}
-use Rattle.is_theorems.specs.Logs.{Logged, clears_at, numbering_set_by, numbering_of, IsSent, Answered}
 use Rattle.is_theorems.specs.Polled as polled
-use Rattle.is_theorems.specs.Polled.{removes_selections, SelectedSince, WaitingAreAnswered}
-use Rattle.is_theorems.specs.Logs.{IsAnsweredBy}
-use Rattle.is_theorems.specs.Reporting.{QueuesTheorem}
-use Rattle.is_theorems.specs.Settings.{AllAreSetInTurn, setters_of, settings_along}
-use Rattle.is_theorems.proofs.ExecutionLogs.SharedLogTheorems.{numbering-in, numbering_set}
-use Rattle.is_c_calls.specs.declared.preference.Preference.{Preference}
-use Rattle.is_c_calls.specs.AgentSettings.{settings_of}
-use Rattle.is_c_calls.specs.Held.{Held, HomeRecord}
-use Rattle.is_c_calls.specs.Preferences.{answers}
-use Rattle.is_c_calls.specs.Sessions.{Used}
-use Rattle.is_c_calls.specs.Uses.{Does, mac_of}
-use Rattle.is_c_theorems.specs.CallLogs.{setters_onto, settings_onto, IsLogOf, newborn}
-use Rattle.is_c_theorems.specs.Chosen.{EachKeeps, keeps_modern}
-use Rattle.is_c_theorems.specs.Seen.{Gets, IsCheckIn, is_clear, Since, IsChecked}
 use Rattle.is_c_theorems.specs.Headline.{Answers, SelectedAreAnswered}
+use Rattle.is_c_theorems.proofs.Common.{[], ◌∙◌, ◌∷◌, ◌≡◌, AllAreSetInTurn, Answer, Answered, answers, ap, Bool, Brings, Call, Class}
+use Rattle.is_c_theorems.proofs.Common.{clears, clears_at, DefaultSha1HmacProvider, Does, Done, EachKeeps, Entry, false, FreshIsSound, Gets}
+use Rattle.is_c_theorems.proofs.Common.{Has, Held, HeldRecord, IceCreds, if◌then◌else◌, inl, inr, is_clear, IsAnsweredBy, IsChecked}
+use Rattle.is_c_theorems.proofs.Common.{IsCheckIn, IsIssued, IsLogOf, IsSent, IsSound, Issued, issued_as, keeps_modern, length, List}
+use Rattle.is_c_theorems.proofs.Common.{Logged, mac_of, Message, modern_settings, newborn, None, numbering-in, numbering_of, numbering_set}
+use Rattle.is_c_theorems.proofs.Common.{numbering_set_by, Option, Path, PathTheorem, Preference, QueuesTheorem, quiet, refl}
+use Rattle.is_c_theorems.proofs.Common.{removes_selections, Says, SelectedSince, setters_of, setters_onto, Settings, settings_along}
+use Rattle.is_c_theorems.proofs.Common.{settings_of, settings_onto, Since, Some, Step, Stream, subst, sym, TradeTheorem, Used, via_out}
+use Rattle.is_c_theorems.proofs.Common.{WaitingAreAnswered, ℕ}
 use Rattle.is_c_theorems.proofs.AlongExecutions.{is_new, full_log, first_set, ReadyAlong, ready_along}
 use Rattle.is_c_theorems.proofs.LogsOfCalls.{Ran, Walk, walk, log_is, run_is}
 use Rattle.is_c_theorems.proofs.SeenCalls.{peers, not_cleared, idle_clear, set_clear, no_restart, accepts, none_brought}
@@ -142,11 +119,11 @@ not_clear_brought (agent.RestartIce creds keep) e at by m brings = absurd brings
 not_clear_brought agent.RecreateCandidatePairs e at by m brings = absurd brings
 not_clear_brought _ e at by m brings = refl
 
-carried : (path : Path) (id : List ℕ) (u : Used) (before : List Used) (mid home : HomeRecord) → Does u.export mid u.code home → is_clear u ≡ false
-    → (is_polling u.export ≡ false → (p : packets.Packet) → Has mid.agent.packets p → Has home.agent.packets p)
-    → IsChecked before mid path id → IsChecked (u ∷ before) home path id
-carried path id u before mid home does none on (inl was) = inl (inr (none, was))
-carried path id u before mid home does none on (inr (p, has, via, check)) = elim (carry_queue u.export u.code mid home does (no_restart u.export u.code (search none)) on p has) [
+carried : (path : Path) (id : List ℕ) (u : Used) (before : List Used) (mid held : HeldRecord) → Does u.export mid u.code held → is_clear u ≡ false
+    → (is_polling u.export ≡ false → (p : packets.Packet) → Has mid.agent.packets p → Has held.agent.packets p)
+    → IsChecked before mid path id → IsChecked (u ∷ before) held path id
+carried path id u before mid held does none on (inl was) = inl (inr (none, was))
+carried path id u before mid held does none on (inr (p, has, via, check)) = elim (carry_queue u.export u.code mid held does (no_restart u.export u.code (search none)) on p has) [
   | inl there ↦ inr (p, there, via, check)
   | inr gets ↦ inl (inl (p.contents, subst (λ (to : Path). Gets u to p.contents) via gets, check))
 ]
@@ -158,47 +135,47 @@ abbrev Fresh : Type 0
 Fresh = FreshIsSound DefaultSha1HmacProvider Preference
 
 module _ (turn : Turn) (creds : IceCreds) (tie_breaker : ℕ) where
-  abbrev Walked : List Used → Log → HomeRecord → Type 0
-  Walked uses log home = Walk turn creds tie_breaker uses log home
+  abbrev Walked : List Used → Log → HeldRecord → Type 0
+  Walked uses log held = Walk turn creds tie_breaker uses log held
 
   sound_run : Paths → Fresh → (log : Log) (last : Held) → Ran (newborn creds tie_breaker) log last → IsSound last
   sound_run law new [] last run = subst (λ (a : Held). IsSound a) (sym run) (new (record {}) creds tie_breaker)
   sound_run law new (x ∷ before) last (mid, s, t, run, given, step) = (law mid last s t x.call x.entry (sound_run law new before mid run) given step).1
 
   module _ (law : Paths) (new : Fresh) (trade : TradeTheorem {H = _} {P = Preference} mac_of answers) (queues : QueuesTheorem {H = _} {P = Preference} mac_of answers) where
-    flow : (uses : List Used) (log : Log) (home : HomeRecord) → Walked uses log home → (path : Path) (id : List ℕ) → IsSent log path id → IsChecked uses home path id
-    flow [] log home (is, same) path id sent =
+    flow : (uses : List Used) (log : Log) (held : HeldRecord) → Walked uses log held → (path : Path) (id : List ℕ) → IsSent log path id → IsChecked uses held path id
+    flow [] log held (is, same) path id sent =
         absurd (sent_before (setters_of modern_settings) [] path id (subst (λ (l : Log). IsSent l path id) is sent))
-    flow (u ∷ before) log home (mid, does, inl (same, none, walked)) path id sent =
-        carried path id u before mid home does (search (idle_clear u.export u.code none))
+    flow (u ∷ before) log held (mid, does, inl (same, none, walked)) path id sent =
+        carried path id u before mid held does (search (idle_clear u.export u.code none))
         (λ _ p has. subst (λ (a : Held). Has a.packets p) (sym same) has) (flow before log mid walked path id sent)
-    flow (u ∷ before) log home (mid, does, inr (inl (x, rest, s, t, is, of, given, step, walked))) path id sent =
+    flow (u ∷ before) log held (mid, does, inr (inl (x, rest, s, t, is, of, given, step, walked))) path id sent =
         by (λ was. flow before rest mid walked path id was) (subst (λ (l : Log). IsSent l path id) is sent) where
-          by : (IsSent rest path id → IsChecked before mid path id) → IsSent (x ∷ rest) path id → IsChecked (u ∷ before) home path id
+          by : (IsSent rest path id → IsChecked before mid path id) → IsSent (x ∷ rest) path id → IsChecked (u ∷ before) held path id
           by on (inl now) =
-              let k = (trade mid.agent home.agent s t x.call x.entry (sound_run law new rest mid.agent (run_is turn creds tie_breaker before rest mid walked)) given step).issued (issued_as path class.Request id) now in
-              inr (k.0, inr k.1, k.2, is_check mid.agent home.agent x.call x.entry k.0 path id now k.3)
+              let k = (trade mid.agent held.agent s t x.call x.entry (sound_run law new rest mid.agent (run_is turn creds tie_breaker before rest mid walked)) given step).issued (issued_as path class.Request id) now in
+              inr (k.0, inr k.1, k.2, is_check mid.agent held.agent x.call x.entry k.0 path id now k.3)
           by on (inr (kept, was)) =
-              carried path id u before mid home does (search (not_cleared u.export x.call x.entry.answer u.code of.makes of.answers kept))
-              (λ other p has. kept_packets x.call x.entry mid.agent.packets home.agent.packets (queues mid.agent home.agent s t x.call x.entry step).0 (not_restart x.call x.entry.answer kept)
+              carried path id u before mid held does (search (not_cleared u.export x.call x.entry.answer u.code of.makes of.answers kept))
+              (λ other p has. kept_packets x.call x.entry mid.agent.packets held.agent.packets (queues mid.agent held.agent s t x.call x.entry step).0 (not_restart x.call x.entry.answer kept)
               (not_poll u.export x.call of.makes other) p has) (on was)
-    flow (u ∷ before) log home (mid, does, inr (inr (all, rest, is, walked))) path id sent =
-        carried path id u before mid home does (set_clear u all.settings all.export)
+    flow (u ∷ before) log held (mid, does, inr (inr (all, rest, is, walked))) path id sent =
+        carried path id u before mid held does (set_clear u all.settings all.export)
         (λ other p has. subst (λ (a : Held). Has a.packets p) (sym all.sets) has)
         (flow before rest mid walked path id (sent_before (setters_of (settings_of all.settings)) rest path id (subst (λ (l : Log). IsSent l path id) is sent)))
 
 -- ---- the answer, in C's words
 
-checked : (whole : List Used) (home : HomeRecord) (path : Path) (uses : List Used) (log : Log) → IsLogOf uses log
-    → ((id : List ℕ) → IsSent log path id → IsChecked whole home path id) → Answered mac_of (record {}) log path → Since is_clear (Answers whole home path) uses
-checked whole home path [] log is lift answered =
+checked : (whole : List Used) (held : HeldRecord) (path : Path) (uses : List Used) (log : Log) → IsLogOf uses log
+    → ((id : List ℕ) → IsSent log path id → IsChecked whole held path id) → Answered mac_of (record {}) log path → Since is_clear (Answers whole held path) uses
+checked whole held path [] log is lift answered =
     absurd (answered_before (setters_of modern_settings) [] path (subst (λ (l : Log). Answered mac_of (record {}) l path) is answered))
-checked whole home path (u ∷ before) log (inl (none, logs)) lift answered = inr (search (idle_clear u.export u.code none), checked whole home path before log logs lift answered)
-checked whole home path (u ∷ before) log (inr (rest, inl (x, is, of), logs)) lift answered =
-    by (λ l was. checked whole home path before rest logs l was) (subst (λ (l : Log). (id : List ℕ) → IsSent l path id → IsChecked whole home path id) is lift)
+checked whole held path (u ∷ before) log (inl (none, logs)) lift answered = inr (search (idle_clear u.export u.code none), checked whole held path before log logs lift answered)
+checked whole held path (u ∷ before) log (inr (rest, inl (x, is, of), logs)) lift answered =
+    by (λ l was. checked whole held path before rest logs l was) (subst (λ (l : Log). (id : List ℕ) → IsSent l path id → IsChecked whole held path id) is lift)
     (subst (λ (l : Log). Answered mac_of (record {}) l path) is answered) where
-      by : (((id : List ℕ) → IsSent rest path id → IsChecked whole home path id) → Answered mac_of (record {}) rest path → Since is_clear (Answers whole home path) before)
-          → ((id : List ℕ) → IsSent (x ∷ rest) path id → IsChecked whole home path id) → Answered mac_of (record {}) (x ∷ rest) path → Since is_clear (Answers whole home path) (u ∷ before)
+      by : (((id : List ℕ) → IsSent rest path id → IsChecked whole held path id) → Answered mac_of (record {}) rest path → Since is_clear (Answers whole held path) before)
+          → ((id : List ℕ) → IsSent (x ∷ rest) path id → IsChecked whole held path id) → Answered mac_of (record {}) (x ∷ rest) path → Since is_clear (Answers whole held path) (u ∷ before)
       by on lift (inl (at, via, m, peer, brings, binding, success, known, signed, sent, back)) =
           inl (
             via,
@@ -214,21 +191,21 @@ checked whole home path (u ∷ before) log (inr (rest, inl (x, is, of), logs)) l
           )
       by on lift (inr (kept, was)) =
           inr (search (not_cleared u.export x.call x.entry.answer u.code of.makes of.answers kept), on (λ id sent. lift id (inr (kept, sent))) was)
-checked whole home path (u ∷ before) log (inr (rest, inr (s, export, ok, is), logs)) lift answered =
-    let here = subst (λ (l : Log). (id : List ℕ) → IsSent l path id → IsChecked whole home path id) is lift in
+checked whole held path (u ∷ before) log (inr (rest, inr (s, export, ok, is), logs)) lift answered =
+    let here = subst (λ (l : Log). (id : List ℕ) → IsSent l path id → IsChecked whole held path id) is lift in
     inr (
       set_clear u s export,
-      checked whole home path before rest logs (λ id sent. here id (sent_after (settings_of s) rest path id sent))
+      checked whole held path before rest logs (λ id sent. here id (sent_after (settings_of s) rest path id sent))
           (answered_before (setters_of (settings_of s)) rest path (subst (λ (l : Log). Answered mac_of (record {}) l path) is answered)),
     )
 
 pub are_answered : Turn → Paths → Fresh → TradeTheorem {H = _} {P = Preference} mac_of answers → QueuesTheorem {H = _} {P = Preference} mac_of answers
     → WaitingAreAnswered {H = _} {P = Preference} mac_of answers → SelectedAreAnswered
-are_answered turn paths new trade queues law creds tie_breaker before home after u path session each does selects =
-    let k = walk turn creds tie_breaker before home session in
-    let logs = log_is turn creds tie_breaker before k.0 home k.1 in
-    let run = run_is turn creds tie_breaker before k.0 home k.1 in
+are_answered turn paths new trade queues law creds tie_breaker before held after u path session each does selects =
+    let k = walk turn creds tie_breaker before held session in
+    let logs = log_is turn creds tie_breaker before k.0 held k.1 in
+    let run = run_is turn creds tie_breaker before k.0 held k.1 in
     let kept : EachKeeps keeps_modern before = search each in
-    let found = law (newborn creds tie_breaker) home.agent k.0 (is_new creds tie_breaker) (full_log before k.0 logs kept) run path (waited u home after path does selects) in
-    search (checked before home path before k.0 logs (λ id sent. flow turn creds tie_breaker paths new trade queues before k.0 home k.1 path id sent)
-    (since creds tie_breaker home.agent k.0 path run (ready_along creds tie_breaker before k.0 logs kept) found))
+    let found = law (newborn creds tie_breaker) held.agent k.0 (is_new creds tie_breaker) (full_log before k.0 logs kept) run path (waited u held after path does selects) in
+    search (checked before held path before k.0 logs (λ id sent. flow turn creds tie_breaker paths new trade queues before k.0 held k.1 path id sent)
+    (since creds tie_breaker held.agent k.0 path run (ready_along creds tie_breaker before k.0 logs kept) found))

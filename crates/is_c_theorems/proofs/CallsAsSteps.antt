@@ -1,58 +1,37 @@
 -- Each call of C on an agent is one transition of it, or none, or sets all settings. What mutants/specifications changes is read by tactics.
-use Rattle.std.proofs.Common.{◌≡◌, ℕ, ◌==◌, ◌<◌, ◌⊎◌, ◌&&◌, Bool, true, false, nat_lt, List, [], length, Option, Some, None, Result, Ok, Err, MatchBool, MatchOption, ℤ, inl, inr, refl, ap, sym, ◌∙◌, subst, zero, suc, arith}
-use Rattle.rand_core.specs.Stream.{Stream}
-use Rattle.rand_core.specs.Steps.{stream_of}
-use Rattle.std.specs.declared.net.socket_addr.SocketAddr.{SocketAddr}
 use Rattle.std.specs.Net.Socket.{socket_ip}
-use Rattle.is_proto.specs.declared.error.IceError.{IceError}
 use Rattle.is_proto.specs.declared.error.IceError.TheVariants as errors
-use Rattle.is_proto.specs.declared.proto.Protocol.{Protocol}
 use Rattle.is_proto.specs.declared.proto.TcpType.{TcpType}
 use Rattle.is_proto.specs.Packets as packets
 use Rattle.is_candidate.specs.declared.candidate.builder.Route.{Route}
 use Rattle.is_candidate.specs.declared.candidate.builder.Route.TheVariants.{Host, ServerReflexive, Relayed}
 use Rattle.is_candidate.specs.Building.{route_fault, built_candidate}
-use Rattle.is_candidate.specs.Candidates.{CandidateRecord, IsBased}
 use Rattle.is_candidate.specs.Making.{ip_fault, reflexive_fault, host_candidate, server_reflexive_candidate, relayed_candidate}
 use Rattle.is_candidate.specs.Rejections.{Makes as Builds_}
-use Rattle.is_stun.specs.Timing.{is_modern}
-use Rattle.is_rules.specs.declared.credentials.IceCreds.{IceCreds}
-use Rattle.is_rules.specs.declared.emitted.Path.{Path}
-use Rattle.is_rules.specs.declared.event.IceAgentEvent.{IceAgentEvent}
 use Rattle.is_rules.specs.Credentials.{SetsLocal, SetsRemote}
 use Rattle.is_rules.specs.Restarting.{Restarts}
-use Rattle.is_rules.specs.Roles.{keeps_role}
-use Rattle.is_rules.specs.Settings.{controlling_set, with_settings, with_retransmits, with_rtos, with_lite_timeout, numbers_skipped}
-use Rattle.is_rules.specs.Sound.{GivesBased}
 use Rattle.is_rules.specs.Steps as agent
-use Rattle.is_rules.specs.Steps.{is_done, Call, Answer, Entry, Done, Flag, Polled, Happened, NextTimeout, answer_by, done, added, quiet, Step, Becomes}
-use Rattle.is_theorems.specs.Logs.{Logged}
-use Rattle.is_monitor.specs.declared.monitor.Monitor.{Monitor}
-use Rattle.is_monitor.specs.Monitors.{next_silence}
-use Rattle.is_agent.specs.Added.{AddsLocalListed, AddsRemoteListed}
 use Rattle.is_c_calls.specs.declared.address.Address.{Address}
-use Rattle.is_c_calls.specs.declared.agent_settings.AgentSettings.{AgentSettings}
 use Rattle.is_c_calls.specs.declared.candidate.LocalCandidate.{LocalCandidate}
-use Rattle.is_c_calls.specs.declared.events.Event.{Event}
-use Rattle.is_c_calls.specs.declared.preference.Preference.{Preference}
-use Rattle.is_c_calls.specs.Adding.{AddsMade, has_room}
-use Rattle.is_c_calls.specs.Addresses.{socket_of, protocol_of}
-use Rattle.is_c_calls.specs.AgentSettings.{settings_of}
-use Rattle.is_c_calls.specs.Candidates.{Made, MakesCandidate, ReadsBytes, Constructs, Builds, is_over_tcp, route_for, role_of}
-use Rattle.is_c_calls.specs.Clock.{agent_time}
-use Rattle.is_c_calls.specs.Codes.{OK, BAD_LIMIT, code_of, TOO_FEW_RANDOM_BYTES, done_code, flag_code, found_code, BAD_ADDRESS, NOT_UTF8}
 use Rattle.is_c_calls.specs.Credentials.{MakesCreds, CallsWith}
-use Rattle.is_c_calls.specs.Events.{ReturnsFirst}
-use Rattle.is_c_calls.specs.Given.{CallsMade, Discards}
-use Rattle.is_c_calls.specs.Held.{Held, HomeRecord, AgentBecomes, Rejects}
 use Rattle.is_c_calls.specs.Limits.{limit_of}
-use Rattle.is_c_calls.specs.Monitoring.{NotesFailure}
-use Rattle.is_c_calls.specs.Packets.{packet_path, HandlesDatagram, TakesNext}
-use Rattle.is_c_calls.specs.Preferences.{answers}
-use Rattle.is_c_calls.specs.Random.{given_steps}
-use Rattle.is_c_calls.specs.Sessions.{Used, is_ok}
-use Rattle.is_c_calls.specs.Uses.{Use, Ask, SetControlling, SetLite, SetRenomination, SetTieBreaker, SetMaxPairs, SetMaxDiscovered, SetMaxCandidates, SetTimingAdvance, SetInitialRto, SetMaxRto, SetLiteTimeout, SetMaxRetransmits, SetMtu, SetPreference, SetSettings, SkipPairIds, SetSilence, SetLocalCredentials, SetRemoteCredentials, AddLocal, AddLocalLine, AddRemote, InvalidateLocal, Invalidate, Restart, RecreatePairs, HandlePacket, HandleTimeout, PollTransmit, PollTimeout, PollEvent, SendFailed, FixTimes, mac_of, Does}
-use Rattle.is_c_theorems.specs.CallLogs.{Makes, code_by, Answers, GivesEvent, IsOf, counts, IsNone}
+use Rattle.is_c_theorems.proofs.Common.{[], ◌&&◌, ◌<◌, ◌==◌, ◌∙◌, ◌≡◌, ◌⊎◌, added, AddLocal, AddLocalLine, AddRemote, AddsLocalListed}
+use Rattle.is_c_theorems.proofs.Common.{AddsMade, AddsRemoteListed, agent_time, AgentBecomes, AgentSettings, Answer, answer_by, Answers}
+use Rattle.is_c_theorems.proofs.Common.{answers, ap, arith, Ask, BAD_ADDRESS, BAD_LIMIT, Becomes, Bool, Builds, Call, CallsMade}
+use Rattle.is_c_theorems.proofs.Common.{CandidateRecord, code_by, code_of, Constructs, controlling_set, counts, Discards, Does, Done, done}
+use Rattle.is_c_theorems.proofs.Common.{done_code, Entry, Err, Event, false, FixTimes, Flag, flag_code, found_code, given_steps, GivesBased}
+use Rattle.is_c_theorems.proofs.Common.{GivesEvent, HandlePacket, HandlesDatagram, HandleTimeout, Happened, has_room, Held, HeldRecord}
+use Rattle.is_c_theorems.proofs.Common.{IceAgentEvent, IceCreds, IceError, inl, inr, Invalidate, InvalidateLocal, is_done, is_modern, is_ok}
+use Rattle.is_c_theorems.proofs.Common.{is_over_tcp, IsBased, IsNone, IsOf, keeps_role, length, List, Logged, mac_of, Made, Makes}
+use Rattle.is_c_theorems.proofs.Common.{MakesCandidate, MatchBool, MatchOption, Monitor, nat_lt, next_silence, NextTimeout, None, NOT_UTF8}
+use Rattle.is_c_theorems.proofs.Common.{NotesFailure, numbers_skipped, OK, Ok, Option, packet_path, Path, Polled, PollEvent, PollTimeout}
+use Rattle.is_c_theorems.proofs.Common.{PollTransmit, Preference, Protocol, protocol_of, quiet, ReadsBytes, RecreatePairs, refl, Rejects}
+use Rattle.is_c_theorems.proofs.Common.{Restart, Result, ReturnsFirst, role_of, route_for, SendFailed, SetControlling, SetInitialRto}
+use Rattle.is_c_theorems.proofs.Common.{SetLite, SetLiteTimeout, SetLocalCredentials, SetMaxCandidates, SetMaxDiscovered, SetMaxPairs}
+use Rattle.is_c_theorems.proofs.Common.{SetMaxRetransmits, SetMaxRto, SetMtu, SetPreference, SetRemoteCredentials, SetRenomination}
+use Rattle.is_c_theorems.proofs.Common.{SetSettings, SetSilence, SetTieBreaker, SetTimingAdvance, settings_of, SkipPairIds, socket_of}
+use Rattle.is_c_theorems.proofs.Common.{SocketAddr, Some, Step, Stream, stream_of, subst, suc, sym, TakesNext, TOO_FEW_RANDOM_BYTES, true}
+use Rattle.is_c_theorems.proofs.Common.{Use, Used, with_lite_timeout, with_retransmits, with_rtos, with_settings, zero, ℕ, ℤ}
 use Rattle.is_c_theorems.proofs.LinesWithoutBase.{based_line}
 
 -- ---- choices
@@ -135,7 +114,7 @@ based c made h = optional (socket_of c.address) _ (λ wrong_. not_none (Ok made)
     (λ m. optional (role_of c.tcptype) _ (λ wrong_. not_none (Ok made) wrong_) (λ role o. based_built c.kind addr (socket_of c.base) proto role made o) m) l) k) h
 
 -- C's call sets all settings
-pub record SetsAll (u : Used) (old new : HomeRecord) : Type 0 where
+pub record SetsAll (u : Used) (old new : HeldRecord) : Type 0 where
   pub settings : AgentSettings
   pub export : u.export ≡ SetSettings settings
   pub ok : is_ok u.code ≡ true
@@ -144,11 +123,11 @@ pub record SetsAll (u : Used) (old new : HomeRecord) : Type 0 where
 
 module _ (n : ℕ) where
   -- the transition of the agent that is C's call
-  abbrev pub IsStep : Used → HomeRecord → HomeRecord → Type 0
+  abbrev pub IsStep : Used → HeldRecord → HeldRecord → Type 0
   IsStep u old new =
       (x : Logged Preference) × (s t : Stream) × IsOf u x × GivesBased x.call × Step mac_of answers old.agent s x.call x.entry new.agent t
 
-  abbrev pub IsAtMostOne : Used → HomeRecord → HomeRecord → Type 0
+  abbrev pub IsAtMostOne : Used → HeldRecord → HeldRecord → Type 0
   IsAtMostOne u old new = ((new.agent ≡ old.agent) × IsNone u) ⊎ (IsStep u old new ⊎ SetsAll u old new)
 
   abbrev used : Use → ℤ → Used
@@ -157,28 +136,28 @@ module _ (n : ℕ) where
   any : Stream
   any = stream_of given_steps []
 
-  by_step : (export : Use) (code : ℤ) (call : Call Preference) (e : Entry) (old new : HomeRecord) → Makes export call → Answers export e.answer code → GivesBased call
+  by_step : (export : Use) (code : ℤ) (call : Call Preference) (e : Entry) (old new : HeldRecord) → Makes export call → Answers export e.answer code → GivesBased call
       → (s t : Stream) → Step mac_of answers old.agent s call e new.agent t → IsAtMostOne (used export code) old new
   by_step export code call e old new m a g s t step = inr (inl (record { number = n; call = call; entry = e }, s, t, record { makes = m; answers = a }, g, step))
 
-  agent_is : (old new : HomeRecord) → new ≡ old → new.agent ≡ old.agent
-  agent_is old new is = ap (λ (h : HomeRecord). h.agent) is
+  agent_is : (old new : HeldRecord) → new ≡ old → new.agent ≡ old.agent
+  agent_is old new is = ap (λ (h : HeldRecord). h.agent) is
 
   -- the call leaves all as it was
-  idle : (export : Use) (code : ℤ) (old new : HomeRecord) → new ≡ old → (counts export ≡ true → is_ok code ≡ false) → IsAtMostOne (used export code) old new
+  idle : (export : Use) (code : ℤ) (old new : HeldRecord) → new ≡ old → (counts export ≡ true → is_ok code ≡ false) → IsAtMostOne (used export code) old new
   idle export code old new is none = inl (agent_is old new is, none)
 
-  rejects : (export : Use) (why code : ℤ) (old new : HomeRecord) → is_ok why ≡ false → Rejects why old code new → IsAtMostOne (used export code) old new
+  rejects : (export : Use) (why code : ℤ) (old new : HeldRecord) → is_ok why ≡ false → Rejects why old code new → IsAtMostOne (used export code) old new
   rejects export why code old new bad (is, same) = idle export code old new same (λ _. ap is_ok is ∙ bad)
 
   -- ---- settings
 
-  becomes : (export : Use) (code : ℤ) (call : Call Preference) (change : Held → Held) (old new : HomeRecord) → Makes export call → Answers export Done code → GivesBased call
+  becomes : (export : Use) (code : ℤ) (call : Call Preference) (change : Held → Held) (old new : HeldRecord) → Makes export call → Answers export Done code → GivesBased call
       → Step mac_of answers old.agent any call (quiet Done) (change old.agent) any
       → new ≡ record old { agent = change old.agent } → IsAtMostOne (used export code) old new
   becomes export code call change old new m a g step is =
       by_step export code call (quiet Done) old new m a g any any
-      (subst (λ (b : Held). Step mac_of answers old.agent any call (quiet Done) b any) (sym (ap (λ (h : HomeRecord). h.agent) is)) step)
+      (subst (λ (b : Held). Step mac_of answers old.agent any call (quiet Done) b any) (sym (ap (λ (h : HeldRecord). h.agent) is)) step)
 
   done_coded : (r : Result (Unit {0}) IceError) → done_code r ≡ code_by (answer_by done r)
   done_coded (Ok x) = refl
@@ -199,7 +178,7 @@ module _ (n : ℕ) where
       → ((r : Result (Unit {0}) IceError) (code : ℤ) → code ≡ done_code r → Answers export (answer_by done r) code) → Makes export (call (record { ufrag = ufrag; pass = pass }))
       → ((c : IceCreds) → GivesBased (call c))
       → ((old new : Held) (c : IceCreds) (r : Result (Unit {0}) IceError) → SetsThem old c r new → Step mac_of answers old any (call c) (quiet (answer_by done r)) new any)
-      → (code : ℤ) (old new : HomeRecord) → CallsWith SetsThem ufrag pass old code new → IsAtMostOne (used export code) old new
+      → (code : ℤ) (old new : HeldRecord) → CallsWith SetsThem ufrag pass old code new → IsAtMostOne (used export code) old new
   with_creds export SetsThem call ufrag pass a m g steps code old new (Ok creds, made, (r, sets, is, kept)) =
       let here : SetsThem old.agent (record { ufrag = ufrag; pass = pass }) r new.agent = subst (λ (c : IceCreds). SetsThem old.agent c r new.agent) made sets in
       by_step export code (call (record { ufrag = ufrag; pass = pass })) (quiet (answer_by done r)) old new m
@@ -209,7 +188,7 @@ module _ (n : ℕ) where
 
   -- ---- candidates
 
-  adds_local : (c : LocalCandidate) (before after : ℕ) (code : ℤ) (old new : HomeRecord) (made : Made) → MakesCandidate c made
+  adds_local : (c : LocalCandidate) (before after : ℕ) (code : ℤ) (old new : HeldRecord) (made : Made) → MakesCandidate c made
       → AddsMade (AddsLocalListed answers) BAD_ADDRESS made before after old code new → IsAtMostOne (used (AddLocal c before after) code) old new
   adds_local c before after code old new None makes h = idle (AddLocal c before after) code old new h.0.1 never
   adds_local c before after code old new (Some (Err e)) makes h = idle (AddLocal c before after) code old new h.0.1 never
@@ -217,7 +196,7 @@ module _ (n : ℕ) where
       by_step (AddLocal c before after) code (agent.AddLocalCandidate made) (record { answer = answer_by added place; emitted = emitted }) old new
       (made, makes, refl) tt (based c made makes) any any (place, emitted, refl, does, refl)
 
-  adds_local_line : (line : List ℕ) (before after : ℕ) (code : ℤ) (old new : HomeRecord) (made : Made) → ReadsBytes line made
+  adds_local_line : (line : List ℕ) (before after : ℕ) (code : ℤ) (old new : HeldRecord) (made : Made) → ReadsBytes line made
       → AddsMade (AddsLocalListed answers) NOT_UTF8 made before after old code new → IsAtMostOne (used (AddLocalLine line before after) code) old new
   adds_local_line line before after code old new None reads h = idle (AddLocalLine line before after) code old new h.0.1 never
   adds_local_line line before after code old new (Some (Err e)) reads h = idle (AddLocalLine line before after) code old new h.0.1 never
@@ -225,7 +204,7 @@ module _ (n : ℕ) where
       by_step (AddLocalLine line before after) code (agent.AddLocalCandidate made) (record { answer = answer_by added place; emitted = emitted }) old new
       (made, reads, refl) tt (based_line line made reads) any any (place, emitted, refl, does, refl)
 
-  adds_remote : (line : List ℕ) (before after : ℕ) (code : ℤ) (old new : HomeRecord) (made : Made) → ReadsBytes line made
+  adds_remote : (line : List ℕ) (before after : ℕ) (code : ℤ) (old new : HeldRecord) (made : Made) → ReadsBytes line made
       → AddsMade AddsRemoteListed NOT_UTF8 made before after old code new → IsAtMostOne (used (AddRemote line before after) code) old new
   adds_remote line before after code old new None reads h = idle (AddRemote line before after) code old new h.0.1 never
   adds_remote line before after code old new (Some (Err e)) reads h = idle (AddRemote line before after) code old new h.0.1 never
@@ -235,7 +214,7 @@ module _ (n : ℕ) where
 
   discards : (export : Use) (why : ℤ) (made : Made) → ((c : CandidateRecord) → made ≡ Some (Ok c) → Makes export (agent.InvalidateCandidate c))
       → ((answer : Answer) (code : ℤ) → code ≡ code_by answer → Answers export answer code) → counts export ≡ false
-      → (code : ℤ) (old new : HomeRecord) → CallsMade Discards found_code why made old code new → IsAtMostOne (used export code) old new
+      → (code : ℤ) (old new : HeldRecord) → CallsMade Discards found_code why made old code new → IsAtMostOne (used export code) old new
   discards export why None m a quiet_ code old new h = idle export code old new h.1 (λ is. never (sym quiet_ ∙ is))
   discards export why (Some (Err e)) m a quiet_ code old new h = idle export code old new h.1 (λ is. never (sym quiet_ ∙ is))
   discards export why (Some (Ok c)) m a quiet_ code old new (found, (emitted, does), is, kept) =
@@ -244,7 +223,7 @@ module _ (n : ℕ) where
 
   -- ---- packets
 
-  receives : (now protocol : ℕ) (source destination : Address) (bytes : List ℕ) (code : ℤ) (old new : HomeRecord) (path : Option Path)
+  receives : (now protocol : ℕ) (source destination : Address) (bytes : List ℕ) (code : ℤ) (old new : HeldRecord) (path : Option Path)
       → packet_path protocol source destination ≡ path → HandlesDatagram mac_of now path bytes old code new
       → IsAtMostOne (used (HandlePacket now protocol source destination bytes) code) old new
   receives now protocol source destination bytes code old new None is h = idle (HandlePacket now protocol source destination bytes) code old new h.1 never
@@ -255,21 +234,21 @@ module _ (n : ℕ) where
       (record { answer = answer_by Flag r; emitted = emitted }) old new
       (path, search is, refl) (coded ∙ flag_coded r) tt any any (inr (m, reads, (r, emitted, refl, handles)), refl)
 
-  gives : (export : Use) (code : ℤ) (waiting given : Option packets.Packet) (old new : HomeRecord) → Makes export agent.PollTransmit
+  gives : (export : Use) (code : ℤ) (waiting given : Option packets.Packet) (old new : HeldRecord) → Makes export agent.PollTransmit
       → Answers export (Polled given) code → counts export ≡ false → TakesNext waiting old.agent given new.agent → IsAtMostOne (used export code) old new
   gives export code None given old new m a quiet_ polls =
       by_step export code agent.PollTransmit (quiet (Polled given)) old new m a tt any any (given, refl, polls, refl)
   gives export code (Some p) given old new m a quiet_ (is, same) = inl (same, λ was_true. never (sym quiet_ ∙ was_true))
 
-  agent_is_of : (old new needed : HomeRecord) → new ≡ needed → needed.agent ≡ old.agent → new.agent ≡ old.agent
-  agent_is_of old new needed is same = ap (λ (h : HomeRecord). h.agent) is ∙ same
+  agent_is_of : (old new needed : HeldRecord) → new ≡ needed → needed.agent ≡ old.agent → new.agent ≡ old.agent
+  agent_is_of old new needed is same = ap (λ (h : HeldRecord). h.agent) is ∙ same
 
   -- what the monitor reports is no event of the agent
   reports : (given : Option IceAgentEvent) (m : Monitor) (before after : Event) (code : ℤ) → ReturnsFirst given m before after code → GivesEvent given before after code
   reports None m before after code h = (next_silence m, h)
   reports (Some e) m before after code h = h
 
-  fails : (protocol : ℕ) (source destination : Address) (reason : ℕ) (path : Option Path) (code : ℤ) (old new : HomeRecord) → NotesFailure path reason old code new
+  fails : (protocol : ℕ) (source destination : Address) (reason : ℕ) (path : Option Path) (code : ℤ) (old new : HeldRecord) → NotesFailure path reason old code new
       → IsAtMostOne (used (SendFailed protocol source destination reason) code) old new
   fails protocol source destination reason None code old new h = idle (SendFailed protocol source destination reason) code old new h.1 never
   fails protocol source destination reason (Some path) code old new (inl h) = idle (SendFailed protocol source destination reason) code old new h.1 never
@@ -277,7 +256,7 @@ module _ (n : ℕ) where
 
   -- ---- each call
 
-  limits : (limit : ℕ) (code : ℤ) (old new : HomeRecord) (b : Bool)
+  limits : (limit : ℕ) (code : ℤ) (old new : HeldRecord) (b : Bool)
       → MatchBool b (Rejects BAD_LIMIT old code new) (AgentBecomes (with_retransmits limit) old code new)
       → (limit == 0) ≡ b → IsAtMostOne (used (SetMaxRetransmits limit) code) old new
   limits limit code old new true h is = rejects (SetMaxRetransmits limit) BAD_LIMIT code old new refl h
@@ -290,7 +269,7 @@ module _ (n : ℕ) where
   positive zero is = never (sym is)
   positive (suc n) is = omega arith
 
-  all_set : (settings : AgentSettings) (code : ℤ) (old new : HomeRecord) (b : Bool)
+  all_set : (settings : AgentSettings) (code : ℤ) (old new : HeldRecord) (b : Bool)
       → MatchBool b (Rejects BAD_LIMIT old code new)
       ((code ≡ OK) × (new ≡ record old { agent = with_settings (settings_of settings) old.agent; max_candidates = settings.max_candidates }))
       → (settings.max_retransmits == 0) ≡ b → IsAtMostOne (used (SetSettings settings) code) old new
@@ -299,11 +278,11 @@ module _ (n : ℕ) where
     settings = settings;
     export = refl;
     ok = ap is_ok coded;
-    sets = ap (λ (h : HomeRecord). h.agent) same;
+    sets = ap (λ (h : HeldRecord). h.agent) same;
     some = positive settings.max_retransmits is;
   }))
 
-  pub one : (export : Use) (code : ℤ) (old new : HomeRecord) → Does export old code new → IsAtMostOne (used export code) old new
+  pub one : (export : Use) (code : ℤ) (old new : HeldRecord) → Does export old code new → IsAtMostOne (used export code) old new
   one Ask code old new same = idle Ask code old new same never
   one (SetControlling role) code old new h = either (keeps_role old.agent && role)
       (λ k. rejects (SetControlling role) (code_of errors.LiteStaysControlled) code old new refl k)
@@ -318,7 +297,7 @@ module _ (n : ℕ) where
       becomes (SetMaxPairs limit) code (agent.SetMaxCandidatePairs limit) (λ a. record a { max_pairs = limit }) old new refl (refl, is) tt (refl, refl, refl) same
   one (SetMaxDiscovered limit) code old new (is, same) =
       becomes (SetMaxDiscovered limit) code (agent.SetMaxDiscovered (limit_of limit)) (λ a. record a { max_discovered = limit_of limit }) old new refl (refl, is) tt (refl, refl, refl) same
-  one (SetMaxCandidates limit) code old new (is, same) = inl (ap (λ (h : HomeRecord). h.agent) same, never)
+  one (SetMaxCandidates limit) code old new (is, same) = inl (ap (λ (h : HeldRecord). h.agent) same, never)
   one (SetTimingAdvance by) code old new (is, same) =
       becomes (SetTimingAdvance by) code (agent.SetTimingAdvance by) (λ a. record a { timing_advance = by }) old new refl (refl, is) tt (refl, refl, refl) same
   one (SetInitialRto rto) code old new (is, same) =

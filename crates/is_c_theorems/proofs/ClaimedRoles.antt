@@ -1,29 +1,14 @@
 -- What two agents know of each other by the checks that they sent: each claims the role in which it was sent. Each transition preserves it.
-use Rattle.std.proofs.Common.{◌≡◌, ℕ, ◌<◌, ◌≤◌, ◌⊎◌, ◌&&◌, Bool, true, false, not, nat_le, List, ◌∷◌, Option, Some, None, inl, inr, refl, ap, sym, ◌∙◌, subst, arith, if◌then◌else◌}
-use Rattle.std.proofs.lemmas.Bool.Decides.{nat_tests}
-use Rattle.is_proto.specs.Lists.{Has, same}
-use Rattle.is_proto.specs.Packets.{Packet}
-use Rattle.is_stun.specs.declared.header.Class.{Class}
 use Rattle.is_stun.specs.declared.header.Class.TheVariants as class
-use Rattle.is_stun.specs.Message.{AttributesRecord, Message}
-use Rattle.is_stun.specs.Reading.{Reads}
-use Rattle.is_stun.specs.Timing.{is_modern}
 use Rattle.is_stun.specs.Theorems.{SameMessage}
-use Rattle.is_rules.specs.declared.emitted.Issued.{Issued}
-use Rattle.is_rules.specs.declared.emitted.Path.{Path}
-use Rattle.is_rules.specs.declared.roles.Conflict.TheVariants.{Absent, Send487, SwitchRole}
-use Rattle.is_rules.specs.Agent.{AgentRecord}
-use Rattle.is_rules.specs.Brought.{Brings, IsBrought, IsServing, IsKept, IsRoleSet}
-use Rattle.is_rules.specs.Effects.{PathEffect, TradeEffect, tie_set_by}
-use Rattle.is_rules.specs.Emitted.{issued_as}
-use Rattle.is_rules.specs.Issuing.{via_out, IsIssued, Says}
-use Rattle.is_rules.specs.Request.{RequestRecord, rival_in}
-use Rattle.is_rules.specs.Roles.{conflict_by, conflict_of}
 use Rattle.is_rules.specs.Steps as agent
-use Rattle.is_rules.specs.Steps.{Call, Entry}
 use Rattle.is_theorems.specs.RoleState.{Claims}
-use Rattle.is_theorems.specs.RoleView.{sets_role}
-use Rattle.is_c_theorems.specs.TwoAgents.{Side, A, B, other}
+use Rattle.is_c_theorems.proofs.Common.{◌&&◌, ◌<◌, ◌∙◌, ◌∷◌, ◌≡◌, ◌≤◌, ◌⊎◌, A, Absent, AgentRecord, ap, arith, AttributesRecord, B, Bool}
+use Rattle.is_c_theorems.proofs.Common.{Brings, Call, Class, conflict_by, conflict_of, Entry, false, Has, if◌then◌else◌, inl, inr}
+use Rattle.is_c_theorems.proofs.Common.{is_modern, IsBrought, IsIssued, IsKept, IsRoleSet, IsServing, Issued, issued_as, List, Message}
+use Rattle.is_c_theorems.proofs.Common.{nat_le, nat_tests, None, not, Option, other, Packet, Path, PathEffect, Reads, refl, RequestRecord}
+use Rattle.is_c_theorems.proofs.Common.{rival_in, same, Says, Send487, sets_role, Side, Some, subst, SwitchRole, sym, tie_set_by}
+use Rattle.is_c_theorems.proofs.Common.{TradeEffect, true, via_out, ℕ}
 
 -- ---- sides
 

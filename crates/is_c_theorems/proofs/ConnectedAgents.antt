@@ -1,38 +1,22 @@
 -- Both agents become connected: the controlling one by the response to its check, the controlled one by a nomination and a response. What
 -- mutants/specifications changes is read by tactics.
-use Rattle.std.proofs.Common.{◌≡◌, ℕ, ◌&&◌, ◌||◌, Bool, true, false, List, ℤ, inl, inr, refl, ap, sym, ◌∙◌, subst}
-use Rattle.is_proto.specs.Lists.{Has}
 use Rattle.is_pair.specs.Multiset.{keeps_check}
-use Rattle.is_pair.specs.Pairs.{PairRecord, is_valid, is_nominated}
 use Rattle.is_stun.specs.declared.header.Class.TheVariants as class
-use Rattle.is_stun.specs.Message.{Message}
-use Rattle.is_stun.specs.Reading.{Reads}
-use Rattle.is_rules.specs.declared.emitted.Issued.{Issued}
-use Rattle.is_rules.specs.declared.emitted.Path.{Path}
-use Rattle.is_rules.specs.Answers.{is_reverse}
-use Rattle.is_rules.specs.Brought.{IsServing}
-use Rattle.is_rules.specs.Emitted.{issued_as}
-use Rattle.is_rules.specs.Nominating.{is_eligible}
-use Rattle.is_rules.specs.Points.{IsTopSelected}
-use Rattle.is_rules.specs.Request.{RequestRecord, request_in}
-use Rattle.is_rules.specs.Sending.{path_of}
 use Rattle.is_rules.specs.Serving.{nominates}
 use Rattle.is_rules.specs.Steps as agent
-use Rattle.is_rules.specs.Steps.{Entry}
-use Rattle.is_theorems.specs.Asked.{IsOnlyPair, UsesAddressesOf}
-use Rattle.is_theorems.specs.Asking.{AcceptsNomination}
 use Rattle.is_theorems.specs.Carried.{CarriedAsk}
 use Rattle.is_theorems.proofs.BasicLemmas.EqualAddresses.{both, same_address-sound}
-use Rattle.is_c_calls.specs.declared.preference.Preference.{Preference}
-use Rattle.is_c_calls.specs.Clock.{agent_time}
-use Rattle.is_c_calls.specs.Codes.{OK}
-use Rattle.is_c_calls.specs.Held.{Held, HomeRecord}
-use Rattle.is_c_calls.specs.Preferences.{answers}
-use Rattle.is_c_calls.specs.Uses.{HandlePacket, mac_of}
-use Rattle.is_c_theorems.specs.Connecting.{IsInSlot, Leads, IsConnected, PassesPacket, Evaluates, KeepsPairs, NominatingCheck, AnsweredCheck, ResponsesConnect, NominatedConnect, BothBecomeConnected}
+use Rattle.is_c_theorems.proofs.Common.{◌&&◌, ◌||◌, ◌∙◌, ◌≡◌, AcceptsNomination, agent_time, AnsweredCheck, answers, ap, Bool}
+use Rattle.is_c_theorems.proofs.Common.{BothBecomeConnected, Entry, Evaluates, false, HandlePacket, Has, Held, HeldRecord, inl, inr}
+use Rattle.is_c_theorems.proofs.Common.{is_eligible, is_nominated, is_reverse, is_valid, IsConnected, IsInSlot, IsOnlyPair, IsServing}
+use Rattle.is_c_theorems.proofs.Common.{Issued, issued_as, IsTopSelected, KeepsPairs, Leads, List, mac_of, Message, NominatedConnect}
+use Rattle.is_c_theorems.proofs.Common.{NominatingCheck, OK, PairRecord, PassesPacket, Path, path_of, Preference, Reads, refl, request_in}
+use Rattle.is_c_theorems.proofs.Common.{RequestRecord, ResponsesConnect, subst, sym, true, UsesAddressesOf, ℕ, ℤ}
 use Rattle.is_c_theorems.proofs.AlongExecutions.{Set}
-use Rattle.is_c_theorems.proofs.DeliveredChecks.{Trades, Serves, Accepts, Twenty, sent_check, got, carried_check, accepted, is_accepted, held_mid}
-use Rattle.is_c_theorems.proofs.HeldAgents.{Turns, Paths, Agree, After, Continued, continued, received, timed, held_after, sound_held, after_packet, after_timeout}
+use Rattle.is_c_theorems.proofs.DeliveredChecks.{Trades, Serves, Accepts, Twenty, sent_check, got, carried_check, accepted, is_accepted}
+use Rattle.is_c_theorems.proofs.DeliveredChecks.{held_mid}
+use Rattle.is_c_theorems.proofs.HeldAgents.{Turns, Paths, Agree, After, Continued, continued, received, timed, held_after, sound_held}
+use Rattle.is_c_theorems.proofs.HeldAgents.{after_packet, after_timeout}
 
 abbrev pub Asks : Type 0
 Asks = CarriedAsk {H = _} {P = Preference} mac_of answers
@@ -63,7 +47,7 @@ back_on by a b on_a on_b =
 module _ (turn : Turns) (paths : Paths) (law : Set) (agree : Agree) where
   -- ---- an accepted response
 
-  taken_top : (old new : HomeRecord) → IsInSlot old → (via : Path) (bytes : List ℕ) → PassesPacket via bytes old OK new → (m : Message) → Reads bytes m → m.class ≡ class.Success
+  taken_top : (old new : HeldRecord) → IsInSlot old → (via : Path) (bytes : List ℕ) → PassesPacket via bytes old OK new → (m : Message) → Reads bytes m → m.class ≡ class.Success
       → (call : agent.Call Preference) × (e : Entry) × After old new call e × IsTopSelected new.agent × ((p : PairRecord) × Has new.agent.pairs p × (is_valid p ≡ true))
   taken_top old new held via bytes passes m reads success =
       let g = received via bytes OK old new passes refl in
@@ -78,7 +62,7 @@ module _ (turn : Turns) (paths : Paths) (law : Set) (agree : Agree) where
 
   -- ---- an evaluation
 
-  evaluated : (near last : HomeRecord) → IsInSlot near → Evaluates near last → (p : PairRecord) → Has last.agent.pairs p → is_valid p ≡ true → is_nominated p ≡ true → IsConnected last
+  evaluated : (near last : HeldRecord) → IsInSlot near → Evaluates near last → (p : PairRecord) → Has last.agent.pairs p → is_valid p ≡ true → is_nominated p ≡ true → IsConnected last
   evaluated near last held (inl (now, random, does, none)) p has valid nominated =
       let a = after_timeout turn paths law agree near last held now random does in
       a.connects (a.effect.points ((timed now random near last does).ok, none)) p has (nominated_able last.agent.controlling p valid nominated)
@@ -89,8 +73,8 @@ module _ (turn : Turns) (paths : Paths) (law : Set) (agree : Agree) where
   module _ (trades : Trades) (twenty : Twenty) (serves : Serves) (accepts : Accepts) (asks : Asks) where
     -- ---- the nomination, and the response
 
-    abbrev pub On : Path → HomeRecord → (PairRecord → Bool) → Type 0
-    On path home test = (p : PairRecord) × Has home.agent.pairs p × (test p ≡ true) × UsesAddressesOf home.agent path p
+    abbrev pub On : Path → HeldRecord → (PairRecord → Bool) → Type 0
+    On path held test = (p : PairRecord) × Has held.agent.pairs p × (test p ≡ true) × UsesAddressesOf held.agent path p
 
     pub asked_on : (path : Path) (k : NominatingCheck path)
         → AcceptsNomination k.check.receiver.agent (agent.ReceivePacket (agent_time k.check.passes.now) k.check.over k.check.check.contents) (got turn paths trades k.check).entry path
@@ -125,7 +109,7 @@ module _ (turn : Turns) (paths : Paths) (law : Set) (agree : Agree) where
         held_after r.mid r.taken (held_mid turn paths trades k.check r) (HandlePacket r.passes.now r.passes.protocol r.passes.source r.passes.destination r.reply.contents) r.code r.passes.does refl
 
     -- the pair that is there after further calls
-    pub later_on : (path : Path) (from to : HomeRecord) (test : PairRecord → Bool) → IsInSlot from → Leads from to → KeepsPairs path from to
+    pub later_on : (path : Path) (from to : HeldRecord) (test : PairRecord → Bool) → IsInSlot from → Leads from to → KeepsPairs path from to
         → ((p q : PairRecord) → Continued from.agent to.agent p q → test p ≡ true → test q ≡ true) → On path from test → On path to test
     later_on path from to test held leads keeps carries (p, has, is, uses) =
         let q = keeps p has uses in

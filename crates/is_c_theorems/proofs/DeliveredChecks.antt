@@ -1,28 +1,16 @@
 -- A check that the network delivers is served, and its response is accepted: what the theorems on two agents say of C's calls. What
 -- mutants/specifications changes is read by tactics.
-use Rattle.std.proofs.Common.{◌≡◌, ℕ, ◌⊎◌, ◌++◌, List, [], ◌∷◌, length, Some, ℤ, inl, inr, refl, ap, sym, ◌∙◌, subst}
-use Rattle.is_proto.specs.Lists.{Has}
-use Rattle.is_proto.specs.Packets.{Packet}
-use Rattle.is_stun.specs.declared.header.Class.{Class}
 use Rattle.is_stun.specs.declared.header.Class.TheVariants as class
-use Rattle.is_stun.specs.Message.{Message}
 use Rattle.is_proto.specs.Hmac.{hmac_sha1}
-use Rattle.is_rules.specs.declared.emitted.Path.{Path}
-use Rattle.is_rules.specs.Effects.{TradeTheorem, TradeEffect}
-use Rattle.is_rules.specs.Emitted.{issued_as, reversed}
-use Rattle.is_rules.specs.Issuing.{via_out, Says, IsIssued}
 use Rattle.is_rules.specs.Steps as agent
 use Rattle.is_theorems.specs.Carried.{CarriedAreServed, CarriedAreAccepted, CarriedCheck}
 use Rattle.is_theorems.specs.Delivery as delivery
 use Rattle.is_theorems.specs.Delivery.{Delivered, IsReachedBy, IsTaken, ReceivedPacket, SentCheck, Sends}
-use Rattle.is_c_calls.specs.declared.preference.Preference.{Preference}
-use Rattle.is_c_calls.specs.Clock.{agent_time}
-use Rattle.is_c_calls.specs.Codes.{OK}
-use Rattle.is_c_calls.specs.Held.{HomeRecord}
-use Rattle.is_c_calls.specs.Preferences.{answers}
-use Rattle.is_c_calls.specs.Uses.{HandleTimeout, mac_of}
-use Rattle.is_c_theorems.specs.Connecting.{IsInSlot, HaveExchanged, SendsCheck, DeliveredCheck, ReturnedReply, CheckIsServed, DeliveredAreAccepted}
-use Rattle.is_c_theorems.specs.CallLogs.{code_by}
+use Rattle.is_c_theorems.proofs.Common.{[], ◌++◌, ◌∙◌, ◌∷◌, ◌≡◌, ◌⊎◌, agent_time, answers, ap, CheckIsServed, Class, code_by}
+use Rattle.is_c_theorems.proofs.Common.{DeliveredAreAccepted, DeliveredCheck, HandleTimeout, Has, HaveExchanged, HeldRecord, inl, inr}
+use Rattle.is_c_theorems.proofs.Common.{IsInSlot, IsIssued, issued_as, length, List, mac_of, Message, OK, Packet, Path, Preference, refl}
+use Rattle.is_c_theorems.proofs.Common.{ReturnedReply, reversed, Says, SendsCheck, Some, subst, sym, TradeEffect, TradeTheorem, via_out, ℕ}
+use Rattle.is_c_theorems.proofs.Common.{ℤ}
 use Rattle.is_c_theorems.proofs.HeldAgents.{Turns, Paths, Received, received, Timed, timed, held_after, held_later, sound_held}
 use Rattle.is_c_theorems.proofs.LogsOfCalls.{any}
 
@@ -38,7 +26,7 @@ Accepts = CarriedAreAccepted {H = _} {P = Preference} mac_of answers
 abbrev pub Twenty : Type 0
 Twenty = (key text : List ℕ) → length (hmac_sha1 key text) ≡ 20
 
-pub know_as : Twenty → (one other : HomeRecord) → HaveExchanged one other → delivery.KnowEachOther mac_of one.agent other.agent
+pub know_as : Twenty → (one other : HeldRecord) → HaveExchanged one other → delivery.KnowEachOther mac_of one.agent other.agent
 know_as twenty one other k = record {
   mine = k.at_one;
   its = search k.at_other;
@@ -66,7 +54,7 @@ came_on path bytes = record { proto = path.proto; source = path.source; destinat
 
 module _ (turn : Turns) (paths : Paths) (trades : Trades) where
   -- what is to be polled after the timeout, and was not before, is the check that the call issued
-  pub sends_of : (old new : HomeRecord) (check : Packet) (m : Message) → IsInSlot old → (k : SendsCheck old check m new)
+  pub sends_of : (old new : HeldRecord) (check : Packet) (m : Message) → IsInSlot old → (k : SendsCheck old check m new)
       → Sends old.agent (timed k.now k.random old new k.does).entry class.Request m.id check new.agent
   sends_of old new check m held k = by (issued (trade.packets check (subst (λ (ps : List Packet). Has ps check) (sym k.waits) (inl refl)))) where
     out : Timed (agent_time k.now) old new
@@ -119,7 +107,7 @@ module _ (turn : Turns) (paths : Paths) (trades : Trades) where
   abbrev pub got : (d : DeliveredCheck) → Received (agent_time d.passes.now) d.over d.check.contents d.code d.receiver d.served
   got d = received d.over d.check.contents d.code d.receiver d.served d.passes d.no_error
 
-  abbrev pub delivered : (path : Path) (bytes : List ℕ) (at : ℕ) (code : ℤ) (old new : HomeRecord) → (k : Received at path bytes code old new)
+  abbrev pub delivered : (path : Path) (bytes : List ℕ) (at : ℕ) (code : ℤ) (old new : HeldRecord) → (k : Received at path bytes code old new)
       → Delivered mac_of answers (came_on path bytes) at old.agent k.entry new.agent
   delivered path bytes at code old new k = record { before = any; following = any; step = k.step; nomination_accepted = k.fine }
 
@@ -155,7 +143,7 @@ module _ (turn : Turns) (paths : Paths) (trades : Trades) where
         (record { call = agent.HandleTimeout k.now; entry = k.timeout; before = k.before; following = k.following; step = k.step; sends = k.sends }) refl r.delivered
 
     -- OK is returned for a packet that is accepted
-    coded : (path : Path) (bytes : List ℕ) (at : ℕ) (code : ℤ) (old new : HomeRecord) (k : Received at path bytes code old new) (c : Class)
+    coded : (path : Path) (bytes : List ℕ) (at : ℕ) (code : ℤ) (old new : HeldRecord) (k : Received at path bytes code old new) (c : Class)
         → IsTaken mac_of answers (came_on path bytes) at k.entry c → code ≡ OK
     coded path bytes at code old new k c (m, (when, on, reads, flag), is) = k.coded ∙ ap code_by flag
 

@@ -1,20 +1,15 @@
 -- A call of C is one use, or two. What mutants/specifications changes is read by tactics.
-use Rattle.std.proofs.Common.{◌≡◌, ◌⊎◌, ◌&&◌, Bool, List, ◌∷◌, ℤ, inl, inr, refl, sym, subst}
-use Rattle.is_stun.specs.Timing.{is_modern}
-use Rattle.is_c_calls.specs.Codes.{OK}
-use Rattle.is_c_calls.specs.Held.{HomeRecord}
-use Rattle.is_c_calls.specs.Following.{Followed}
-use Rattle.is_c_calls.specs.Sessions.{Used, Session, is_ok}
-use Rattle.is_c_calls.specs.Uses.{Use, FixTimes, Does}
 use Rattle.is_c_theorems.specs.Headline.{used, FollowedAreUses}
+use Rattle.is_c_theorems.proofs.Common.{◌&&◌, ◌∷◌, ◌≡◌, ◌⊎◌, Bool, Does, FixTimes, Followed, HeldRecord, inl, inr, is_modern, is_ok, List}
+use Rattle.is_c_theorems.proofs.Common.{OK, refl, Session, subst, sym, Use, Used, ℤ}
 use Rattle.is_c_theorems.proofs.CallsAsSteps.{either}
 
-abbrev Goes : HomeRecord → HomeRecord → List Used → Use → ℤ → Type 0
+abbrev Goes : HeldRecord → HeldRecord → List Used → Use → ℤ → Type 0
 Goes first new uses export code =
     (more : List Used) × Session first more new
     × ((more ≡ used export code ∷ uses) ⊎ ((fixes : Bool) × (more ≡ used (FixTimes fixes) OK ∷ used export code ∷ uses)))
 
-one_or_two : (soon : HomeRecord → HomeRecord → Bool) (first old new : HomeRecord) (uses : List Used) (export : Use) (code : ℤ)
+one_or_two : (soon : HeldRecord → HeldRecord → Bool) (first old new : HeldRecord) (uses : List Used) (export : Use) (code : ℤ)
     → Session first uses old → Followed soon export old code new → Goes first new uses export code
 one_or_two soon first old new uses export code session (mid, does, follows) = either (is_ok code && is_modern mid.agent.timing) fixed same follows where
   before : Session first (used export code ∷ uses) mid
@@ -24,7 +19,7 @@ one_or_two soon first old new uses export code session (mid, does, follows) = ei
   fixed fixes = (used (FixTimes (soon old mid)) OK ∷ used export code ∷ uses, (mid, before, fixes), inr (soon old mid, refl))
 
   same : new ≡ mid → Goes first new uses export code
-  same is = (used export code ∷ uses, subst (λ (h : HomeRecord). Session first (used export code ∷ uses) h) (sym is) before, inl refl)
+  same is = (used export code ∷ uses, subst (λ (h : HeldRecord). Session first (used export code ∷ uses) h) (sym is) before, inl refl)
 
 pub are_uses : FollowedAreUses
 are_uses soon first old new uses export code session followed =

@@ -1,45 +1,20 @@
 -- What a slot of C holds, as the last state of an execution: one call more, further calls, and when the agent is connected.
-use Rattle.std.proofs.Common.{◌≡◌, ℕ, ◌<◌, ◌≤◌, ◌==◌, ◌&&◌, Bool, true, false, nat_lt, List, [], ◌∷◌, ◌++◌, length, Option, Some, None, Result, Ok, Err, ℤ, pos, inl, inr, refl, ap, sym, ◌∙◌, subst, arith}
-use Rattle.std.specs.Option.{option_map_or, option_and_then}
 use Rattle.std.proofs.lemmas.Bool.{eqb-true}
-use Rattle.rand_core.specs.Steps.{stream_of}
-use Rattle.rand_core.specs.Stream.{Stream}
-use Rattle.is_proto.specs.declared.error.IceError.{IceError}
 use Rattle.is_proto.specs.declared.error.IceError.TheVariants as errors
-use Rattle.is_proto.specs.Lists.{Has}
 use Rattle.is_pair.specs.Multiset.{is_numbered, pair_numbered}
-use Rattle.is_pair.specs.Pairs.{PairRecord, is_valid, is_nominated}
-use Rattle.is_rules.specs.declared.emitted.Emitted.{Emitted}
-use Rattle.is_rules.specs.declared.emitted.Path.{Path}
-use Rattle.is_rules.specs.Brought.{Continues}
-use Rattle.is_rules.specs.Effects.{PathTheorem, PathEffect}
-use Rattle.is_rules.specs.Nominating.{is_eligible, persists_at, followed, remains, selection_of}
-use Rattle.is_rules.specs.Points.{IsTopSelected}
-use Rattle.is_rules.specs.Sending.{path_of}
-use Rattle.is_rules.specs.Sound.{IsSound, GivesBased}
-use Rattle.is_rules.specs.States.{is_nominated_and_valid}
-use Rattle.is_rules.specs.Timeouts.{TimesOut}
 use Rattle.is_rules.specs.Steps as agent
-use Rattle.is_rules.specs.Steps.{Call, Entry, Done, Flag, Step, answer_by, done, is_done, is_rejection}
 use Rattle.is_rules.proofs.PairLists.ChosenPair.{chosen-able, chosen-none, found-in, named-by, none_pass}
 use Rattle.is_rules.proofs.PairLists.RisingNumbers.{AreRising, below-each, rising-each}
-use Rattle.is_theorems.specs.Logs.{Logged}
-use Rattle.is_theorems.specs.Settings.{AllAreSetInTurn}
-use Rattle.is_theorems.specs.Settled.{StatesAgree}
-use Rattle.is_c_calls.specs.declared.preference.Preference.{Preference}
-use Rattle.is_c_calls.specs.AgentSettings.{settings_of}
-use Rattle.is_c_calls.specs.Clock.{agent_time}
-use Rattle.is_c_calls.specs.Codes.{OK, code_of, done_code, flag_code}
-use Rattle.is_c_calls.specs.Held.{Held, HomeRecord}
-use Rattle.is_c_calls.specs.Making.{fresh_home}
-use Rattle.is_c_calls.specs.Packets.{HandlesDatagram}
-use Rattle.is_c_calls.specs.Preferences.{answers}
-use Rattle.is_c_calls.specs.Random.{given_steps}
-use Rattle.is_c_calls.specs.Sessions.{Used, Session}
-use Rattle.is_c_calls.specs.Uses.{Use, HandlePacket, HandleTimeout, Does, mac_of}
-use Rattle.is_c_theorems.specs.Connecting.{IsInSlot, Leads, IsConnected, is_error, PassesPacket}
-use Rattle.is_c_theorems.specs.CallLogs.{Makes, Answers, code_by, settings_onto, newborn, IsUsed}
-use Rattle.is_c_theorems.specs.Chosen.{EachKeeps, keeps_modern}
+use Rattle.is_c_theorems.proofs.Common.{[], ◌&&◌, ◌++◌, ◌<◌, ◌==◌, ◌∙◌, ◌∷◌, ◌≡◌, ◌≤◌, agent_time, AllAreSetInTurn, answer_by, Answers}
+use Rattle.is_c_theorems.proofs.Common.{answers, ap, arith, Bool, Call, code_by, code_of, Continues, Does, Done, done, done_code, EachKeeps}
+use Rattle.is_c_theorems.proofs.Common.{Emitted, Entry, Err, false, Flag, flag_code, followed, fresh_held, given_steps, GivesBased}
+use Rattle.is_c_theorems.proofs.Common.{HandlePacket, HandlesDatagram, HandleTimeout, Has, Held, HeldRecord, IceError, inl, inr, is_done}
+use Rattle.is_c_theorems.proofs.Common.{is_eligible, is_error, is_nominated, is_nominated_and_valid, is_rejection, is_valid, IsConnected}
+use Rattle.is_c_theorems.proofs.Common.{IsInSlot, IsSound, IsTopSelected, IsUsed, keeps_modern, Leads, length, List, Logged, mac_of, Makes}
+use Rattle.is_c_theorems.proofs.Common.{nat_lt, newborn, None, OK, Ok, Option, option_and_then, option_map_or, PairRecord, PassesPacket}
+use Rattle.is_c_theorems.proofs.Common.{Path, path_of, PathEffect, PathTheorem, persists_at, pos, Preference, refl, remains, Result}
+use Rattle.is_c_theorems.proofs.Common.{selection_of, Session, settings_of, settings_onto, Some, StatesAgree, Step, Stream, stream_of}
+use Rattle.is_c_theorems.proofs.Common.{subst, sym, TimesOut, true, Use, Used, ℕ, ℤ}
 use Rattle.is_c_theorems.proofs.AlongExecutions.{Set, connected_have_path}
 use Rattle.is_c_theorems.proofs.CallsAsSteps.{either, never, one}
 use Rattle.is_c_theorems.proofs.KnownAgents.{known}
@@ -88,14 +63,14 @@ done_by (Err e) is = never (sym (ap is_error is) ∙ error_is e)
 -- ---- one call
 
 -- a packet for which no error is returned
-pub record Received (at : ℕ) (path : Path) (bytes : List ℕ) (code : ℤ) (old new : HomeRecord) : Type 0 where
+pub record Received (at : ℕ) (path : Path) (bytes : List ℕ) (code : ℤ) (old new : HeldRecord) : Type 0 where
   pub entry : Entry
   pub coded : code ≡ code_by entry.answer
   pub fine : is_rejection entry.answer ≡ false
   pub accepted : code ≡ OK → entry.answer ≡ Flag true
   pub step : Step mac_of answers old.agent any (agent.ReceivePacket at path bytes) entry new.agent any
 
-receives : (now : ℕ) (path : Path) (bytes : List ℕ) (code : ℤ) (old new : HomeRecord) → HandlesDatagram mac_of now (Some path) bytes old code new
+receives : (now : ℕ) (path : Path) (bytes : List ℕ) (code : ℤ) (old new : HeldRecord) → HandlesDatagram mac_of now (Some path) bytes old code new
     → is_error code ≡ false → Received (agent_time now) path bytes code old new
 receives now path bytes code old new (inl (fault, fails, (is, same))) fine = never (sym fine ∙ ap is_error is)
 receives now path bytes code old new (inr (m, reads, (r, (emitted, handles, coded, kept)))) fine = record {
@@ -106,20 +81,20 @@ receives now path bytes code old new (inr (m, reads, (r, (emitted, handles, code
   step = (inr (m, reads, (r, emitted, refl, handles)), refl);
 }
 
-pub received : (path : Path) (bytes : List ℕ) (code : ℤ) (old new : HomeRecord) → (k : PassesPacket path bytes old code new) → is_error code ≡ false
+pub received : (path : Path) (bytes : List ℕ) (code : ℤ) (old new : HeldRecord) → (k : PassesPacket path bytes old code new) → is_error code ≡ false
     → Received (agent_time k.now) path bytes code old new
 received path bytes code old new k fine =
     receives k.now path bytes code old new (subst (λ (o : Option Path). HandlesDatagram mac_of k.now o bytes old code new) k.on k.does) fine
 
 -- an `is_ice_handle_timeout` that returns OK
-pub record Timed (at : ℕ) (old new : HomeRecord) : Type 0 where
+pub record Timed (at : ℕ) (old new : HeldRecord) : Type 0 where
   pub entry : Entry
   pub s : Stream
   pub t : Stream
   pub ok : entry.answer ≡ Done
   pub step : Step mac_of answers old.agent s (agent.HandleTimeout at) entry new.agent t
 
-timed_by : (now : ℕ) (random : List ℕ) (old new : HomeRecord) (r : Result (Unit {0}) IceError) (emitted : Emitted) (left : Stream)
+timed_by : (now : ℕ) (random : List ℕ) (old new : HeldRecord) (r : Result (Unit {0}) IceError) (emitted : Emitted) (left : Stream)
     → TimesOut mac_of (agent_time now) old.agent (stream_of given_steps random) r emitted new.agent left → OK ≡ done_code r → Timed (agent_time now) old new
 timed_by now random old new r emitted left times coded = record {
   entry = record { answer = answer_by done r; emitted = emitted };
@@ -129,7 +104,7 @@ timed_by now random old new r emitted left times coded = record {
   step = (r, emitted, refl, times);
 }
 
-pub timed : (now : ℕ) (random : List ℕ) (old new : HomeRecord) → Does (HandleTimeout now random) old OK new → Timed (agent_time now) old new
+pub timed : (now : ℕ) (random : List ℕ) (old new : HeldRecord) → Does (HandleTimeout now random) old OK new → Timed (agent_time now) old new
 timed now random old new h = either (nat_lt (length random) 12)
     (λ k. never (ap is_error k.0))
     (λ (r, (emitted, k)). timed_by now random old new r emitted k.0 k.1 k.2) h
@@ -145,11 +120,11 @@ joined_modern [] uses new old v has = old v has
 joined_modern (u ∷ more) uses new old v (inl same) = new v (inl same)
 joined_modern (u ∷ more) uses new old v (inr has) = joined_modern more uses (λ w h. new w (inr h)) old v has
 
-joined : (first mid last : HomeRecord) (uses more : List Used) → Session first uses mid → Session mid more last → Session first (more ++ uses) last
-joined first mid last uses [] session is = subst (λ (h : HomeRecord). Session first uses h) (sym is) session
+joined : (first mid last : HeldRecord) (uses more : List Used) → Session first uses mid → Session mid more last → Session first (more ++ uses) last
+joined first mid last uses [] session is = subst (λ (h : HeldRecord). Session first uses h) (sym is) session
 joined first mid last uses (u ∷ more) session (near, others, does) = (near, joined first mid near uses more session others, does)
 
-pub held_after : (old new : HomeRecord) → IsInSlot old → (export : Use) (code : ℤ) → Does export old code new → keeps_modern export ≡ true → IsInSlot new
+pub held_after : (old new : HeldRecord) → IsInSlot old → (export : Use) (code : ℤ) → Does export old code new → keeps_modern export ≡ true → IsInSlot new
 held_after old new k export code does is = record {
   creds = k.creds;
   tie_breaker = k.tie_breaker;
@@ -158,17 +133,17 @@ held_after old new k export code does is = record {
   modern = more_modern (record { export = export; code = code }) k.uses is k.modern;
 }
 
-pub held_later : (from to : HomeRecord) → IsInSlot from → Leads from to → IsInSlot to
+pub held_later : (from to : HeldRecord) → IsInSlot from → Leads from to → IsInSlot to
 held_later from to k l = record {
   creds = k.creds;
   tie_breaker = k.tie_breaker;
   uses = l.uses ++ k.uses;
-  session = joined (fresh_home k.creds k.tie_breaker) from to k.uses l.uses k.session l.session;
+  session = joined (fresh_held k.creds k.tie_breaker) from to k.uses l.uses k.session l.session;
   modern = joined_modern l.uses k.uses l.modern k.modern;
 }
 
-ran_on : Turns → (from to : HomeRecord) (uses : List Used) → Session from uses to → (log : Log) × Ran from.agent log to.agent
-ran_on turn from to [] is = ([], ap (λ (h : HomeRecord). h.agent) is)
+ran_on : Turns → (from to : HeldRecord) (uses : List Used) → Session from uses to → (log : Log) × Ran from.agent log to.agent
+ran_on turn from to [] is = ([], ap (λ (h : HeldRecord). h.agent) is)
 ran_on turn from to (u ∷ before) (mid, session, does) = next (ran_on turn from mid before session) where
   next : (log : Log) × Ran from.agent log mid.agent → (log : Log) × Ran from.agent log to.agent
   next (log, run) = elim (one 0 u.export u.code mid to does) as (λ _. (log : Log) × Ran from.agent log to.agent) [
@@ -229,7 +204,7 @@ module _ (paths : Paths) where
         ];
       }
 
-  pub continued : Turns → (from to : HomeRecord) → IsSound from.agent → Leads from to → (p q : PairRecord) → Has from.agent.pairs p → Has to.agent.pairs q
+  pub continued : Turns → (from to : HeldRecord) → IsSound from.agent → Leads from to → (p q : PairRecord) → Has from.agent.pairs p → Has to.agent.pairs q
       → q.number ≡ p.number → Continued from.agent to.agent p q
   continued turn from to sound l p q has_p has_q same =
       let r = ran_on turn from to l.uses l.session in
@@ -270,20 +245,20 @@ names_one a q has able (Some best, chosen, persists) = by (followed a) refl wher
   )
 
 -- the agent after one call more
-pub record After (old new : HomeRecord) (call : Call Preference) (e : Entry) : Type 0 where
+pub record After (old new : HeldRecord) (call : Call Preference) (e : Entry) : Type 0 where
   pub sound : IsSound old.agent
   pub effect : PathEffect mac_of old.agent call e new.agent
   -- if nomination was evaluated, and a pair may be selected
   pub connects : IsTopSelected new.agent → (p : PairRecord) → Has new.agent.pairs p → is_eligible new.agent.controlling p ≡ true → IsConnected new
 
 module _ (turn : Turns) (paths : Paths) where
-  pub sound_held : (home : HomeRecord) → IsInSlot home → IsSound home.agent
-  sound_held home k =
-      let w = walk turn k.creds k.tie_breaker k.uses home k.session in
-      (known paths k.creds k.tie_breaker w.0 home.agent (run_is turn k.creds k.tie_breaker k.uses w.0 home w.1)).sound
+  pub sound_held : (held : HeldRecord) → IsInSlot held → IsSound held.agent
+  sound_held held k =
+      let w = walk turn k.creds k.tie_breaker k.uses held k.session in
+      (known paths k.creds k.tie_breaker w.0 held.agent (run_is turn k.creds k.tie_breaker k.uses w.0 held w.1)).sound
 
   module _ (law : Set) (agree : Agree) where
-    pub after : (old new : HomeRecord) → IsInSlot old → (export : Use) (code : ℤ) (call : Call Preference) (e : Entry) (s t : Stream) → Makes export call
+    pub after : (old new : HeldRecord) → IsInSlot old → (export : Use) (code : ℤ) (call : Call Preference) (e : Entry) (s t : Stream) → Makes export call
         → Answers export e.answer code → keeps_modern export ≡ true → GivesBased call → Step mac_of answers old.agent s call e new.agent t → After old new call e
     after old new k export code call e s t makes answered modern given step =
         let w = walk turn k.creds k.tie_breaker k.uses old k.session in
@@ -307,14 +282,14 @@ module _ (turn : Turns) (paths : Paths) where
               (connected_have_path law agree (u ∷ k.uses) (x ∷ w.0) new used (more_modern u k.uses modern k.modern)).1 (n.0, n.1, live, is.2));
         }
 
-    pub after_packet : (old new : HomeRecord) → IsInSlot old → (path : Path) (bytes : List ℕ) (code : ℤ) → (k : PassesPacket path bytes old code new) (fine : is_error code ≡ false)
+    pub after_packet : (old new : HeldRecord) → IsInSlot old → (path : Path) (bytes : List ℕ) (code : ℤ) → (k : PassesPacket path bytes old code new) (fine : is_error code ≡ false)
         → After old new (agent.ReceivePacket (agent_time k.now) path bytes) (received path bytes code old new k fine).entry
     after_packet old new held path bytes code k fine =
         let got = received path bytes code old new k fine in
         after old new held (HandlePacket k.now k.protocol k.source k.destination bytes) code (agent.ReceivePacket (agent_time k.now) path bytes) got.entry any any
         (path, k.on, refl) got.coded refl tt got.step
 
-    pub after_timeout : (old new : HomeRecord) → IsInSlot old → (now : ℕ) (random : List ℕ) (does : Does (HandleTimeout now random) old OK new)
+    pub after_timeout : (old new : HeldRecord) → IsInSlot old → (now : ℕ) (random : List ℕ) (does : Does (HandleTimeout now random) old OK new)
         → After old new (agent.HandleTimeout (agent_time now)) (timed now random old new does).entry
     after_timeout old new held now random does =
         let k = timed now random old new does in

@@ -1,34 +1,22 @@
 -- Only a `handle_timeout` call issues a check, and its transaction ID is the next twelve random bytes.
-use Rattle.std.proofs.Common.{◌≡◌, ◌==◌, ℕ, Bool, true, false, List, [], Option, Some, None, Result, Ok, Err, MatchBool, MatchOption, inl, inr, ap, sym, ◌∙◌}
-use Rattle.rand_core.specs.Stream.{Stream, fill_bytes}
-use Rattle.is_proto.specs.declared.error.IceError.{IceError}
-use Rattle.is_pair.specs.Pairs.{PairRecord}
-use Rattle.is_stun.specs.declared.header.Class.{Class}
 use Rattle.is_stun.specs.declared.header.Class.TheVariants as class
-use Rattle.is_stun.specs.Message.{Message}
-use Rattle.is_candidate.specs.Candidates.{CandidateRecord, candidate_at}
-use Rattle.is_rules.specs.declared.credentials.IceCreds.{IceCreds}
-use Rattle.is_rules.specs.declared.emitted.Emitted.{Emitted}
-use Rattle.is_rules.specs.declared.emitted.Issued.{Issued}
-use Rattle.is_rules.specs.declared.emitted.Path.{Path}
 use Rattle.is_rules.specs.declared.roles.Conflict.{Conflict}
-use Rattle.is_rules.specs.declared.roles.Conflict.TheVariants.{Absent, Send487, SwitchRole}
 use Rattle.is_rules.specs.Accepting.{HandlesPacket, Takes}
-use Rattle.is_rules.specs.Agent.{AgentRecord}
-use Rattle.is_rules.specs.Answers.{HandlesFailure, is_role_conflict}
-use Rattle.is_rules.specs.Checking.{MayCheck, ChecksTop, all_asked}
-use Rattle.is_rules.specs.Emitted.{nothing_emitted, issued_as}
+use Rattle.is_rules.specs.Checking.{MayCheck, ChecksTop, all_scheduled}
 use Rattle.is_rules.specs.Forming.{formed, with_pair}
 use Rattle.is_rules.specs.declared.places.RemotePlace.{RemotePlace}
 use Rattle.is_rules.specs.declared.places.RemotePlace.TheVariants.{Known, Barred, Unknown, Vacant, Full}
 use Rattle.is_rules.specs.Places.{local_place}
 use Rattle.is_rules.specs.Queue.{request_at}
-use Rattle.is_rules.specs.Request.{RequestRecord, request_in}
-use Rattle.is_rules.specs.Roles.{conflict_of, switched}
-use Rattle.is_rules.specs.Serving.{Serves, RecordsAndResponds, Joins, AddsUnknownSender, FindsSender, CountsAndServes, ResolvesRoleConflictBy, is_misled, is_for_other_peer, request_counted, with_sender, with_sender_at}
+use Rattle.is_rules.specs.Serving.{is_for_other_peer, is_misled, request_counted, with_sender, with_sender_at, Serves}
 use Rattle.is_rules.specs.Steps as agent
-use Rattle.is_rules.specs.Steps.{Call, Entry, Step, Receives, MaySelect}
-use Rattle.is_rules.specs.Timeouts.{TimesOut}
+use Rattle.is_rules.proofs.ServedRequests.RulesInTurn.{in_turn, AddsUnknownSender, CountsAndServes, FindsSender, Joins, RecordsAndResponds}
+use Rattle.is_rules.proofs.ServedRequests.RulesInTurn.{ResolvesRoleConflictBy}
+use Rattle.is_c_theorems.proofs.Common.{[], ◌==◌, ◌∙◌, ◌≡◌, Absent, AgentRecord, ap, Bool, Call, candidate_at, CandidateRecord, Class}
+use Rattle.is_c_theorems.proofs.Common.{conflict_of, Emitted, Entry, Err, false, fill_bytes, HandlesFailure, IceCreds, IceError, inl, inr}
+use Rattle.is_c_theorems.proofs.Common.{is_role_conflict, Issued, issued_as, List, MatchBool, MatchOption, MaySelect, Message, None}
+use Rattle.is_c_theorems.proofs.Common.{nothing_emitted, Ok, Option, PairRecord, Path, Receives, request_in, RequestRecord, Result, Send487}
+use Rattle.is_c_theorems.proofs.Common.{Some, Step, Stream, switched, SwitchRole, sym, TimesOut, true, ℕ}
 
 either : (b : Bool) {X Y Z : Type 0} → (X → Z) → (Y → Z) → MatchBool b X Y → Z
 either true f g h = f h
@@ -92,7 +80,7 @@ module _ {H P : Type 0} (mac : H → List ℕ → List ℕ → List ℕ) where
 
   serves : (q : RequestRecord) (s new : AgentRecord H P) (emitted : Emitted) → Serves mac q s emitted new → issues_check emitted.issued ≡ false
   serves q s new emitted h = either (is_for_other_peer s q) (silent emitted)
-      (λ k. optional (local_place s.local q) _ (silent emitted) (λ l j. resolves (conflict_of s q) q l s new emitted j) k) h
+      (λ k. optional (local_place s.local q) _ (silent emitted) (λ l j. resolves (conflict_of s q) q l s new emitted j) k) (in_turn mac q s new emitted h)
 
   fails : (old new : AgentRecord H P) (via : Path) (m : Message) (emitted : Emitted) → HandlesFailure old via m emitted new → issues_check emitted.issued ≡ false
   fails old new via m emitted (p, has, kept, h) = either (is_role_conflict m) (λ (c, has_it, is, k). either _ (silent emitted) (silent emitted) k) (silent emitted) h
@@ -159,7 +147,7 @@ module _ {H P : Type 0} (mac : H → List ℕ → List ℕ → List ℕ) where
   may_check now None old new s t issued k path id is = let wrong_ : None ≡ Some (issued_as path class.Request id) = sym k.0 ∙ is in absurd (cc)
   may_check now (Some peer) old new s t issued k path id is = either old.lite
       (λ j. let wrong_ : None ≡ Some (issued_as path class.Request id) = sym j.0 ∙ is in absurd (cc))
-      (λ j. tops now peer j.0 (all_asked now old) new s t issued j.2 path id is) k
+      (λ j. tops now peer j.0 (all_scheduled now old) new s t issued j.2 path id is) k
 
   pub drawn_at : (now : ℕ) (old new : AgentRecord H P) (s t : Stream) (r : Result (Unit {0}) IceError) (emitted : Emitted) → TimesOut mac now old s r emitted new t
       → (path : Path) (id : List ℕ) → emitted.issued ≡ Some (issued_as path class.Request id) → id ≡ (fill_bytes 12 s).0

@@ -1,19 +1,7 @@
 -- What the log of a new agent implies: the invariant, and that the pair which `selected_pair` names is valid and nominated, on the path that was
 -- selected last.
-use Rattle.std.proofs.Common.{◌≡◌, ℕ, true, Some}
-use Rattle.is_proto.specs.Lists.{Has}
-use Rattle.is_pair.specs.Pairs.{PairRecord, is_valid, is_nominated}
-use Rattle.is_rules.specs.declared.credentials.IceCreds.{IceCreds}
-use Rattle.is_rules.specs.Effects.{PathTheorem}
-use Rattle.is_rules.specs.Sending.{path_of}
-use Rattle.is_rules.specs.Sound.{IsSound}
-use Rattle.is_theorems.specs.Logs.{last_selected}
-use Rattle.is_theorems.proofs.ExecutionLogs.SharedLogTheorems.{holds}
-use Rattle.is_c_calls.specs.declared.preference.Preference.{Preference}
-use Rattle.is_c_calls.specs.Held.{Held}
-use Rattle.is_c_calls.specs.Preferences.{answers}
-use Rattle.is_c_calls.specs.Uses.{mac_of}
-use Rattle.is_c_theorems.specs.CallLogs.{newborn}
+use Rattle.is_c_theorems.proofs.Common.{◌≡◌, answers, Has, Held, holds, IceCreds, is_nominated, is_valid, IsSound, last_selected, mac_of}
+use Rattle.is_c_theorems.proofs.Common.{newborn, PairRecord, path_of, PathTheorem, Preference, Some, true, ℕ}
 use Rattle.is_c_theorems.proofs.AlongExecutions.{is_new}
 use Rattle.is_c_theorems.proofs.LogsOfCalls.{Ran}
 use Rattle.is_c_theorems.proofs.SettingsOfCalls.{Log}

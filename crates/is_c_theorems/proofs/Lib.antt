@@ -1,3 +1,4 @@
+mod Common
 -- C's calls as steps and as executions, their settings, what C saw of them, and what the theorems on executions say of them.
 mod LinesWithoutBase
 mod CallsAsSteps
@@ -22,3 +23,6 @@ mod HeldAgents
 mod DeliveredChecks
 mod ConnectedAgents
 mod NominatedAtOnce
+mod ClocksOfCalls
+mod CreditOfDeadlines
+mod FrugalSeconds

@@ -1,8 +1,7 @@
 -- A candidate that is read from a candidate attribute has no base: so it is its own base.
-use Rattle.std.proofs.Common.{◌≡◌, ℕ, subst, inl, inr, refl, List, Some, Result, Ok, Err, codes}
-use Rattle.is_candidate.specs.Candidates.{CandidateRecord, IsBased}
 use Rattle.is_candidate.specs.Lines.{line_candidate, ReadsWords}
-use Rattle.is_c_calls.specs.Candidates.{ReadsBytes}
+use Rattle.is_c_theorems.proofs.Common.{◌≡◌, CandidateRecord, codes, Err, inl, inr, IsBased, List, Ok, ReadsBytes, refl, Result, Some}
+use Rattle.is_c_theorems.proofs.Common.{subst, ℕ}
 
 abbrev Read : Type 0
 Read = Result CandidateRecord (List ℕ)

@@ -1,33 +1,16 @@
 -- A controlled agent whose response came first is connected by the call that passes the nomination. What mutants/specifications changes is read by
 -- tactics.
-use Rattle.std.proofs.Common.{◌≡◌, ℕ, ◌&&◌, ◌||◌, Bool, true, false, List, [], ◌∷◌, length, Option, ℤ, inl, inr, refl, ap, sym, ◌∙◌}
-use Rattle.std.specs.Option.{option_or}
-use Rattle.is_proto.specs.Lists.{Has}
-use Rattle.is_pair.specs.Pairs.{PairRecord, is_valid, is_nominated}
-use Rattle.is_stun.specs.Timing.{is_modern, is_modern_profile}
-use Rattle.is_rules.specs.declared.emitted.Path.{Path}
-use Rattle.is_rules.specs.Effects.{last_of}
-use Rattle.is_rules.specs.States.{is_nominated_and_valid}
 use Rattle.is_rules.specs.Steps as agent
-use Rattle.is_rules.specs.Steps.{Call, Entry}
-use Rattle.is_theorems.specs.Asked.{IsOnlyPair, UsesAddressesOf}
-use Rattle.is_theorems.specs.AskedExecutions.{selected_along}
-use Rattle.is_theorems.specs.Asking.{AcceptsNomination}
 use Rattle.is_theorems.specs.AtOnce.{NominationsSelectAtOnce, WereValidOn}
-use Rattle.is_theorems.specs.Logs.{Logged, last_selected}
 use Rattle.is_theorems.specs.Runs.{Point}
-use Rattle.is_theorems.specs.Settings.{all_settings_of}
 use Rattle.is_theorems.specs.Staying.{PairsStay, Stays}
 use Rattle.is_theorems.proofs.ExecutionLogs.PerAgentExecutions.{entry_of, leads_on, pushed}
-use Rattle.is_theorems.proofs.ExecutionLogs.SegmentsAsExecutions.{calls_onto}
-use Rattle.is_c_calls.specs.declared.preference.Preference.{Preference}
-use Rattle.is_c_calls.specs.Clock.{agent_time}
-use Rattle.is_c_calls.specs.Held.{HomeRecord}
-use Rattle.is_c_calls.specs.Preferences.{answers}
-use Rattle.is_c_calls.specs.Sessions.{Used}
-use Rattle.is_c_calls.specs.Uses.{HandlePacket, mac_of}
-use Rattle.is_c_theorems.specs.CallLogs.{IsLogOf, newborn, IsUsed}
-use Rattle.is_c_theorems.specs.Connecting.{IsInSlot, IsConnected, is_error, PassesPacket, NominationsConnect}
+use Rattle.is_c_theorems.proofs.Common.{[], ◌&&◌, ◌||◌, ◌∙◌, ◌∷◌, ◌≡◌, AcceptsNomination, agent_time, all_settings_of, answers, ap, Bool}
+use Rattle.is_c_theorems.proofs.Common.{Call, calls_onto, Entry, false, HandlePacket, Has, HeldRecord, inl, inr, is_error, is_modern}
+use Rattle.is_c_theorems.proofs.Common.{is_modern_profile, is_nominated, is_nominated_and_valid, is_valid, IsConnected, IsInSlot, IsLogOf}
+use Rattle.is_c_theorems.proofs.Common.{IsOnlyPair, IsUsed, last_of, last_selected, length, List, Logged, mac_of, newborn}
+use Rattle.is_c_theorems.proofs.Common.{NominationsConnect, Option, option_or, PairRecord, PassesPacket, Path, Preference, refl}
+use Rattle.is_c_theorems.proofs.Common.{selected_along, sym, true, Used, UsesAddressesOf, ℕ, ℤ}
 use Rattle.is_c_theorems.proofs.AlongExecutions.{Set, connected_have_path, gone, is_born, onto_selected}
 use Rattle.is_c_theorems.proofs.ConnectedAgents.{Asks, asked_on, held_taken, later_on, valid_on}
 use Rattle.is_c_theorems.proofs.DeliveredChecks.{Accepts, Serves, Trades, Twenty, got}
@@ -41,7 +24,7 @@ Once = NominationsSelectAtOnce {H = _} {P = Preference} mac_of answers
 abbrev pub Stay : Type 0
 Stay = PairsStay {H = _} {P = Preference} mac_of answers
 
--- the same calls in a log that is numbered from 0
+-- calls in a log that is numbered from 0 select the path that they select one after another
 pushed_along : (xs : List (Call Preference × Entry)) (before : Log) → last_selected (pushed before xs) ≡ selected_along (last_selected before) xs
 pushed_along [] before = refl
 pushed_along (x ∷ rest) before = pushed_along rest (entry_of before x.0 x.1 ∷ before)
@@ -50,7 +33,7 @@ pushed_selected : (log : Log) → last_selected (pushed [] (calls_onto log [])) 
 pushed_selected log = pushed_along (calls_onto log []) [] ∙ onto_selected log []
 
 module _ (turn : Turns) (paths : Paths) (law : Set) (agree : Agree) (once : Once) where
-  at_once : (old new : HomeRecord) → IsInSlot old → (path : Path) (bytes : List ℕ) (code : ℤ) → (p : PassesPacket path bytes old code new) (fine : is_error code ≡ false)
+  at_once : (old new : HeldRecord) → IsInSlot old → (path : Path) (bytes : List ℕ) (code : ℤ) → (p : PassesPacket path bytes old code new) (fine : is_error code ≡ false)
       → (on : Path) → AcceptsNomination old.agent (agent.ReceivePacket (agent_time p.now) path bytes) (received path bytes code old new p fine).entry on
       → new.agent.controlling ≡ false → WereValidOn old.agent new.agent on → IsConnected new
   at_once old new k path bytes code p fine on asked controlled valid =

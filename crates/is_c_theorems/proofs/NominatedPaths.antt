@@ -1,32 +1,16 @@
 -- Each path that C gets by a `NominatedSend` from an agent that was controlled since the last restart was nominated by the peer since then. What
 -- mutants/specifications changes is read by tactics.
-use Rattle.std.proofs.Common.{◌≡◌, ◌⊎◌, ◌==◌, ◌<◌, ℕ, Bool, true, false, List, [], ◌∷◌, length, map, inl, inr, refl, ap, sym, ◌∙◌, subst, arith}
-use Rattle.rand_core.specs.Stream.{Stream}
-use Rattle.is_stun.specs.Message.{Message}
-use Rattle.is_rules.specs.declared.credentials.IceCreds.{IceCreds}
-use Rattle.is_rules.specs.declared.emitted.Path.{Path}
-use Rattle.is_rules.specs.declared.settings.Settings.{Settings}
-use Rattle.is_rules.specs.Request.{request_in}
 use Rattle.is_rules.specs.Serving.{as_taken}
-use Rattle.is_rules.specs.Settings.{modern_settings, with_settings}
 use Rattle.is_rules.specs.Steps as agent
-use Rattle.is_rules.specs.Steps.{Call, Answer, Entry, Done, Step, is_done, quiet, Becomes}
-use Rattle.is_theorems.specs.Exchange.{Execution}
-use Rattle.is_theorems.specs.Logs.{AsksAt, has_numbers}
 use Rattle.is_theorems.specs.Polled as polled
-use Rattle.is_theorems.specs.Polled.{AskedSince, NominatedSince, IsControlledSinceRestart, WaitingAreNominatedSince}
-use Rattle.is_theorems.specs.Settings.{setters_of}
-use Rattle.is_c_calls.specs.declared.preference.Preference.{Preference}
-use Rattle.is_c_calls.specs.AgentSettings.{settings_of}
-use Rattle.is_c_calls.specs.Held.{Held, HomeRecord}
-use Rattle.is_c_calls.specs.Making.{fresh_home}
-use Rattle.is_c_calls.specs.Preferences.{answers}
-use Rattle.is_c_calls.specs.Sessions.{Used, Session}
-use Rattle.is_c_calls.specs.Uses.{mac_of}
-use Rattle.is_c_theorems.specs.CallLogs.{setters_onto, settings_onto, IsLogOf, newborn}
-use Rattle.is_c_theorems.specs.Chosen.{EachKeeps, keeps_modern}
-use Rattle.is_c_theorems.specs.Seen.{nominates, is_restart, Since}
+use Rattle.is_c_theorems.specs.Seen.{nominates}
 use Rattle.is_c_theorems.specs.Headline.{Nominates, StaysControlled, SelectedAreNominatedByPeer}
+use Rattle.is_c_theorems.proofs.Common.{[], ◌<◌, ◌==◌, ◌∙◌, ◌∷◌, ◌≡◌, ◌⊎◌, answers, ap, arith, AskedSince, AsksAt, Bool, Call, Done}
+use Rattle.is_c_theorems.proofs.Common.{EachKeeps, Entry, Execution, false, fresh_held, has_numbers, Held, HeldRecord, IceCreds, inl, inr}
+use Rattle.is_c_theorems.proofs.Common.{is_restart, IsControlledSinceRestart, IsLogOf, keeps_modern, length, List, mac_of, map, Message}
+use Rattle.is_c_theorems.proofs.Common.{modern_settings, newborn, NominatedSince, Path, Preference, quiet, refl, request_in, Session}
+use Rattle.is_c_theorems.proofs.Common.{setters_of, setters_onto, Settings, settings_of, settings_onto, Since, Step, Stream, subst, sym}
+use Rattle.is_c_theorems.proofs.Common.{true, Used, WaitingAreNominatedSince, with_settings, ℕ}
 use Rattle.is_c_theorems.proofs.AlongExecutions.{is_new, full_log}
 use Rattle.is_c_theorems.proofs.CallsAsSteps.{never, either, one}
 use Rattle.is_c_theorems.proofs.LogsOfCalls.{Ran, any}
@@ -129,37 +113,37 @@ module _ (turn : Turn) (creds : IceCreds) (tie_breaker : ℕ) where
       subst (λ (a : Held). Calm Is (newborn creds tie_breaker) (settings_onto settings log) a) (sym is)
       (calm_setters (setters_of settings) (all_leave settings) (newborn creds tie_breaker) mid (with_settings settings mid) log calm role (turn mid settings any some))
 
-  abbrev Stays : (uses : List Used) (home : HomeRecord) → Session (fresh_home creds tie_breaker) uses home → Type 0
-  Stays uses home session = StaysControlled (fresh_home creds tie_breaker) uses home session
+  abbrev Stays : (uses : List Used) (held : HeldRecord) → Session (fresh_held creds tie_breaker) uses held → Type 0
+  Stays uses held session = StaysControlled (fresh_held creds tie_breaker) uses held session
 
   -- after a call that is no restart
-  stayed : (u : Used) (before : List Used) (home : HomeRecord) (session : Session (fresh_home creds tie_breaker) (u ∷ before) home) → is_restart u ≡ false
-      → Stays (u ∷ before) home session → Stays before session.0 session.1
-  stayed u before home session none (role, inl restart) = let so : is_restart u ≡ true = search restart in never (sym none ∙ so)
-  stayed u before home session none (role, inr was) = was
+  stayed : (u : Used) (before : List Used) (held : HeldRecord) (session : Session (fresh_held creds tie_breaker) (u ∷ before) held) → is_restart u ≡ false
+      → Stays (u ∷ before) held session → Stays before session.0 session.1
+  stayed u before held session none (role, inl restart) = let so : is_restart u ≡ true = search restart in never (sym none ∙ so)
+  stayed u before held session none (role, inr was) = was
 
   -- with the log of C's calls
-  calm_of : (uses : List Used) (home : HomeRecord) (session : Session (fresh_home creds tie_breaker) uses home)
-      → (log : Log) × IsLogOf uses log × Calm (Stays uses home session) (newborn creds tie_breaker) log home.agent
-  calm_of [] home is = (
+  calm_of : (uses : List Used) (held : HeldRecord) (session : Session (fresh_held creds tie_breaker) uses held)
+      → (log : Log) × IsLogOf uses log × Calm (Stays uses held session) (newborn creds tie_breaker) log held.agent
+  calm_of [] held is = (
     settings_onto modern_settings [],
     refl,
-    calm_all (home.agent.controlling ≡ false) modern_settings (newborn creds tie_breaker) home.agent [] (omega arith) (ap (λ (h : HomeRecord). h.agent) is)
+    calm_all (held.agent.controlling ≡ false) modern_settings (newborn creds tie_breaker) held.agent [] (omega arith) (ap (λ (h : HeldRecord). h.agent) is)
         (refl, λ _. refl) (λ _. refl),
   )
-  calm_of (u ∷ before) home (mid, session, does) = next (calm_of before mid session) where
+  calm_of (u ∷ before) held (mid, session, does) = next (calm_of before mid session) where
     Now : Type 0
-    Now = Stays (u ∷ before) home (mid, session, does)
+    Now = Stays (u ∷ before) held (mid, session, does)
 
     next : (log : Log) × IsLogOf before log × Calm (Stays before mid session) (newborn creds tie_breaker) log mid.agent
-        → (log : Log) × IsLogOf (u ∷ before) log × Calm Now (newborn creds tie_breaker) log home.agent
-    next (log, logs, (run, since_it)) = elim (one (length log) u.export u.code mid home does)
-        as (λ _. (log : Log) × IsLogOf (u ∷ before) log × Calm Now (newborn creds tie_breaker) log home.agent) [
+        → (log : Log) × IsLogOf (u ∷ before) log × Calm Now (newborn creds tie_breaker) log held.agent
+    next (log, logs, (run, since_it)) = elim (one (length log) u.export u.code mid held does)
+        as (λ _. (log : Log) × IsLogOf (u ∷ before) log × Calm Now (newborn creds tie_breaker) log held.agent) [
           | inl (same, none) ↦ (
             log,
             inl (none, logs),
             subst (λ (a : Held). Calm Now (newborn creds tie_breaker) log a) (sym same)
-                (run, λ is. since_it (stayed u before home (mid, session, does) (idle_restart u.export u.code none) is)),
+                (run, λ is. since_it (stayed u before held (mid, session, does) (idle_restart u.export u.code none) is)),
           )
           | inr (inl (x, s, t, is, given, step)) ↦ (
             x ∷ log,
@@ -178,17 +162,17 @@ module _ (turn : Turn) (creds : IceCreds) (tie_breaker : ℕ) where
           | inr (inr all) ↦ (
             settings_onto (settings_of all.settings) log,
             inr (log, inr (all.settings, all.export, all.ok, refl), logs),
-            calm_all Now (settings_of all.settings) mid.agent home.agent log all.some all.sets
-                (run, λ is. since_it (stayed u before home (mid, session, does) (set_restart u all.settings all.export) is))
+            calm_all Now (settings_of all.settings) mid.agent held.agent log all.some all.sets
+                (run, λ is. since_it (stayed u before held (mid, session, does) (set_restart u all.settings all.export) is))
                 (λ is. sym (ap (λ (a : Held). a.controlling) all.sets) ∙ is.0),
           )
         ]
 
 pub are_nominated_by_peer : Turn → WaitingAreNominatedSince {H = _} {P = Preference} mac_of answers → SelectedAreNominatedByPeer
-are_nominated_by_peer turn law creds tie_breaker before home after u path session each controlled does selects =
-    let stays : StaysControlled (fresh_home creds tie_breaker) before home session = search controlled in
-    let k = calm_of turn creds tie_breaker before home session in
+are_nominated_by_peer turn law creds tie_breaker before held after u path session each controlled does selects =
+    let stays : StaysControlled (fresh_held creds tie_breaker) before held session = search controlled in
+    let k = calm_of turn creds tie_breaker before held session in
     let kept : EachKeeps keeps_modern before = search each in
-    let found = law (newborn creds tie_breaker) home.agent k.0 (is_new creds tie_breaker) (full_log before k.0 k.1 kept) (modern_log before k.0 k.1 kept)
-    k.2.0 (k.2.1 stays) path (waited u home after path does selects) in
+    let found = law (newborn creds tie_breaker) held.agent k.0 (is_new creds tie_breaker) (full_log before k.0 k.1 kept) (modern_log before k.0 k.1 kept)
+    k.2.0 (k.2.1 stays) path (waited u held after path does selects) in
     search (asked before k.0 path k.1 (nominated_some k.0 path found))

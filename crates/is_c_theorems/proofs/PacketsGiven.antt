@@ -1,90 +1,74 @@
 -- What C gets from `is_ice_poll_transmit`, and what waits after a call, was to be polled before it. And each call that issues a check is
 -- `is_ice_handle_timeout`, which takes the transaction ID from C's random bytes.
-use Rattle.std.proofs.Common.{◌≡◌, ◌⊎◌, ◌-◌, ◌++◌, ℕ, Bool, true, false, nat_lt, List, length, take, drop, replicate, append-nil, Option, Some, None, Result, Ok, Err, MatchBool, ℤ, inl, inr, refl, ap, sym, ◌∙◌, subst, arith, if◌then◌else◌}
-use Rattle.std.proofs.lemmas.Bool.Decides.{nat_tests}
-use Rattle.std.proofs.Math.Seq.{take-append_seam}
-use Rattle.rand_core.specs.Stream.{Stream, fill_bytes}
-use Rattle.rand_core.specs.Steps.{stream_of}
-use Rattle.is_proto.specs.declared.error.IceError.{IceError}
-use Rattle.is_proto.specs.Lists.{Has}
 use Rattle.is_proto.specs.Packets as packets
 use Rattle.is_stun.specs.declared.header.Class.TheVariants as class
-use Rattle.is_rules.specs.declared.emitted.Emitted.{Emitted}
-use Rattle.is_rules.specs.declared.emitted.Path.{Path}
-use Rattle.is_rules.specs.Emitted.{issued_as}
-use Rattle.is_rules.specs.Issuing.{via_out}
-use Rattle.is_rules.specs.Sound.{GivesBased}
 use Rattle.is_rules.specs.Steps as agent
-use Rattle.is_rules.specs.Steps.{Call, Answer, Entry, Step, answer_by, done, is_done}
-use Rattle.is_rules.specs.Timeouts.{TimesOut}
-use Rattle.is_theorems.specs.Logs.{Logged}
-use Rattle.is_theorems.specs.RoleView.{sets_role}
 use Rattle.is_c_calls.specs.declared.packets.Packet.{Packet}
-use Rattle.is_c_calls.specs.declared.preference.Preference.{Preference}
-use Rattle.is_c_calls.specs.Clock.{agent_time}
-use Rattle.is_c_calls.specs.Codes.{OK, done_code}
-use Rattle.is_c_calls.specs.Held.{HomeRecord}
-use Rattle.is_c_calls.specs.Packets.{packet_path, TakesNext, GivesOf}
-use Rattle.is_c_calls.specs.Preferences.{answers}
-use Rattle.is_c_calls.specs.Random.{given_steps}
-use Rattle.is_c_calls.specs.Sessions.{Used, is_ok}
-use Rattle.is_c_calls.specs.Uses.{Use, Ask, SetControlling, SetLite, SetRenomination, SetTieBreaker, SetMaxPairs, SetMaxDiscovered, SetMaxCandidates, SetTimingAdvance, SetInitialRto, SetMaxRto, SetLiteTimeout, SetMaxRetransmits, SetMtu, SetPreference, SetSettings, SkipPairIds, SetSilence, SetLocalCredentials, SetRemoteCredentials, AddLocal, AddLocalLine, AddRemote, InvalidateLocal, Invalidate, Restart, RecreatePairs, HandlePacket, HandleTimeout, PollTransmit, PollTimeout, PollEvent, SendFailed, FixTimes, mac_of, Does}
-use Rattle.is_c_theorems.specs.CallLogs.{Makes, code_by, IsOf, IsNone}
-use Rattle.is_c_theorems.specs.Seen.{Gets, IsToPoll}
-use Rattle.is_c_theorems.specs.TwoAgents.{id_of}
+use Rattle.is_c_theorems.proofs.Common.{◌++◌, ◌-◌, ◌∙◌, ◌≡◌, ◌⊎◌, AddLocal, AddLocalLine, AddRemote, agent_time, answer_by, answers, ap}
+use Rattle.is_c_theorems.proofs.Common.{append-nil, arith, Ask, Bool, Call, code_by, Does, done, done_code, drop, Emitted, Entry, Err}
+use Rattle.is_c_theorems.proofs.Common.{false, fill_bytes, FixTimes, Gets, given_steps, GivesBased, GivesOf, HandlePacket, HandleTimeout}
+use Rattle.is_c_theorems.proofs.Common.{Has, HeldRecord, IceError, id_of, if◌then◌else◌, inl, inr, Invalidate, InvalidateLocal, is_done}
+use Rattle.is_c_theorems.proofs.Common.{is_ok, IsNone, IsOf, issued_as, IsToPoll, length, List, Logged, mac_of, Makes, MatchBool, nat_lt}
+use Rattle.is_c_theorems.proofs.Common.{nat_tests, None, OK, Ok, Option, packet_path, Path, PollEvent, PollTimeout, PollTransmit}
+use Rattle.is_c_theorems.proofs.Common.{Preference, RecreatePairs, refl, replicate, Restart, Result, SendFailed, SetControlling}
+use Rattle.is_c_theorems.proofs.Common.{SetInitialRto, SetLite, SetLiteTimeout, SetLocalCredentials, SetMaxCandidates, SetMaxDiscovered}
+use Rattle.is_c_theorems.proofs.Common.{SetMaxPairs, SetMaxRetransmits, SetMaxRto, SetMtu, SetPreference, SetRemoteCredentials}
+use Rattle.is_c_theorems.proofs.Common.{SetRenomination, sets_role, SetSettings, SetSilence, SetTieBreaker, SetTimingAdvance, SkipPairIds}
+use Rattle.is_c_theorems.proofs.Common.{Some, Step, Stream, stream_of, subst, sym, take, take-append_seam, TakesNext, TimesOut, true, Use}
+use Rattle.is_c_theorems.proofs.Common.{Used, via_out, ℕ, ℤ}
 use Rattle.is_c_theorems.proofs.CallsAsSteps.{never, either, error_bad, one, SetsAll}
 use Rattle.is_c_theorems.proofs.IssuedRequests.{checks_none, is_timeout, unless_timeout, drawn_at}
 use Rattle.is_c_theorems.proofs.WaitingPackets.{waits, reported_path}
 
 -- ---- the packet that is given, or waits, was to be polled
 
-polled_from : (mid home : HomeRecord) (waiting : Option packets.Packet) (p : packets.Packet) → TakesNext waiting mid.agent (Some p) home.agent
+polled_from : (mid held : HeldRecord) (waiting : Option packets.Packet) (p : packets.Packet) → TakesNext waiting mid.agent (Some p) held.agent
     → (waiting ≡ Some p) ⊎ Has mid.agent.packets p
-polled_from mid home (Some w) p (is, same) = inl (sym is)
-polled_from mid home None p (is, rest) = inr (subst (λ (ps : List packets.Packet). Has ps p) (sym is) (inl refl))
+polled_from mid held (Some w) p (is, same) = inl (sym is)
+polled_from mid held None p (is, rest) = inr (subst (λ (ps : List packets.Packet). Has ps p) (sym is) (inl refl))
 
-kept_first : (before after : List ℕ) (known r : Packet) (code : ℤ) (mid home : HomeRecord) (first : Option packets.Packet) (p : packets.Packet)
-    → TakesNext mid.waiting mid.agent first home.agent → GivesOf first before after known r code home.waiting → home.waiting ≡ Some p → IsToPoll mid p
-kept_first before after known r code mid home None p takes (nothing, same, is, waiting) here = let wrong_ : None ≡ Some p = sym waiting ∙ here in absurd (cc)
-kept_first before after known r code mid home (Some q) p takes (reported, gives) here = either (nat_lt (length before) (length q.contents))
+kept_first : (before after : List ℕ) (known r : Packet) (code : ℤ) (mid held : HeldRecord) (first : Option packets.Packet) (p : packets.Packet)
+    → TakesNext mid.waiting mid.agent first held.agent → GivesOf first before after known r code held.waiting → held.waiting ≡ Some p → IsToPoll mid p
+kept_first before after known r code mid held None p takes (nothing, same, is, waiting) here = let wrong_ : None ≡ Some p = sym waiting ∙ here in absurd (cc)
+kept_first before after known r code mid held (Some q) p takes (reported, gives) here = either (nat_lt (length before) (length q.contents))
     (λ k. let same_one : Some q ≡ Some p = sym k.2 ∙ here in let is : q ≡ p = cc in
-    subst (λ (x : packets.Packet). IsToPoll mid x) is (polled_from mid home mid.waiting q takes))
+    subst (λ (x : packets.Packet). IsToPoll mid x) is (polled_from mid held mid.waiting q takes))
     (λ k. let wrong_ : None ≡ Some p = sym k.2 ∙ here in absurd (cc)) gives
 
-pub waited_before : (export : Use) (code : ℤ) (mid home : HomeRecord) (p : packets.Packet) → Does export mid code home → home.waiting ≡ Some p → IsToPoll mid p
-waited_before (PollTransmit before after known r) code mid home p does here = kept_first before after known r code mid home does.0 p does.1 does.2 here
-waited_before (Restart u pass keep) code mid home p (Ok creds, made, (Ok _, k, is)) here = let wrong_ : None ≡ Some p = sym k.1 ∙ here in absurd (cc)
-waited_before (Restart u pass keep) code mid home p (Ok creds, made, (Err e, k, is)) here = inl (sym k.1 ∙ here)
-waited_before (Restart u pass keep) code mid home p (Err why, made, (is, same)) here = inl (sym (ap (λ (h : HomeRecord). h.waiting) same) ∙ here)
-waited_before export code mid home p does here = inl (sym (waits export code mid home does refl refl) ∙ here)
+pub waited_before : (export : Use) (code : ℤ) (mid held : HeldRecord) (p : packets.Packet) → Does export mid code held → held.waiting ≡ Some p → IsToPoll mid p
+waited_before (PollTransmit before after known r) code mid held p does here = kept_first before after known r code mid held does.0 p does.1 does.2 here
+waited_before (Restart u pass keep) code mid held p (Ok creds, made, (Ok _, k, is)) here = let wrong_ : None ≡ Some p = sym k.1 ∙ here in absurd (cc)
+waited_before (Restart u pass keep) code mid held p (Ok creds, made, (Err e, k, is)) here = inl (sym k.1 ∙ here)
+waited_before (Restart u pass keep) code mid held p (Err why, made, (is, same)) here = inl (sym (ap (λ (h : HeldRecord). h.waiting) same) ∙ here)
+waited_before export code mid held p does here = inl (sym (waits export code mid held does refl refl) ∙ here)
 
 -- what C gets
-abbrev Given : HomeRecord → Path → List ℕ → Type 0
+abbrev Given : HeldRecord → Path → List ℕ → Type 0
 Given mid to bytes = (p : packets.Packet) × IsToPoll mid p × (via_out p ≡ to) × (p.contents ≡ bytes)
 
 not_ok : {Z : Type 0} (why : ℤ) → OK ≡ why → is_ok why ≡ false → Z
 not_ok why is bad = never (sym bad ∙ sym (ap is_ok is))
 
-given_first : (before after bytes : List ℕ) (known r : Packet) (to : Path) (mid home : HomeRecord) (first : Option packets.Packet)
-    → TakesNext mid.waiting mid.agent first home.agent → GivesOf first before after known r OK home.waiting
+given_first : (before after bytes : List ℕ) (known r : Packet) (to : Path) (mid held : HeldRecord) (first : Option packets.Packet)
+    → TakesNext mid.waiting mid.agent first held.agent → GivesOf first before after known r OK held.waiting
     → packet_path r.protocol r.source r.destination ≡ Some to → take r.length after ≡ bytes → Given mid to bytes
-given_first before after bytes known r to mid home None takes (nothing, same, reports, waiting) path is = not_ok _ nothing refl
-given_first before after bytes known r to mid home (Some p) takes (reported, gives) path is = either (nat_lt (length before) (length p.contents))
+given_first before after bytes known r to mid held None takes (nothing, same, reports, waiting) path is = not_ok _ nothing refl
+given_first before after bytes known r to mid held (Some p) takes (reported, gives) path is = either (nat_lt (length before) (length p.contents))
     (λ k. not_ok _ k.0 refl)
     (λ k. (
       p,
-      polled_from mid home mid.waiting p takes,
+      polled_from mid held mid.waiting p takes,
       same_path (via_out p) to (sym (reported_path r p reported) ∙ path),
       sym (ap (λ n. take n after) reported.0 ∙ (ap (λ bs. take (length p.contents) bs) k.1 ∙ take-append_seam p.contents (drop (length p.contents) before))) ∙ is,
     )) gives where
       same_path : (x y : Path) → Some x ≡ Some y → x ≡ y
       same_path x y same = let k : x ≡ y = cc in k
 
-pub given_before : (u : Used) (mid home : HomeRecord) (to : Path) (bytes : List ℕ) → Does u.export mid u.code home → Gets u to bytes → Given mid to bytes
-given_before u mid home to bytes does (before, after, known, r, export, path, is, ok) =
-    let d : Does (PollTransmit before after known r) mid OK home =
-    subst (λ (e : Use). Does e mid OK home) export (subst (λ (c : ℤ). Does u.export mid c home) ok does) in
-    given_first before after bytes known r to mid home d.0 d.1 d.2 path is
+pub given_before : (u : Used) (mid held : HeldRecord) (to : Path) (bytes : List ℕ) → Does u.export mid u.code held → Gets u to bytes → Given mid to bytes
+given_before u mid held to bytes does (before, after, known, r, export, path, is, ok) =
+    let d : Does (PollTransmit before after known r) mid OK held =
+    subst (λ (e : Use). Does e mid OK held) export (subst (λ (c : ℤ). Does u.export mid c held) ok does) in
+    given_first before after bytes known r to mid held d.0 d.1 d.2 path is
 
 -- ---- the calls that set a role or a tie-breaker, and `handle_timeout`
 
@@ -148,7 +132,7 @@ used export code = record { export = export; code = code }
 abbrev pub Draws : Used → Entry → Type 0
 Draws u e = (path : Path) (id : List ℕ) → e.emitted.issued ≡ Some (issued_as path class.Request id) → id_of u ≡ Some id
 
-abbrev pub Outcome : Used → HomeRecord → HomeRecord → Type 0
+abbrev pub Outcome : Used → HeldRecord → HeldRecord → Type 0
 Outcome u old new =
     ((new.agent ≡ old.agent) × IsNone u)
     ⊎ (((x : Logged Preference) × (s t : Stream) × IsOf u x × GivesBased x.call × Step mac_of answers old.agent s x.call x.entry new.agent t × Draws u x.entry)
@@ -176,7 +160,7 @@ split true f g h = f refl h
 split false f g h = g refl h
 
 module _ (n : ℕ) where
-  timed_out : (now : ℕ) (random : List ℕ) (code : ℤ) (old new : HomeRecord) → nat_lt (length random) 12 ≡ false
+  timed_out : (now : ℕ) (random : List ℕ) (code : ℤ) (old new : HeldRecord) → nat_lt (length random) 12 ≡ false
       → (r : Result (Unit {0}) IceError) (emitted : Emitted) (left : Stream) → TimesOut mac_of (agent_time now) old.agent (stream_of given_steps random) r emitted new.agent left
       → code ≡ done_code r → Outcome (used (HandleTimeout now random) code) old new
   timed_out now random code old new enough r emitted left times is = inr (inl (
@@ -196,9 +180,9 @@ module _ (n : ℕ) where
     draws (Err e) (may, nothing, made, left_is) is path id issued =
         let wrong_ : None ≡ Some (issued_as path class.Request id) = sym (ap (λ (x : Emitted). x.issued) nothing) ∙ issued in absurd (cc)
 
-  pub outcome : (export : Use) (code : ℤ) (old new : HomeRecord) → Does export old code new → Outcome (used export code) old new
+  pub outcome : (export : Use) (code : ℤ) (old new : HeldRecord) → Does export old code new → Outcome (used export code) old new
   outcome (HandleTimeout now random) code old new h = split (nat_lt (length random) 12)
-      (λ short (is, same). inl (ap (λ (x : HomeRecord). x.agent) same, λ _. ap is_ok is))
+      (λ short (is, same). inl (ap (λ (x : HeldRecord). x.agent) same, λ _. ap is_ok is))
       (λ enough k. timed_out now random code old new enough k.0 k.1.0 k.1.1.0 k.1.1.1 k.1.1.2) h
   outcome export code old new h = elim (one n export code old new h) as (λ _. Outcome (used export code) old new) [
     | inl none ↦ inl none

@@ -1,28 +1,11 @@
 -- The path that C gets by a `NominatedSend` waited before. What mutants/specifications changes is read by tactics.
-use Rattle.std.proofs.Common.{◌≡◌, List, Option, Some, None, option_map, ℤ, pos, inl, ap, sym, ◌∙◌, subst}
-use Rattle.std.specs.Option.{option_and_then}
-use Rattle.std.specs.declared.net.socket_addr.SocketAddr.{SocketAddr}
-use Rattle.is_proto.specs.Lists.{Has}
-use Rattle.is_proto.specs.declared.proto.Protocol.{Protocol}
-use Rattle.is_rules.specs.declared.emitted.Path.{Path}
-use Rattle.is_rules.specs.declared.event.IceAgentEvent.{IceAgentEvent}
 use Rattle.is_rules.specs.declared.event.IceAgentEvent.TheVariants.{IceRestart, IceConnectionStateChange, DiscoveredRecv, NominatedSend}
-use Rattle.is_rules.specs.Polls.{IsPolled}
-use Rattle.is_theorems.specs.Reporting.{selecting}
-use Rattle.is_c_calls.specs.declared.events.Event.{Event}
-use Rattle.is_c_calls.specs.Addresses.{socket_of, protocol_of}
-use Rattle.is_c_calls.specs.Codes.{OK}
-use Rattle.is_monitor.specs.declared.monitor.Monitor.{Monitor}
 use Rattle.is_monitor.specs.declared.monitor.Silence.{Silence}
 use Rattle.is_monitor.specs.declared.monitor.Silence.TheVariants.{Silent, Heard}
-use Rattle.is_monitor.specs.Monitors.{next_silence}
-use Rattle.is_c_calls.specs.Events.{IsEvent, ReturnsFirst}
-use Rattle.is_c_calls.specs.Held.{HomeRecord}
-use Rattle.is_c_calls.specs.Monitoring.{ReturnsSilence}
-use Rattle.is_c_calls.specs.Packets.{packet_path}
-use Rattle.is_c_calls.specs.Sessions.{Used}
-use Rattle.is_c_calls.specs.Uses.{Use, PollEvent, Does}
-use Rattle.is_c_theorems.specs.Seen.{Selects}
+use Rattle.is_c_theorems.proofs.Common.{◌∙◌, ◌≡◌, ap, Does, Event, Has, HeldRecord, IceAgentEvent, inl, IsEvent, IsPolled, List, Monitor}
+use Rattle.is_c_theorems.proofs.Common.{next_silence, None, OK, Option, option_and_then, option_map, packet_path, Path, PollEvent, pos}
+use Rattle.is_c_theorems.proofs.Common.{Protocol, protocol_of, ReturnsFirst, ReturnsSilence, selecting, Selects, socket_of, SocketAddr}
+use Rattle.is_c_theorems.proofs.Common.{Some, subst, sym, Use, Used, ℤ}
 
 whole : (after : Event) (proto : Protocol) (source destination : SocketAddr) → protocol_of after.protocol ≡ Some proto → socket_of after.source ≡ Some source
     → socket_of after.destination ≡ Some destination
@@ -61,7 +44,7 @@ poll None m before after path old new returns polls kind to = not_reported (next
 poll (Some e) m before after path old new (coded, is) polls kind to =
     subst (λ (es : List IceAgentEvent). Has es (selecting path)) (sym polls) (inl (event_path e before after path is kind to))
 
-pub waited : (u : Used) (home after : HomeRecord) (path : Path) → Does u.export home u.code after → Selects u path → Has home.agent.events (selecting path)
-waited u home after path does (b, a, is, kind, to, ok) =
-    let d : Does (PollEvent b a) home OK after = subst (λ (e : Use). Does e home OK after) is (subst (λ (c : ℤ). Does u.export home c after) ok does) in
-    poll d.0 home.monitor b a path home.agent.events after.agent.events d.2 d.1.0 (search kind) to
+pub waited : (u : Used) (held after : HeldRecord) (path : Path) → Does u.export held u.code after → Selects u path → Has held.agent.events (selecting path)
+waited u held after path does (b, a, is, kind, to, ok) =
+    let d : Does (PollEvent b a) held OK after = subst (λ (e : Use). Does e held OK after) is (subst (λ (c : ℤ). Does u.export held c after) ok does) in
+    poll d.0 held.monitor b a path held.agent.events after.agent.events d.2 d.1.0 (search kind) to

@@ -1,39 +1,18 @@
 -- Two agents in turn: what each of them knows after C's calls, and what their roles are. What mutants/specifications changes is read by tactics.
-use Rattle.std.proofs.Common.{◌≡◌, ◌⊎◌, ◌++◌, ℕ, Bool, true, false, not, List, [], ◌∷◌, length, map, Option, Some, None, inl, inr, refl, ap, sym, ◌∙◌, subst}
-use Rattle.is_proto.specs.Lists.{Has}
 use Rattle.is_proto.specs.Packets as packets
-use Rattle.is_proto.specs.declared.hmac_provider.DefaultSha1HmacProvider.{DefaultSha1HmacProvider}
-use Rattle.is_stun.specs.declared.header.Class.{Class}
 use Rattle.is_stun.specs.declared.header.Class.TheVariants as class
-use Rattle.is_stun.specs.Message.{Message}
-use Rattle.is_stun.specs.Reading.{Reads}
-use Rattle.is_rules.specs.declared.credentials.IceCreds.{IceCreds}
-use Rattle.is_rules.specs.declared.emitted.Issued.{Issued}
-use Rattle.is_rules.specs.declared.emitted.Path.{Path}
-use Rattle.is_rules.specs.declared.settings.Settings.{Settings}
-use Rattle.is_rules.specs.Brought.{Brings}
-use Rattle.is_rules.specs.Effects.{PathTheorem, TradeTheorem, lite_set_by}
-use Rattle.is_rules.specs.Emitted.{issued_as}
-use Rattle.is_rules.specs.Issuing.{via_out}
-use Rattle.is_rules.specs.Sound.{IsSound, FreshIsSound}
-use Rattle.is_rules.specs.Steps.{Call, Entry, Done, quiet}
-use Rattle.is_theorems.specs.Exchange.{Execution}
-use Rattle.is_theorems.specs.Logs.{NeverLite}
-use Rattle.is_theorems.specs.RoleView.{sets_role}
-use Rattle.is_theorems.specs.Settings.{AllAreSetInTurn, setters_of}
-use Rattle.is_c_calls.specs.declared.preference.Preference.{Preference}
-use Rattle.is_c_calls.specs.AgentSettings.{settings_of}
-use Rattle.is_c_calls.specs.Held.{Held, HomeRecord}
-use Rattle.is_c_calls.specs.Preferences.{answers}
-use Rattle.is_c_calls.specs.Sessions.{Used}
-use Rattle.is_c_calls.specs.Uses.{Use, SetControlling, SetTieBreaker, SetLite, Does, mac_of}
-use Rattle.is_c_theorems.specs.CallLogs.{setters_onto, settings_onto, IsLogOf, newborn}
-use Rattle.is_c_theorems.specs.Chosen.{EachKeeps}
-use Rattle.is_c_theorems.specs.Seen.{Accepts, Gets, IsToPoll}
 use Rattle.is_c_theorems.specs.TwoAgents as two
-use Rattle.is_c_theorems.specs.TwoAgents.{Side, A, B, other, Turn, Sessions, Before, Gave, AreCarried, id_of, HaveFreshIds, Begins, keeps_role, IsFair, role_at, GreaterKeepsRole, LesserSwitchesOnce, RolesStayOpposite}
+use Rattle.is_c_theorems.specs.TwoAgents.{keeps_role}
+use Rattle.is_c_theorems.proofs.Common.{[], ◌++◌, ◌∙◌, ◌∷◌, ◌≡◌, ◌⊎◌, A, Accepts, AllAreSetInTurn, answers, ap, AreCarried, B, Before, Bool}
+use Rattle.is_c_theorems.proofs.Common.{Brings, Call, Class, DefaultSha1HmacProvider, Does, Done, EachKeeps, Entry, Execution, false}
+use Rattle.is_c_theorems.proofs.Common.{FreshIsSound, Gave, Gets, Has, HaveFreshIds, Held, HeldRecord, IceCreds, id_of, inl, inr, IsLogOf}
+use Rattle.is_c_theorems.proofs.Common.{IsSound, Issued, issued_as, IsToPoll, length, List, lite_set_by, mac_of, map, Message, NeverLite}
+use Rattle.is_c_theorems.proofs.Common.{newborn, None, not, Option, other, Path, PathTheorem, Preference, quiet, Reads, refl, role_at}
+use Rattle.is_c_theorems.proofs.Common.{Sessions, SetControlling, SetLite, sets_role, setters_of, setters_onto, SetTieBreaker, Settings}
+use Rattle.is_c_theorems.proofs.Common.{settings_of, settings_onto, Side, Some, subst, sym, TradeTheorem, true, Turn, Use, Used, via_out, ℕ}
 use Rattle.is_c_theorems.proofs.CallsAsSteps.{never}
-use Rattle.is_c_theorems.proofs.ClaimedRoles.{not_other, one_side, Note, note, Within, AreDistinct, add_by, add, add_within, add_has, Setting, Fact, Mind, fact_on, mind_on, mind_next, lesser_now}
+use Rattle.is_c_theorems.proofs.ClaimedRoles.{not_other, one_side, Note, note, Within, AreDistinct, add_by, add, add_within, add_has}
+use Rattle.is_c_theorems.proofs.ClaimedRoles.{Setting, Fact, Mind, fact_on, mind_on, mind_next, lesser_now}
 use Rattle.is_c_theorems.proofs.LogsOfCalls.{Ran, any, settings_ran}
 use Rattle.is_c_theorems.proofs.PacketsGiven.{waited_before, given_before, use_marks, sets_as_marked, Draws, outcome}
 use Rattle.is_c_theorems.proofs.SeenCalls.{accepts, none_brought}
@@ -216,23 +195,23 @@ module _ (paths : Paths) (trades : Trades) (fresh : Fresh) (turn : Turns) (creds
   sound_run tie (x ∷ before) last (mid, s, t, run, given, step) = (paths mid last s t x.call x.entry (sound_run tie before mid run) given step).1
 
 -- what the agent of a side knows, and what C got from it
-pub record Half (z : Setting) (ns : List Note) (turns : List Turn) (side : Side) (uses : List Used) (creds : IceCreds) (home : HomeRecord) : Type 0 where
+pub record Half (z : Setting) (ns : List Note) (turns : List Turn) (side : Side) (uses : List Used) (creds : IceCreds) (held : HeldRecord) : Type 0 where
   pub log : Log
   pub logs : IsLogOf uses log
-  pub run : Ran (newborn creds (z.tie side)) log home.agent
-  pub mind : Mind z ns side home.agent
-  pub waiting : (p : packets.Packet) → home.waiting ≡ Some p → (m : Message) → Reads p.contents m → Fact z ns side (via_out p) m.class m
+  pub run : Ran (newborn creds (z.tie side)) log held.agent
+  pub mind : Mind z ns side held.agent
+  pub waiting : (p : packets.Packet) → held.waiting ≡ Some p → (m : Message) → Reads p.contents m → Fact z ns side (via_out p) m.class m
   pub got : (x : Turn) (to : Path) (bytes : List ℕ) (m : Message) → Has turns x → x.side ≡ side → Gets x.used to bytes → Reads bytes m → Fact z ns side to m.class m
   pub issued : (path : Path) (id : List ℕ) → Issued_in log path id → (role : Bool) × Has ns (note side id path role)
 
 module _ (z : Setting) (ns more : List Note) (on : Within ns more) (x : Turn) (before : List Turn) (creds : IceCreds) where
-  half_other : (side : Side) (uses : List Used) (home after : HomeRecord) → (x.side ≡ side → ⊥) → after ≡ home → Half z ns before side uses creds home
+  half_other : (side : Side) (uses : List Used) (held after : HeldRecord) → (x.side ≡ side → ⊥) → after ≡ held → Half z ns before side uses creds held
       → Half z more (x ∷ before) side uses creds after
-  half_other side uses home after apart same_home h = subst (λ (k : HomeRecord). Half z more (x ∷ before) side uses creds k) (sym same_home) (record {
+  half_other side uses held after apart same_held_agent h = subst (λ (k : HeldRecord). Half z more (x ∷ before) side uses creds k) (sym same_held_agent) (record {
     log = h.log;
     logs = h.logs;
     run = h.run;
-    mind = mind_on z ns more on side home.agent h.mind;
+    mind = mind_on z ns more on side held.agent h.mind;
     waiting = λ p is m reads. fact_on z ns more on side (via_out p) m.class m (h.waiting p is m reads);
     got = λ y to bytes m has is gets reads. elim has [
       | inl here ↦ absurd (apart (ap (λ (t : Turn). t.side) here ∙ is))
@@ -241,7 +220,7 @@ module _ (z : Setting) (ns more : List Note) (on : Within ns more) (x : Turn) (b
     issued = λ path id is. (let k = h.issued path id is in (k.0, on _ k.1));
   })
 
-  module _ (uses : List Used) (mid home : HomeRecord) (does : Does x.used.export mid x.used.code home) (h : Half z ns before x.side uses creds mid) where
+  module _ (uses : List Used) (mid held : HeldRecord) (does : Does x.used.export mid x.used.code held) (h : Half z ns before x.side uses creds mid) where
     -- a packet that was to be polled
     to_poll : (p : packets.Packet) → IsToPoll mid p → (m : Message) → Reads p.contents m → Fact z more x.side (via_out p) m.class m
     to_poll p (inl waits) m reads = fact_on z ns more on x.side (via_out p) m.class m (h.waiting p waits m reads)
@@ -249,18 +228,18 @@ module _ (z : Setting) (ns more : List Note) (on : Within ns more) (x : Turn) (b
 
     got_now : (to : Path) (bytes : List ℕ) (m : Message) → Gets x.used to bytes → Reads bytes m → Fact z more x.side to m.class m
     got_now to bytes m gets reads =
-        let (p, waits, via, contents) = given_before x.used mid home to bytes does gets in
+        let (p, waits, via, contents) = given_before x.used mid held to bytes does gets in
         subst (λ (w : Path). Fact z more x.side w m.class m) via (to_poll p waits m (subst (λ (bs : List ℕ). Reads bs m) (sym contents) reads))
 
-    half_own : (log : Log) → IsLogOf (x.used ∷ uses) log → Ran (newborn creds (z.tie x.side)) log home.agent → Mind z more x.side home.agent
+    half_own : (log : Log) → IsLogOf (x.used ∷ uses) log → Ran (newborn creds (z.tie x.side)) log held.agent → Mind z more x.side held.agent
         → ((path : Path) (id : List ℕ) → Issued_in log path id → (role : Bool) × Has more (note x.side id path role))
-        → Half z more (x ∷ before) x.side (x.used ∷ uses) creds home
+        → Half z more (x ∷ before) x.side (x.used ∷ uses) creds held
     half_own log logs run mind issued = record {
       log = log;
       logs = logs;
       run = run;
       mind = mind;
-      waiting = λ p is m reads. to_poll p (waited_before x.used.export x.used.code mid home p does is) m reads;
+      waiting = λ p is m reads. to_poll p (waited_before x.used.export x.used.code mid held p does is) m reads;
       got = λ y to bytes m has is gets reads. elim has [
         | inl here ↦ got_now to bytes m (subst (λ (t : Turn). Gets t.used to bytes) (sym here) gets) reads
         | inr there ↦ fact_on z ns more on x.side to m.class m (h.got y to bytes m there is gets reads)
@@ -270,13 +249,13 @@ module _ (z : Setting) (ns more : List Note) (on : Within ns more) (x : Turn) (b
 
 -- ---- lists of calls on both slots
 
-pub same_last : (first : Side → HomeRecord) (turns : List Turn) (a b : Side → HomeRecord) → ((side : Side) → b side ≡ a side) → Sessions first turns a → Sessions first turns b
-same_last first [] a b is same_homes = λ side. is side ∙ same_homes side
+pub same_last : (first : Side → HeldRecord) (turns : List Turn) (a b : Side → HeldRecord) → ((side : Side) → b side ≡ a side) → Sessions first turns a → Sessions first turns b
+same_last first [] a b is same_held = λ side. is side ∙ same_held side
 same_last first (y ∷ turns) a b is (m, s, d, o) =
-    (m, s, subst (λ (k : HomeRecord). Does y.used.export (m y.side) y.used.code k) (sym (is y.side)) d, is (other y.side) ∙ o)
+    (m, s, subst (λ (k : HeldRecord). Does y.used.export (m y.side) y.used.code k) (sym (is y.side)) d, is (other y.side) ∙ o)
 
-pub joined : (first : Side → HomeRecord) (before later : List Turn) (mid last : Side → HomeRecord) → Sessions first before mid → Sessions mid later last → Sessions first (later ++ before) last
-joined first before [] mid last session same_homes = same_last first before mid last same_homes session
+pub joined : (first : Side → HeldRecord) (before later : List Turn) (mid last : Side → HeldRecord) → Sessions first before mid → Sessions mid later last → Sessions first (later ++ before) last
+joined first before [] mid last session same_held = same_last first before mid last same_held session
 joined first before (y ∷ later) mid last session (m, s, d, o) = (m, joined first before later mid m session s, d, o)
 
 -- ---- a call
@@ -289,20 +268,20 @@ got_of P (x ∷ before) (inr there) = let (y, earlier, has, is) = got_of P befor
 module _ (paths : Paths) (trades : Trades) (fresh : Fresh) (turn : Turns) (z : Setting) (opening : Opening) (only : (side : Side) → EachKeeps two.sets_role (opening side))
     (creds : Side → IceCreds) where
   -- what is known after C's calls
-  pub record Known (turns : List Turn) (homes : Side → HomeRecord) : Type 0 where
+  pub record Known (turns : List Turn) (all_held : Side → HeldRecord) : Type 0 where
     pub ns : List Note
     pub notes : NotesOf turns ns
-    pub half : (side : Side) → Half z ns turns side (calls opening side turns) (creds side) (homes side)
+    pub half : (side : Side) → Half z ns turns side (calls opening side turns) (creds side) (all_held side)
 
   -- after one more call on the slot of a side
-  record Next (ns : List Note) (x : Turn) (before : List Turn) (mid home : HomeRecord) : Type 0 where
+  record Next (ns : List Note) (x : Turn) (before : List Turn) (mid held : HeldRecord) : Type 0 where
     more : List Note
     on : Within ns more
     notes : NotesOf (x ∷ before) more
-    own : Half z more (x ∷ before) x.side (x.used ∷ calls opening x.side before) (creds x.side) home
-    stays : z.ranked ≡ true → x.side ≡ other z.greater → mid.agent.controlling ≡ not z.role → home.agent.controlling ≡ not z.role
+    own : Half z more (x ∷ before) x.side (x.used ∷ calls opening x.side before) (creds x.side) held
+    stays : z.ranked ≡ true → x.side ≡ other z.greater → mid.agent.controlling ≡ not z.role → held.agent.controlling ≡ not z.role
 
-  module _ (x : Turn) (before : List Turn) (mid : Side → HomeRecord) (home : HomeRecord) (does : Does x.used.export (mid x.side) x.used.code home)
+  module _ (x : Turn) (before : List Turn) (mid : Side → HeldRecord) (held : HeldRecord) (does : Does x.used.export (mid x.side) x.used.code held)
       (k : Known before mid) (keeps : z.ranked ≡ true → AllKeep (x ∷ before)) (carried : AreCarried (x ∷ before)) (ids : HaveFreshIds (x ∷ before)) where
     old : Held
     old = (mid x.side).agent
@@ -329,21 +308,21 @@ module _ (paths : Paths) (trades : Trades) (fresh : Fresh) (turn : Turns) (z : S
         let (y, earlier, has, (to, side_is, gets)) = got_of (Gave (other x.side) bytes) before gave in
         (to, (k.half (other x.side)).got y to bytes m has side_is gets reads)
 
-    next : Next k.ns x before (mid x.side) home
+    next : Next k.ns x before (mid x.side) held
     unfolding old h
-    next = elim (outcome 0 x.used.export x.used.code (mid x.side) home does) as (λ _. Next k.ns x before (mid x.side) home) [
+    next = elim (outcome 0 x.used.export x.used.code (mid x.side) held does) as (λ _. Next k.ns x before (mid x.side) held) [
       | inl (same_agent, none) ↦ record {
         more = k.ns;
         on = λ n has. has;
         notes = inl k.notes;
-        own = half_own z k.ns k.ns (λ n has. has) x before (creds x.side) (calls opening x.side before) (mid x.side) home does h h.log
+        own = half_own z k.ns k.ns (λ n has. has) x before (creds x.side) (calls opening x.side before) (mid x.side) held does h h.log
             (inl (none, h.logs)) (subst (λ (a : Held). Ran (newborn (creds x.side) (z.tie x.side)) h.log a) (sym same_agent) h.run)
             (subst (λ (a : Held). Mind z k.ns x.side a) (sym same_agent) h.mind) h.issued;
         stays = λ ranked lesser was. ap (λ (a : Held). a.controlling) same_agent ∙ was;
       }
       | inr (inl (e, s, t, of, given, step, draws)) ↦ (
-          let (f, next_sound) = paths old home.agent s t e.call e.entry sound given step in
-          let tr = trades old home.agent s t e.call e.entry sound given step in
+          let (f, next_sound) = paths old held.agent s t e.call e.entry sound given step in
+          let tr = trades old held.agent s t e.call e.entry sound given step in
           let unset : z.ranked ≡ true → sets_role e.call ≡ false = λ ranked. sets_as_marked x.used.export e.call of.makes ∙ kept_marks x.used.export (keeps ranked x (inl refl)) in
           let brings = λ (at : ℕ) (by : Path) (m : Message) (b : Brings e.call e.entry at by m).
           brought by m (accepts x.used.export e.call e.entry x.used.code at by m of.makes of.answers b) in
@@ -352,20 +331,20 @@ module _ (paths : Paths) (trades : Trades) (fresh : Fresh) (turn : Turns) (z : S
             more = add x.side old.controlling e.entry.emitted.issued k.ns;
             on = on;
             notes = notes_next x before k.ns x.side old.controlling e.entry draws k.notes;
-            own = half_own z k.ns (add x.side old.controlling e.entry.emitted.issued k.ns) on x before (creds x.side) (calls opening x.side before) (mid x.side) home does h
+            own = half_own z k.ns (add x.side old.controlling e.entry.emitted.issued k.ns) on x before (creds x.side) (calls opening x.side before) (mid x.side) held does h
                 (e ∷ h.log) (inr (h.log, inl (e, refl, of), h.logs)) (old, s, t, h.run, given, step)
-                (mind_next mac_of z k.ns x.side old home.agent e.call e.entry f tr unset full distinct brings h.mind)
+                (mind_next mac_of z k.ns x.side old held.agent e.call e.entry f tr unset full distinct brings h.mind)
                 (λ path id is. elim is [
                   | inl now ↦ (old.controlling, add_has x.side old.controlling e.entry.emitted.issued k.ns path id now)
                   | inr was ↦ (let j = h.issued path id was in (j.0, on _ j.1))
                 ]);
-            stays = λ ranked lesser was. lesser_now mac_of z k.ns x.side old home.agent e.call e.entry f tr unset full distinct brings h.mind ranked lesser was;
+            stays = λ ranked lesser was. lesser_now mac_of z k.ns x.side old held.agent e.call e.entry f tr unset full distinct brings h.mind ranked lesser was;
           })
       | inr (inr all) ↦ record {
         more = k.ns;
         on = λ n has. has;
         notes = inl k.notes;
-        own = half_own z k.ns k.ns (λ n has. has) x before (creds x.side) (calls opening x.side before) (mid x.side) home does h
+        own = half_own z k.ns k.ns (λ n has. has) x before (creds x.side) (calls opening x.side before) (mid x.side) held does h
             (settings_onto (settings_of all.settings) h.log) (inr (h.log, inr (all.settings, all.export, all.ok, refl), h.logs))
             (subst (λ (a : Held). Ran (newborn (creds x.side) (z.tie x.side)) (settings_onto (settings_of all.settings) h.log) a) (sym all.sets)
             (settings_ran turn (settings_of all.settings) (newborn (creds x.side) (z.tie x.side)) old h.log all.some h.run))
@@ -377,14 +356,14 @@ module _ (paths : Paths) (trades : Trades) (fresh : Fresh) (turn : Turns) (z : S
       }
     ]
 
-    known_next : (last : Side → HomeRecord) → last x.side ≡ home → last (other x.side) ≡ mid (other x.side) → Known (x ∷ before) last
+    known_next : (last : Side → HeldRecord) → last x.side ≡ held → last (other x.side) ≡ mid (other x.side) → Known (x ∷ before) last
     known_next last mine others = record {
       ns = next.more;
       notes = next.notes;
       half = λ side. elim (one_side side x.side) [
         | inl is ↦ subst (λ (s : Side). Half z next.more (x ∷ before) s (calls opening s (x ∷ before)) (creds s) (last s)) (sym is)
             (subst (λ (b : Bool). Half z next.more (x ∷ before) x.side (pick b x.used (calls opening x.side before)) (creds x.side) (last x.side)) (sym (same_self x.side))
-            (subst (λ (o : HomeRecord). Half z next.more (x ∷ before) x.side (x.used ∷ calls opening x.side before) (creds x.side) o) (sym mine) next.own))
+            (subst (λ (o : HeldRecord). Half z next.more (x ∷ before) x.side (x.used ∷ calls opening x.side before) (creds x.side) o) (sym mine) next.own))
         | inr is ↦ subst (λ (s : Side). Half z next.more (x ∷ before) s (calls opening s (x ∷ before)) (creds s) (last s)) (sym is)
             (subst (λ (b : Bool). Half z next.more (x ∷ before) (other x.side) (pick b x.used (calls opening (other x.side) before)) (creds (other x.side)) (last (other x.side))) (sym (same_other x.side))
             (half_other z k.ns next.more next.on x before (creds (other x.side)) (other x.side) (calls opening (other x.side) before) (mid (other x.side)) (last (other x.side))
@@ -392,30 +371,30 @@ module _ (paths : Paths) (trades : Trades) (fresh : Fresh) (turn : Turns) (z : S
       ];
     }
 
-    lesser_next : z.ranked ≡ true → (last : Side → HomeRecord) → last x.side ≡ home → last (other x.side) ≡ mid (other x.side) → role_at (other z.greater) mid ≡ not z.role
+    lesser_next : z.ranked ≡ true → (last : Side → HeldRecord) → last x.side ≡ held → last (other x.side) ≡ mid (other x.side) → role_at (other z.greater) mid ≡ not z.role
         → role_at (other z.greater) last ≡ not z.role
     lesser_next ranked last mine others was = elim (one_side (other z.greater) x.side) [
-      | inl is ↦ ap (λ (s : Side). role_at s last) is ∙ (ap (λ (o : HomeRecord). o.agent.controlling) mine
+      | inl is ↦ ap (λ (s : Side). role_at s last) is ∙ (ap (λ (o : HeldRecord). o.agent.controlling) mine
           ∙ next.stays ranked (sym is) (ap (λ (s : Side). role_at s mid) (sym is) ∙ was))
-      | inr is ↦ ap (λ (s : Side). role_at s last) is ∙ (ap (λ (o : HomeRecord). o.agent.controlling) others ∙ (ap (λ (s : Side). role_at s mid) (sym is) ∙ was))
+      | inr is ↦ ap (λ (s : Side). role_at s last) is ∙ (ap (λ (o : HeldRecord). o.agent.controlling) others ∙ (ap (λ (s : Side). role_at s mid) (sym is) ∙ was))
     ]
 
   -- ---- all calls
 
-  pub known : (first : Side → HomeRecord) → Known [] first → (turns : List Turn) (last : Side → HomeRecord) → Sessions first turns last
+  pub known : (first : Side → HeldRecord) → Known [] first → (turns : List Turn) (last : Side → HeldRecord) → Sessions first turns last
       → (z.ranked ≡ true → AllKeep turns) → AreCarried turns → HaveFreshIds turns → Known turns last
-  known first start [] last same_homes keeps carried ids = record {
+  known first start [] last same_held keeps carried ids = record {
     ns = start.ns;
     notes = start.notes;
-    half = λ side. subst (λ (o : HomeRecord). Half z start.ns [] side (opening side) (creds side) o) (sym (same_homes side)) (start.half side);
+    half = λ side. subst (λ (o : HeldRecord). Half z start.ns [] side (opening side) (creds side) o) (sym (same_held side)) (start.half side);
   }
   known first start (x ∷ before) last (mid, session, does, others) keeps carried ids =
       known_next x before mid (last x.side) does (known first start before mid session (λ ranked y has. keeps ranked y (inr has)) carried.1 ids.1) keeps carried ids last refl others
 
-  pub lesser_stays : z.ranked ≡ true → (first : Side → HomeRecord) → Known [] first → (before later : List Turn) (mid last : Side → HomeRecord) → Sessions first before mid → Sessions mid later last
+  pub lesser_stays : z.ranked ≡ true → (first : Side → HeldRecord) → Known [] first → (before later : List Turn) (mid last : Side → HeldRecord) → Sessions first before mid → Sessions mid later last
       → AllKeep (later ++ before) → AreCarried (later ++ before) → HaveFreshIds (later ++ before)
       → role_at (other z.greater) mid ≡ not z.role → role_at (other z.greater) last ≡ not z.role
-  lesser_stays ranked first start before [] mid last session same_homes keeps carried ids was = ap (λ (o : HomeRecord). o.agent.controlling) (same_homes (other z.greater)) ∙ was
+  lesser_stays ranked first start before [] mid last session same_held keeps carried ids was = ap (λ (o : HeldRecord). o.agent.controlling) (same_held (other z.greater)) ∙ was
   lesser_stays ranked first start before (x ∷ later) mid last session (near, sessions, does, others) keeps carried ids was =
       lesser_next x (later ++ before) near (last x.side) does
       (known first start (later ++ before) near (joined first before later mid near session sessions) (λ ranked y has. keeps y (inr has)) carried.1 ids.1) (λ ranked. keeps) carried ids ranked last refl others

@@ -1,24 +1,18 @@
 -- What C saw of each entry of the log: the bytes that it passed, the password that it set, and when it cleared the pairs.
-use Rattle.std.proofs.Common.{◌≡◌, ℕ, Bool, true, false, List, [], ◌∷◌, Option, Some, None, ℤ, inl, inr, refl, ap, sym, ◌∙◌, subst, if◌then◌else◌}
-use Rattle.is_stun.specs.Message.{Message}
-use Rattle.is_rules.specs.declared.credentials.IceCreds.{IceCreds}
-use Rattle.is_rules.specs.declared.emitted.Path.{Path}
-use Rattle.is_rules.specs.declared.settings.Settings.{Settings}
-use Rattle.is_rules.specs.Brought.{Brings}
 use Rattle.is_rules.specs.Effects as effects
-use Rattle.is_rules.specs.Effects.{remote_after, remote_set_by}
 use Rattle.is_rules.specs.Steps as agent
-use Rattle.is_rules.specs.Steps.{Call, Answer, Entry, Done, Flag, is_done, quiet}
-use Rattle.is_theorems.specs.Logs.{remote_of}
 use Rattle.is_theorems.specs.Polled as polled
-use Rattle.is_c_calls.specs.declared.agent_settings.AgentSettings.{AgentSettings}
-use Rattle.is_c_calls.specs.declared.preference.Preference.{Preference}
-use Rattle.is_c_calls.specs.AgentSettings.{settings_of}
-use Rattle.is_c_calls.specs.Clock.{agent_time}
-use Rattle.is_c_calls.specs.Sessions.{Used, is_ok}
-use Rattle.is_c_calls.specs.Uses.{Use, Ask, SetControlling, SetLite, SetRenomination, SetTieBreaker, SetMaxPairs, SetMaxDiscovered, SetMaxCandidates, SetTimingAdvance, SetInitialRto, SetMaxRto, SetLiteTimeout, SetMaxRetransmits, SetMtu, SetPreference, SetSettings, SkipPairIds, SetSilence, SetLocalCredentials, SetRemoteCredentials, AddLocal, AddLocalLine, AddRemote, InvalidateLocal, Invalidate, Restart, RecreatePairs, HandlePacket, HandleTimeout, PollTransmit, PollTimeout, PollEvent, SendFailed, FixTimes}
-use Rattle.is_c_theorems.specs.CallLogs.{Makes, Answers, code_by, counts, settings_onto, IsLogOf}
-use Rattle.is_c_theorems.specs.Seen.{Accepts, restarts, is_restart, clears, is_clear, peer_by, peer_of}
+use Rattle.is_c_theorems.specs.Seen.{clears}
+use Rattle.is_c_theorems.proofs.Common.{[], ◌∙◌, ◌∷◌, ◌≡◌, Accepts, AddLocal, AddLocalLine, AddRemote, agent_time, AgentSettings, Answer}
+use Rattle.is_c_theorems.proofs.Common.{Answers, ap, Ask, Bool, Brings, Call, code_by, counts, Done, Entry, false, FixTimes, Flag}
+use Rattle.is_c_theorems.proofs.Common.{HandlePacket, HandleTimeout, IceCreds, if◌then◌else◌, inl, inr, Invalidate, InvalidateLocal}
+use Rattle.is_c_theorems.proofs.Common.{is_clear, is_done, is_ok, is_restart, IsLogOf, List, Makes, Message, None, Option, Path, peer_by}
+use Rattle.is_c_theorems.proofs.Common.{peer_of, PollEvent, PollTimeout, PollTransmit, Preference, quiet, RecreatePairs, refl, remote_after}
+use Rattle.is_c_theorems.proofs.Common.{remote_of, remote_set_by, Restart, restarts, SendFailed, SetControlling, SetInitialRto, SetLite}
+use Rattle.is_c_theorems.proofs.Common.{SetLiteTimeout, SetLocalCredentials, SetMaxCandidates, SetMaxDiscovered, SetMaxPairs}
+use Rattle.is_c_theorems.proofs.Common.{SetMaxRetransmits, SetMaxRto, SetMtu, SetPreference, SetRemoteCredentials, SetRenomination}
+use Rattle.is_c_theorems.proofs.Common.{SetSettings, SetSilence, SetTieBreaker, SetTimingAdvance, Settings, settings_of, settings_onto}
+use Rattle.is_c_theorems.proofs.Common.{SkipPairIds, Some, subst, sym, true, Use, Used, ℕ, ℤ}
 use Rattle.is_c_theorems.proofs.CallsAsSteps.{never}
 use Rattle.is_c_theorems.proofs.SettingsOfCalls.{Log}
 

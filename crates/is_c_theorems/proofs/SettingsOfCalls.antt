@@ -1,29 +1,21 @@
 -- The settings along C's calls are those that C set. What mutants/specifications changes is read by tactics.
-use Rattle.std.proofs.Common.{◌≡◌, ℕ, ◌*◌, Bool, true, false, not, List, [], ◌∷◌, Option, Some, ℤ, inl, inr, refl, ap, sym, ◌∙◌, subst, if◌then◌else◌}
 use Rattle.is_proto.specs.Times.{MILLISECOND}
 use Rattle.is_stun.specs.declared.timing.StunTiming.{StunTiming}
-use Rattle.is_stun.specs.Timing.{is_modern_profile, consent_of, timeout_of, delay_millis}
-use Rattle.is_rules.specs.declared.credentials.IceCreds.{IceCreds}
-use Rattle.is_rules.specs.declared.settings.Settings.{Settings}
-use Rattle.is_rules.specs.Effects.{lite_set_by}
-use Rattle.is_rules.specs.Settings.{modern_settings}
 use Rattle.is_rules.specs.Steps as agent
-use Rattle.is_rules.specs.Steps.{Call, Answer, is_done}
-use Rattle.is_theorems.specs.Logs.{Logged, NeverLite, numbering_set_by, numbering_of}
-use Rattle.is_theorems.specs.Polled.{restarts, IsModernAtRestart}
-use Rattle.is_theorems.specs.Settings.{AllAreSetInTurn, SettingsRecord, all_settings_of, settings_after, settings_along, SettingsAreSet}
-use Rattle.is_theorems.specs.Shared.{SharedRun}
-use Rattle.is_theorems.proofs.ExecutionLogs.SharedLogTheorems.{numbering_set}
-use Rattle.is_c_calls.specs.declared.preference.Preference.{Preference}
-use Rattle.is_c_calls.specs.AgentSettings.{settings_of, profile_of}
-use Rattle.is_c_calls.specs.Held.{Held}
-use Rattle.is_c_calls.specs.Preferences.{answers}
-use Rattle.is_c_calls.specs.Making.{fresh_home}
-use Rattle.is_c_calls.specs.Sessions.{Used, Session, is_ok}
-use Rattle.is_c_calls.specs.Uses.{Use, Ask, SetControlling, SetLite, SetRenomination, SetTieBreaker, SetMaxPairs, SetMaxDiscovered, SetMaxCandidates, SetTimingAdvance, SetInitialRto, SetMaxRto, SetLiteTimeout, SetMaxRetransmits, SetMtu, SetPreference, SetSettings, SkipPairIds, SetSilence, SetLocalCredentials, SetRemoteCredentials, AddLocal, AddLocalLine, AddRemote, InvalidateLocal, Invalidate, Restart, RecreatePairs, HandlePacket, HandleTimeout, PollTransmit, PollTimeout, PollEvent, SendFailed, FixTimes, mac_of}
-use Rattle.is_c_theorems.specs.CallLogs.{Makes, Answers, IsOf, counts, settings_onto, AddsTo, IsLogOf, newborn}
-use Rattle.is_c_theorems.specs.Chosen.{sets, settings_by, SettingsAreThoseSet, EachKeeps, keeps_modern, keeps_consent, keeps_limit}
-use Rattle.is_c_theorems.specs.Executions.{modern_consent, DISCOVERED_LIMIT}
+use Rattle.is_theorems.specs.Polled.{restarts}
+use Rattle.is_c_theorems.proofs.Common.{[], ◌*◌, ◌∙◌, ◌∷◌, ◌≡◌, AddLocal, AddLocalLine, AddRemote, AddsTo, all_settings_of, AllAreSetInTurn}
+use Rattle.is_c_theorems.proofs.Common.{Answer, Answers, answers, ap, Ask, Bool, Call, consent_of, counts, delay_millis, DISCOVERED_LIMIT}
+use Rattle.is_c_theorems.proofs.Common.{EachKeeps, false, FixTimes, fresh_held, HandlePacket, HandleTimeout, Held, IceCreds, if◌then◌else◌}
+use Rattle.is_c_theorems.proofs.Common.{inl, inr, Invalidate, InvalidateLocal, is_done, is_modern_profile, is_ok, IsLogOf}
+use Rattle.is_c_theorems.proofs.Common.{IsModernAtRestart, IsOf, keeps_consent, keeps_limit, keeps_modern, List, lite_set_by, Logged}
+use Rattle.is_c_theorems.proofs.Common.{mac_of, Makes, modern_consent, modern_settings, NeverLite, newborn, not, numbering_of}
+use Rattle.is_c_theorems.proofs.Common.{numbering_set, numbering_set_by, Option, PollEvent, PollTimeout, PollTransmit, Preference}
+use Rattle.is_c_theorems.proofs.Common.{profile_of, RecreatePairs, refl, Restart, SendFailed, Session, SetControlling, SetInitialRto}
+use Rattle.is_c_theorems.proofs.Common.{SetLite, SetLiteTimeout, SetLocalCredentials, SetMaxCandidates, SetMaxDiscovered, SetMaxPairs}
+use Rattle.is_c_theorems.proofs.Common.{SetMaxRetransmits, SetMaxRto, SetMtu, SetPreference, SetRemoteCredentials, SetRenomination, sets}
+use Rattle.is_c_theorems.proofs.Common.{SetSettings, SetSilence, SetTieBreaker, SetTimingAdvance, Settings, settings_after, settings_along}
+use Rattle.is_c_theorems.proofs.Common.{settings_by, settings_of, settings_onto, SettingsAreSet, SettingsAreThoseSet, SettingsRecord}
+use Rattle.is_c_theorems.proofs.Common.{SharedRun, SkipPairIds, Some, subst, sym, timeout_of, true, Use, Used, ℕ, ℤ}
 use Rattle.is_c_theorems.proofs.CallsAsSteps.{never}
 use Rattle.is_c_theorems.proofs.LogsOfCalls.{walk, log_is, run_is}
 
@@ -163,10 +155,10 @@ module _ (law : SettingsAreSet {H = _} {P = Preference} mac_of answers) where
       settings_last (newborn creds tie_breaker) last log run ∙ along uses log (all_settings_of (newborn creds tie_breaker)) logs
 
   pub those_set : AllAreSetInTurn {H = _} {P = Preference} mac_of answers → SettingsAreThoseSet
-  those_set turn creds tie_breaker uses home session =
-      let calls : Session (fresh_home creds tie_breaker) uses home = search session in
-      let k = walk turn creds tie_breaker uses home calls in
-      search (settings_now creds tie_breaker uses k.0 home.agent (log_is turn creds tie_breaker uses k.0 home k.1) (run_is turn creds tie_breaker uses k.0 home k.1))
+  those_set turn creds tie_breaker uses held session =
+      let calls : Session (fresh_held creds tie_breaker) uses held = search session in
+      let k = walk turn creds tie_breaker uses held calls in
+      search (settings_now creds tie_breaker uses k.0 held.agent (log_is turn creds tie_breaker uses k.0 held k.1) (run_is turn creds tie_breaker uses k.0 held k.1))
 
 -- ---- what C leaves
 
@@ -174,7 +166,7 @@ pub rest_of : (keeps : Use → Bool) (u : Used) (before : List Used) → EachKee
 rest_of keeps u before each v has = each v (inr has)
 
 -- what each call leaves, all leave
-kept_by : {A : Type 0} (part : Chosen → A) (keeps : Use → Bool) (Fits : A → Type 0)
+pub kept_by : {A : Type 0} (part : Chosen → A) (keeps : Use → Bool) (Fits : A → Type 0)
     → ((export : Use) (k : Chosen) → keeps export ≡ true → Fits (part k) → Fits (part (sets export k)))
     → (uses : List Used) (k : Chosen) → EachKeeps keeps uses → Fits (part k) → Fits (part (settings_by k uses))
 kept_by part keeps Fits leaves [] k each fits = fits

@@ -1,61 +1,54 @@
 -- The roles of two agents of C, from `is_ice_agent_new` on. What mutants/specifications changes is read by tactics.
-use Rattle.std.proofs.Common.{◌≡◌, ◌⊎◌, ◌&&◌, ◌++◌, ◌<◌, ℕ, Bool, true, false, not, List, [], ◌∷◌, append-nil, None, Some, Option, ℤ, inl, inr, refl, ap, sym, ◌∙◌, subst}
 use Rattle.std.specs.Prelude.{◌≢◌}
-use Rattle.is_rules.specs.declared.credentials.IceCreds.{IceCreds}
-use Rattle.is_rules.specs.declared.emitted.Path.{Path}
-use Rattle.is_rules.specs.Polls.{NextTimeoutFrom}
-use Rattle.is_rules.specs.Roles.{keeps_role}
-use Rattle.is_rules.specs.Settings.{modern_settings, controlling_set}
-use Rattle.is_theorems.specs.Settings.{setters_of}
-use Rattle.is_c_calls.specs.Held.{Held, HomeRecord}
-use Rattle.is_c_calls.specs.Making.{fresh_home}
-use Rattle.is_c_calls.specs.Preferences.{answers}
-use Rattle.is_c_calls.specs.Sessions.{Used, Session}
-use Rattle.is_c_calls.specs.Uses.{Use, SetControlling, FixTimes, Does, mac_of}
-use Rattle.is_c_theorems.specs.CallLogs.{IsLogOf, newborn}
-use Rattle.is_c_theorems.specs.Chosen.{EachKeeps}
-use Rattle.is_c_theorems.specs.TwoAgents.{Side, A, B, other, Turn, Sessions, AreCarried, HaveFreshIds, sets_role, Begins, IsFair, role_at, GreaterKeepsRole, LesserSwitchesOnce, RolesStayOpposite}
+use Rattle.is_c_theorems.specs.TwoAgents.{sets_role}
+use Rattle.is_c_theorems.proofs.Common.{[], ◌&&◌, ◌++◌, ◌<◌, ◌∙◌, ◌∷◌, ◌≡◌, ◌⊎◌, A, answers, ap, append-nil, AreCarried, B, Begins, Bool}
+use Rattle.is_c_theorems.proofs.Common.{controlling_set, Does, EachKeeps, false, FixTimes, fresh_held, GreaterKeepsRole, HaveFreshIds, Held}
+use Rattle.is_c_theorems.proofs.Common.{HeldRecord, IceCreds, inl, inr, IsFair, IsLogOf, keeps_role, LesserSwitchesOnce, List, mac_of}
+use Rattle.is_c_theorems.proofs.Common.{modern_settings, newborn, NextTimeoutFrom, None, not, Option, other, Path, refl, role_at}
+use Rattle.is_c_theorems.proofs.Common.{RolesStayOpposite, Session, Sessions, SetControlling, setters_of, Side, Some, subst, sym, true}
+use Rattle.is_c_theorems.proofs.Common.{Turn, Use, Used, ℕ, ℤ}
 use Rattle.is_c_theorems.proofs.CallsAsSteps.{never, either}
 use Rattle.is_c_theorems.proofs.ClaimedRoles.{not_self, Setting, Mind}
 use Rattle.is_c_theorems.proofs.IssuedRequests.{checks_none, unless_timeout}
 use Rattle.is_c_theorems.proofs.LogsOfCalls.{Ran, walk, log_is, run_is}
 use Rattle.is_c_theorems.proofs.PacketsGiven.{use_marks, times_as_marked}
-use Rattle.is_c_theorems.proofs.RolesOfTwo.{Opening, AllKeep, Issued_in, setters_issue, Paths, Trades, Fresh, Turns, Half, Known, joined, known, lesser_stays}
+use Rattle.is_c_theorems.proofs.RolesOfTwo.{Opening, AllKeep, Issued_in, setters_issue, Paths, Trades, Fresh, Turns, Half, Known, joined}
+use Rattle.is_c_theorems.proofs.RolesOfTwo.{known, lesser_stays}
 use Rattle.is_c_theorems.proofs.SettingsOfCalls.{Log, rest_of}
 
 -- ---- an agent whose role C may have set
 
 module _ (creds : IceCreds) (tie : ℕ) where
   abbrev pub in_role : Bool → Held
-  in_role role = record (fresh_home creds tie).agent { controlling = role }
+  in_role role = record (fresh_held creds tie).agent { controlling = role }
 
-  abbrev pub IsOpen : HomeRecord → Type 0
-  IsOpen home = (role : Bool) × (home.agent ≡ in_role role) × (home.waiting ≡ None)
+  abbrev pub IsOpen : HeldRecord → Type 0
+  IsOpen held = (role : Bool) × (held.agent ≡ in_role role) × (held.waiting ≡ None)
 
   -- the agent is not lite
-  role_set : (role : Bool) (code : ℤ) (mid home : HomeRecord) → IsOpen mid → Does (SetControlling role) mid code home → IsOpen home
-  role_set role code mid home (was, agent_is, none) h = either (keeps_role mid.agent && role)
-      (λ k. (was, ap (λ (h : HomeRecord). h.agent) k.1 ∙ agent_is, ap (λ (h : HomeRecord). h.waiting) k.1 ∙ none))
-      (λ k. (role, ap (λ (h : HomeRecord). h.agent) k.1 ∙ ap (λ (a : Held). controlling_set role a) agent_is, ap (λ (h : HomeRecord). h.waiting) k.1 ∙ none)) h
+  role_set : (role : Bool) (code : ℤ) (mid held : HeldRecord) → IsOpen mid → Does (SetControlling role) mid code held → IsOpen held
+  role_set role code mid held (was, agent_is, none) h = either (keeps_role mid.agent && role)
+      (λ k. (was, ap (λ (h : HeldRecord). h.agent) k.1 ∙ agent_is, ap (λ (h : HeldRecord). h.waiting) k.1 ∙ none))
+      (λ k. (role, ap (λ (h : HeldRecord). h.agent) k.1 ∙ ap (λ (a : Held). controlling_set role a) agent_is, ap (λ (h : HeldRecord). h.waiting) k.1 ∙ none)) h
 
   -- an agent without a time of a last call is not changed by a poll for its next timeout
   fixed : (last : Option ℕ) (a b : Held) (deadline : Option ℕ) → last ≡ None → NextTimeoutFrom last a deadline b → b ≡ a
   fixed None a b deadline is k = k.1
   fixed (Some at) a b deadline is k = let wrong_ : Some at ≡ None = is in absurd (cc)
 
-  times_fixed : (soon : Bool) (code : ℤ) (mid home : HomeRecord) → IsOpen mid → Does (FixTimes soon) mid code home → IsOpen home
-  times_fixed soon code mid home (was, agent_is, none) (deadline, polls, coded, is) = (
+  times_fixed : (soon : Bool) (code : ℤ) (mid held : HeldRecord) → IsOpen mid → Does (FixTimes soon) mid code held → IsOpen held
+  times_fixed soon code mid held (was, agent_is, none) (deadline, polls, coded, is) = (
     was,
-    fixed mid.agent.last_time mid.agent home.agent deadline (ap (λ (a : Held). a.last_time) agent_is) polls ∙ agent_is,
-    ap (λ (h : HomeRecord). h.waiting) is ∙ none,
+    fixed mid.agent.last_time mid.agent held.agent deadline (ap (λ (a : Held). a.last_time) agent_is) polls ∙ agent_is,
+    ap (λ (h : HeldRecord). h.waiting) is ∙ none,
   )
 
-  pub opened : (uses : List Used) (home : HomeRecord) → Session (fresh_home creds tie) uses home → EachKeeps sets_role uses → IsOpen home
-  opened [] home is each = ((fresh_home creds tie).agent.controlling, ap (λ (h : HomeRecord). h.agent) is, ap (λ (h : HomeRecord). h.waiting) is)
-  opened (u ∷ before) home (mid, session, does) each = by (opened before mid session (rest_of sets_role u before each)) u.export (each u (inl refl)) does where
-    by : IsOpen mid → (export : Use) → sets_role export ≡ true → Does export mid u.code home → IsOpen home
-    by was (SetControlling role) is k = role_set role u.code mid home was k
-    by was (FixTimes soon) is k = times_fixed soon u.code mid home was k
+  pub opened : (uses : List Used) (held : HeldRecord) → Session (fresh_held creds tie) uses held → EachKeeps sets_role uses → IsOpen held
+  opened [] held is each = ((fresh_held creds tie).agent.controlling, ap (λ (h : HeldRecord). h.agent) is, ap (λ (h : HeldRecord). h.waiting) is)
+  opened (u ∷ before) held (mid, session, does) each = by (opened before mid session (rest_of sets_role u before each)) u.export (each u (inl refl)) does where
+    by : IsOpen mid → (export : Use) → sets_role export ≡ true → Does export mid u.code held → IsOpen held
+    by was (SetControlling role) is k = role_set role u.code mid held was k
+    by was (FixTimes soon) is k = times_fixed soon u.code mid held was k
     by was _ is k = never is
 
   open_marks : (export : Use) → sets_role export ≡ true → (use_marks export).1 ≡ false
@@ -110,25 +103,25 @@ keep_rest (x ∷ later) before all = keep_rest later before (λ y has. all y (in
 -- ---- the theorems
 
 -- two new agents, and the network between them
-pub record IsBegun (first : Side → HomeRecord) (turns : List Turn) : Type 0 where
+pub record IsBegun (first : Side → HeldRecord) (turns : List Turn) : Type 0 where
   pub tie_breaker : Side → ℕ
   pub begins : (side : Side) → Begins (tie_breaker side) (first side)
   pub carried : AreCarried turns
   pub fresh : HaveFreshIds turns
 
-carried_of : (first : Side → HomeRecord) (greater : Side) (turns : List Turn) → IsFair first greater turns → AreCarried turns
+carried_of : (first : Side → HeldRecord) (greater : Side) (turns : List Turn) → IsFair first greater turns → AreCarried turns
 carried_of first greater turns fair = search fair.carried
 
-fresh_of : (first : Side → HomeRecord) (greater : Side) (turns : List Turn) → IsFair first greater turns → HaveFreshIds turns
+fresh_of : (first : Side → HeldRecord) (greater : Side) (turns : List Turn) → IsFair first greater turns → HaveFreshIds turns
 fresh_of first greater turns fair = search fair.fresh
 
-abbrev begun_of : (first : Side → HomeRecord) (greater : Side) (turns : List Turn) → IsFair first greater turns → IsBegun first turns
+abbrev begun_of : (first : Side → HeldRecord) (greater : Side) (turns : List Turn) → IsFair first greater turns → IsBegun first turns
 begun_of first greater turns fair =
     record { tie_breaker = fair.tie_breaker; begins = fair.begins; carried = carried_of first greater turns fair; fresh = fresh_of first greater turns fair }
 
 module _ (paths : Paths) (trades : Trades) (new : Fresh) (turn : Turns) where
   -- two new agents
-  module _ (first : Side → HomeRecord) (turns : List Turn) (begun : IsBegun first turns) where
+  module _ (first : Side → HeldRecord) (turns : List Turn) (begun : IsBegun first turns) where
     pub all_carried : AreCarried turns
     all_carried = begun.carried
 
@@ -170,7 +163,7 @@ module _ (paths : Paths) (trades : Trades) (new : Fresh) (turn : Turns) where
       pub start : Known paths trades new turn (setting ranked greater less) opening only creds_of [] first
       start = record { ns = []; notes = refl; half = start_half }
 
-  module _ (first : Side → HomeRecord) (greater : Side) (turns : List Turn) (fair : IsFair first greater turns) where
+  module _ (first : Side → HeldRecord) (greater : Side) (turns : List Turn) (fair : IsFair first greater turns) where
     abbrev begun : IsBegun first turns
     begun = begun_of first greater turns fair
 
@@ -183,14 +176,14 @@ module _ (paths : Paths) (trades : Trades) (new : Fresh) (turn : Turns) where
     abbrev ranking : Setting
     ranking = setting first turns begun true greater greatest_is
 
-    stay : (before later : List Turn) (mid last : Side → HomeRecord) → Sessions first before mid → Sessions mid later last
+    stay : (before later : List Turn) (mid last : Side → HeldRecord) → Sessions first before mid → Sessions mid later last
         → AllKeep (later ++ before) → AreCarried (later ++ before) → HaveFreshIds (later ++ before)
         → role_at (other greater) mid ≡ not (role_at greater first) → role_at (other greater) last ≡ not (role_at greater first)
     stay before later mid last session more keeps carried ids was =
         lesser_stays paths trades new turn ranking (opening first turns begun) (only first turns begun) (creds_of first turns begun) refl first
         (start first turns begun true greater greatest_is) before later mid last session more keeps carried ids was
 
-    keeps_at : (some : List Turn) (last : Side → HomeRecord) → Sessions first some last → AllKeep some → AreCarried some → HaveFreshIds some
+    keeps_at : (some : List Turn) (last : Side → HeldRecord) → Sessions first some last → AllKeep some → AreCarried some → HaveFreshIds some
         → role_at greater last ≡ role_at greater first
     keeps_at some last session keeps carried ids =
         ((known paths trades new turn ranking (opening first turns begun) (only first turns begun) (creds_of first turns begun) first
@@ -219,15 +212,15 @@ module _ (paths : Paths) (trades : Trades) (new : Fresh) (turn : Turns) where
         ]
       ])
 
-  apart : (greater : Side) (role : Bool) (homes : Side → HomeRecord) → role_at greater homes ≡ role → role_at (other greater) homes ≡ not role
-      → role_at A homes ≢ role_at B homes
-  apart A role homes is differs both = not_self role (sym differs ∙ (sym both ∙ is))
-  apart B role homes is differs both = not_self role (sym differs ∙ (both ∙ is))
+  apart : (greater : Side) (role : Bool) (all_held : Side → HeldRecord) → role_at greater all_held ≡ role → role_at (other greater) all_held ≡ not role
+      → role_at A all_held ≢ role_at B all_held
+  apart A role all_held is differs both = not_self role (sym differs ∙ (sym both ∙ is))
+  apart B role all_held is differs both = not_self role (sym differs ∙ (both ∙ is))
 
-  alike : (greater : Side) (role : Bool) (homes : Side → HomeRecord) → role_at greater homes ≡ role → role_at (other greater) homes ≡ role
-      → role_at A homes ≡ role_at B homes
-  alike A role homes is same = is ∙ sym same
-  alike B role homes is same = same ∙ sym is
+  alike : (greater : Side) (role : Bool) (all_held : Side → HeldRecord) → role_at greater all_held ≡ role → role_at (other greater) all_held ≡ role
+      → role_at A all_held ≡ role_at B all_held
+  alike A role all_held is same = is ∙ sym same
+  alike B role all_held is same = same ∙ sym is
 
   pub stay_opposite : RolesStayOpposite
   stay_opposite first mid last greater before later fair session more different =

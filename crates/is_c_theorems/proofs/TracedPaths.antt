@@ -1,42 +1,23 @@
 -- What one agent of C selects, the other one answered: from the accepted response back to the check, through C's calls on both slots. What
 -- mutants/specifications changes is read by tactics.
-use Rattle.std.proofs.Common.{◌≡◌, ◌⊎◌, ◌<◌, ℕ, Bool, true, false, List, [], ◌∷◌, length, Some, None, inl, inr, refl, ap, sym, ◌∙◌, subst}
-use Rattle.rand_core.specs.Stream.{Stream}
-use Rattle.is_proto.specs.Lists.{Has}
 use Rattle.is_proto.specs.Packets as packets
-use Rattle.is_stun.specs.declared.header.Class.{Class}
 use Rattle.is_stun.specs.declared.header.Class.TheVariants as class
-use Rattle.is_stun.specs.Message.{Message}
-use Rattle.is_stun.specs.Reading.{Reads}
-use Rattle.is_rules.specs.declared.emitted.Path.{Path}
-use Rattle.is_rules.specs.declared.settings.Settings.{Settings}
-use Rattle.is_rules.specs.Answers.{is_reverse}
-use Rattle.is_rules.specs.Brought.{IsBrought, IsServing}
-use Rattle.is_rules.specs.Effects.{PathEffect}
-use Rattle.is_rules.specs.Issuing.{via_out, IsIssued, Says}
-use Rattle.is_rules.specs.Request.{RequestRecord}
-use Rattle.is_rules.specs.Settings.{modern_settings}
-use Rattle.is_rules.specs.Sound.{IsSound, GivesBased}
-use Rattle.is_rules.specs.Steps.{Call, Done, Step, quiet}
-use Rattle.is_theorems.specs.Logs.{Logged, IsSent, AnswersAt, Answered, IsAnsweredBy}
-use Rattle.is_theorems.specs.Polled.{SelectedSince, WaitingAreAnswered}
-use Rattle.is_theorems.specs.Settings.{setters_of}
-use Rattle.is_c_calls.specs.declared.preference.Preference.{Preference}
-use Rattle.is_c_calls.specs.AgentSettings.{settings_of}
-use Rattle.is_c_calls.specs.Held.{Held, HomeRecord}
-use Rattle.is_c_calls.specs.Preferences.{answers}
-use Rattle.is_c_calls.specs.Sessions.{Used}
-use Rattle.is_c_calls.specs.Uses.{Use, SetControlling, FixTimes, Does, mac_of}
-use Rattle.is_c_theorems.specs.CallLogs.{setters_onto, settings_onto, IsLogOf, IsOf, newborn}
-use Rattle.is_c_theorems.specs.Chosen.{EachKeeps, keeps_modern}
-use Rattle.is_c_theorems.specs.Seen.{Accepts, Gets, IsToPoll}
-use Rattle.is_c_theorems.specs.TwoAgents.{Side, A, B, other, Turn, Sessions, Before, Gave, AreCarried, HaveFreshIds, sets_role, GivesCheck, TakesCheck, GivesAnswer, TakesAnswer, SelectedAreTraced}
+use Rattle.is_c_theorems.specs.TwoAgents.{sets_role}
+use Rattle.is_c_theorems.proofs.Common.{[], ◌<◌, ◌∙◌, ◌∷◌, ◌≡◌, ◌⊎◌, A, Accepts, Answered, answers, AnswersAt, ap, AreCarried, B, Before}
+use Rattle.is_c_theorems.proofs.Common.{Bool, Call, Class, Does, Done, EachKeeps, false, FixTimes, Gave, Gets, GivesAnswer, GivesBased}
+use Rattle.is_c_theorems.proofs.Common.{GivesCheck, Has, HaveFreshIds, Held, HeldRecord, inl, inr, is_reverse, IsAnsweredBy, IsBrought}
+use Rattle.is_c_theorems.proofs.Common.{IsIssued, IsLogOf, IsOf, IsSent, IsServing, IsSound, IsToPoll, keeps_modern, length, List, Logged}
+use Rattle.is_c_theorems.proofs.Common.{mac_of, Message, modern_settings, newborn, None, other, Path, PathEffect, Preference, quiet, Reads}
+use Rattle.is_c_theorems.proofs.Common.{refl, RequestRecord, Says, SelectedAreTraced, SelectedSince, Sessions, SetControlling, setters_of}
+use Rattle.is_c_theorems.proofs.Common.{setters_onto, Settings, settings_of, settings_onto, Side, Some, Step, Stream, subst, sym}
+use Rattle.is_c_theorems.proofs.Common.{TakesAnswer, TakesCheck, true, Turn, Use, Used, via_out, WaitingAreAnswered, ℕ}
 use Rattle.is_c_theorems.proofs.AlongExecutions.{is_new, full_log}
 use Rattle.is_c_theorems.proofs.CallsAsSteps.{never}
 use Rattle.is_c_theorems.proofs.ClaimedRoles.{other_back, one_side, Note, note, Setting, Fact}
 use Rattle.is_c_theorems.proofs.PacketsGiven.{waited_before, given_before, outcome}
 use Rattle.is_c_theorems.proofs.PolledPaths.{waited}
-use Rattle.is_c_theorems.proofs.RolesOfTwo.{Opening, calls, pick, same_side, Issued_in, Paths, Trades, Fresh, Turns, Known, known, sound_run, distinct_notes}
+use Rattle.is_c_theorems.proofs.RolesOfTwo.{Opening, calls, pick, same_side, Issued_in, Paths, Trades, Fresh, Turns, Known, known}
+use Rattle.is_c_theorems.proofs.RolesOfTwo.{sound_run, distinct_notes}
 use Rattle.is_c_theorems.proofs.SeenCalls.{accepts, none_brought}
 use Rattle.is_c_theorems.proofs.SettledRoles.{opened, IsBegun, all_carried, all_fresh, setting, opening, creds_of, only, start}
 use Rattle.is_c_theorems.proofs.SettingsOfCalls.{Log, rest_of}
@@ -149,32 +130,32 @@ module _ (open_calls : Opening) (only_roles : (side : Side) → EachKeeps sets_r
 abbrev AskedBy : Side → List ℕ → Turn → List Turn → Type 0
 AskedBy side id x earlier = (via : Path) × (m : Message) × (x.side ≡ side) × Accepts x.used via m × (m.class ≡ class.Request) × (m.id ≡ id)
 
-record Replies (turns : List Turn) (side : Side) (home : HomeRecord) : Type 0 where
-  ready : (p : packets.Packet) → IsToPoll home p → (m : Message) → Reads p.contents m → m.class ≡ class.Success → Before (AskedBy side m.id) turns
-  queue : (q : RequestRecord) → Has home.agent.queue q → Before (AskedBy side q.id) turns
+record Replies (turns : List Turn) (side : Side) (held : HeldRecord) : Type 0 where
+  ready : (p : packets.Packet) → IsToPoll held p → (m : Message) → Reads p.contents m → m.class ≡ class.Success → Before (AskedBy side m.id) turns
+  queue : (q : RequestRecord) → Has held.agent.queue q → Before (AskedBy side q.id) turns
 
 -- a request that the call serves, or stores
-module _ (paths : Paths) (trades : Trades) (x : Turn) (before : List Turn) (mid home : HomeRecord) (does : Does x.used.export mid x.used.code home)
+module _ (paths : Paths) (trades : Trades) (x : Turn) (before : List Turn) (mid held : HeldRecord) (does : Does x.used.export mid x.used.code held)
     (sound : IsSound mid.agent) (k : Replies before x.side mid) where
   abbrev Now : Type 0
-  Now = Replies (x ∷ before) x.side home
+  Now = Replies (x ∷ before) x.side held
 
   ready_still : (p : packets.Packet) → IsToPoll mid p → (m : Message) → Reads p.contents m → m.class ≡ class.Success → Before (AskedBy x.side m.id) (x ∷ before)
   ready_still p waits m reads success = inr (k.ready p waits m reads success)
 
   -- the agent is as it was, or other settings are set
-  unchanged : ((p : packets.Packet) → Has home.agent.packets p → Has mid.agent.packets p) → ((q : RequestRecord) → Has home.agent.queue q → Has mid.agent.queue q) → Now
+  unchanged : ((p : packets.Packet) → Has held.agent.packets p → Has mid.agent.packets p) → ((q : RequestRecord) → Has held.agent.queue q → Has mid.agent.queue q) → Now
   unchanged packets_were queue_was = record {
     ready = λ p waits m reads success. elim waits [
-      | inl is ↦ ready_still p (waited_before x.used.export x.used.code mid home p does is) m reads success
+      | inl is ↦ ready_still p (waited_before x.used.export x.used.code mid held p does is) m reads success
       | inr has ↦ ready_still p (inr (packets_were p has)) m reads success
     ];
     queue = λ q has. inr (k.queue q (queue_was q has));
   }
 
-  module _ (e : Logged Preference) (s t : Stream) (of : IsOf x.used e) (given : GivesBased e.call) (step : Step mac_of answers mid.agent s e.call e.entry home.agent t) where
-    f : PathEffect mac_of mid.agent e.call e.entry home.agent
-    f = (paths mid.agent home.agent s t e.call e.entry sound given step).0
+  module _ (e : Logged Preference) (s t : Stream) (of : IsOf x.used e) (given : GivesBased e.call) (step : Step mac_of answers mid.agent s e.call e.entry held.agent t) where
+    f : PathEffect mac_of mid.agent e.call e.entry held.agent
+    f = (paths mid.agent held.agent s t e.call e.entry sound given step).0
 
     asked_now : (q : RequestRecord) → IsBrought e.call e.entry q → Before (AskedBy x.side q.id) (x ∷ before)
     asked_now q (at, by, m, brings, request, is) =
@@ -183,10 +164,10 @@ module _ (paths : Paths) (trades : Trades) (x : Turn) (before : List Turn) (mid 
     served : (q : RequestRecord) → IsServing mid.agent e.call e.entry q → Before (AskedBy x.side q.id) (x ∷ before)
     served q serving = elim (f.serves q serving) [ inl was ↦ inr (k.queue q was) | inr now ↦ asked_now q now ]
 
-    issued_now : (p : packets.Packet) (n : Message) → Reads p.contents n → n.class ≡ class.Success → IsIssued mac_of mid.agent e.call e.entry p home.agent.controlling
+    issued_now : (p : packets.Packet) (n : Message) → Reads p.contents n → n.class ≡ class.Success → IsIssued mac_of mid.agent e.call e.entry p held.agent.controlling
         → Before (AskedBy x.side n.id) (x ∷ before)
     issued_now p n reads success (m, contents, emitted, says) = by m.class says where
-      by : (c : Class) → Says c mid.agent e.call e.entry p.contents m (via_out p) home.agent.controlling → Before (AskedBy x.side n.id) (x ∷ before)
+      by : (c : Class) → Says c mid.agent e.call e.entry p.contents m (via_out p) held.agent.controlling → Before (AskedBy x.side n.id) (x ∷ before)
       by class.Request (peer, cand, uses, number, known_peer, has, m_is, put, role, leads, its) =
           let wrong_ : class.Request ≡ class.Success = sym ((put.reads n reads).class ∙ ap (λ (y : Message). y.class) m_is) ∙ success in absurd (cc)
       by class.Success (q, serving, m_is, via, put) = subst (λ (id : List ℕ). Before (AskedBy x.side id) (x ∷ before)) (sym (put.reads n reads).id) (served q serving)
@@ -198,8 +179,8 @@ module _ (paths : Paths) (trades : Trades) (x : Turn) (before : List Turn) (mid 
     stepped : Now
     stepped = record {
       ready = λ p waits m reads success. elim waits [
-        | inl is ↦ ready_still p (waited_before x.used.export x.used.code mid home p does is) m reads success
-        | inr has ↦ elim ((trades mid.agent home.agent s t e.call e.entry sound given step).packets p has) [
+        | inl is ↦ ready_still p (waited_before x.used.export x.used.code mid held p does is) m reads success
+        | inr has ↦ elim ((trades mid.agent held.agent s t e.call e.entry sound given step).packets p has) [
           | inl was ↦ ready_still p (inr was) m reads success
           | inr out ↦ issued_now p m reads success out
         ]
@@ -208,7 +189,7 @@ module _ (paths : Paths) (trades : Trades) (x : Turn) (before : List Turn) (mid 
     }
 
   replies_next : Now
-  replies_next = elim (outcome 0 x.used.export x.used.code mid home does) as (λ _. Now) [
+  replies_next = elim (outcome 0 x.used.export x.used.code mid held does) as (λ _. Now) [
     | inl (same_agent, none) ↦ unchanged (λ p has. subst (λ (a : Held). Has a.packets p) same_agent has) (λ q has. subst (λ (a : Held). Has a.queue q) same_agent has)
     | inr (inl (e, s, t, of, given, step, draws)) ↦ stepped e s t of given step
     | inr (inr all) ↦ unchanged (λ p has. subst (λ (a : Held). Has a.packets p) all.sets has) (λ q has. subst (λ (a : Held). Has a.queue q) all.sets has)
@@ -216,11 +197,11 @@ module _ (paths : Paths) (trades : Trades) (x : Turn) (before : List Turn) (mid 
 
 -- ---- places among C's calls
 
-module _ (first : Side → HomeRecord) (whole : List Turn) where
+module _ (first : Side → HeldRecord) (whole : List Turn) where
   -- a call, with what both slots held before and after it
   record Place (x : Turn) (earlier : List Turn) : Type 0 where
-    mid : Side → HomeRecord
-    last : Side → HomeRecord
+    mid : Side → HeldRecord
+    last : Side → HeldRecord
     session : Sessions first earlier mid
     does : Does x.used.export (mid x.side) x.used.code (last x.side)
     carried : AreCarried (x ∷ earlier)
@@ -229,7 +210,7 @@ module _ (first : Side → HomeRecord) (whole : List Turn) where
     within : (y : Turn) → Has earlier y → Has whole y
 
   placed : (P Q : Turn → List Turn → Type 0) → ((x : Turn) (earlier : List Turn) → Place x earlier → P x earlier → Q x earlier)
-      → (turns : List Turn) (last : Side → HomeRecord) → Sessions first turns last → AreCarried turns → HaveFreshIds turns
+      → (turns : List Turn) (last : Side → HeldRecord) → Sessions first turns last → AreCarried turns → HaveFreshIds turns
       → ((y : Turn) → Has turns y → Has whole y) → Before P turns → Before Q turns
   placed P Q f [] last session carried ids within none = absurd none
   placed P Q f (x ∷ before) last (mid, session, does, others) carried ids within (inl here) = inl (f x before (record {
@@ -248,7 +229,7 @@ module _ (first : Side → HomeRecord) (whole : List Turn) where
 -- ---- the theorem
 
 module _ (paths : Paths) (trades : Trades) (new : Fresh) (turn : Turns) where
-  module _ (first : Side → HomeRecord) (turns : List Turn) (begun : IsBegun first turns) where
+  module _ (first : Side → HeldRecord) (turns : List Turn) (begun : IsBegun first turns) where
     -- roles are not spoken of
     none_less : false ≡ true → begun.tie_breaker B < begun.tie_breaker A
     none_less is = never is
@@ -256,21 +237,21 @@ module _ (paths : Paths) (trades : Trades) (new : Fresh) (turn : Turns) where
     abbrev unranked : Setting
     unranked = setting paths trades new turn first turns begun false A none_less
 
-    abbrev After : List Turn → (Side → HomeRecord) → Type 0
-    After some homes = Known paths trades new turn unranked (opening paths trades new turn first turns begun)
-        (only paths trades new turn first turns begun) (creds_of paths trades new turn first turns begun) some homes
+    abbrev After : List Turn → (Side → HeldRecord) → Type 0
+    After some all_held = Known paths trades new turn unranked (opening paths trades new turn first turns begun)
+        (only paths trades new turn first turns begun) (creds_of paths trades new turn first turns begun) some all_held
 
-    knows : (some : List Turn) (last : Side → HomeRecord) → Sessions first some last → AreCarried some → HaveFreshIds some → After some last
+    knows : (some : List Turn) (last : Side → HeldRecord) → Sessions first some last → AreCarried some → HaveFreshIds some → After some last
     knows some last session carried ids =
         known paths trades new turn unranked (opening paths trades new turn first turns begun)
         (only paths trades new turn first turns begun) (creds_of paths trades new turn first turns begun) first
         (start paths trades new turn first turns begun false A none_less) some last session (λ is. never is) carried ids
 
-    first_replies : (side : Side) (home : HomeRecord) → home ≡ first side → Replies [] side home
-    first_replies side home is =
+    first_replies : (side : Side) (held : HeldRecord) → held ≡ first side → Replies [] side held
+    first_replies side held is =
         let (creds, uses, session, each) = begun.begins side in
         let (role, agent_is, none) = opened creds (begun.tie_breaker side) uses (first side) session each in
-        subst (λ (h : HomeRecord). Replies [] side h) (sym is) (record {
+        subst (λ (h : HeldRecord). Replies [] side h) (sym is) (record {
           ready = λ p waits m reads success. elim waits [
             | inl w ↦ let wrong_ : None ≡ Some p = sym none ∙ w in absurd (cc)
             | inr has ↦ absurd (subst (λ (a : Held). Has a.packets p) agent_is has)
@@ -278,8 +259,8 @@ module _ (paths : Paths) (trades : Trades) (new : Fresh) (turn : Turns) where
           queue = λ q has. absurd (subst (λ (a : Held). Has a.queue q) agent_is has);
         })
 
-    replies : (some : List Turn) (last : Side → HomeRecord) → Sessions first some last → AreCarried some → HaveFreshIds some → (side : Side) → Replies some side (last side)
-    replies [] last same_homes carried ids side = first_replies side (last side) (same_homes side)
+    replies : (some : List Turn) (last : Side → HeldRecord) → Sessions first some last → AreCarried some → HaveFreshIds some → (side : Side) → Replies some side (last side)
+    replies [] last same_held carried ids side = first_replies side (last side) (same_held side)
     replies (x ∷ before) last (mid, session, does, others) carried ids side =
         let earlier = replies before mid session carried.1 ids.1 in
         let k = knows before mid session carried.1 ids.1 in
@@ -287,13 +268,13 @@ module _ (paths : Paths) (trades : Trades) (new : Fresh) (turn : Turns) where
         let sound = sound_run paths trades new turn (creds_of paths trades new turn first turns begun x.side) (begun.tie_breaker x.side) h.log (mid x.side).agent h.run in
         elim (one_side side x.side) [
           | inl is ↦ subst (λ (s : Side). Replies (x ∷ before) s (last s)) (sym is) (replies_next paths trades x before (mid x.side) (last x.side) does sound (earlier x.side))
-          | inr is ↦ subst (λ (s : Side). Replies (x ∷ before) s (last s)) (sym is) (subst (λ (o : HomeRecord). Replies (x ∷ before) (other x.side) o) (sym others) (record {
+          | inr is ↦ subst (λ (s : Side). Replies (x ∷ before) s (last s)) (sym is) (subst (λ (o : HeldRecord). Replies (x ∷ before) (other x.side) o) (sym others) (record {
             ready = λ p waits m reads success. inr ((earlier (other x.side)).ready p waits m reads success);
             queue = λ q has. inr ((earlier (other x.side)).queue q has);
           }))
         ]
 
-    module _ (last : Side → HomeRecord) (session : Sessions first turns last) (side : Side) (path : Path) where
+    module _ (last : Side → HeldRecord) (session : Sessions first turns last) (side : Side) (path : Path) where
       k : After turns last
       k = knows turns last session (all_carried paths trades new turn first turns begun) (all_fresh paths trades new turn first turns begun)
 
@@ -352,7 +333,7 @@ module _ (paths : Paths) (trades : Trades) (new : Fresh) (turn : Turns) where
 
   pub selected_traced : WaitingAreAnswered {H = _} {P = Preference} mac_of answers → SelectedAreTraced
   unfolding knows k
-  selected_traced law first last tie_breaker side turns u home path begins carried fresh session modern does selects =
+  selected_traced law first last tie_breaker side turns u held path begins carried fresh session modern does selects =
       let begun : IsBegun first turns = record { tie_breaker = tie_breaker; begins = begins; carried = search carried; fresh = search fresh } in
       let known_all = knows first turns begun turns last session (all_carried paths trades new turn first turns begun) (all_fresh paths trades new turn first turns begun) in
       let h = known_all.half side in
@@ -362,6 +343,6 @@ module _ (paths : Paths) (trades : Trades) (new : Fresh) (turn : Turns) where
       let always : (x : Turn) → Has turns x → x.side ≡ side → keeps_modern x.used.export ≡ true = search modern in
       let each = modern_calls open_calls roles_only side turns always in
       let found_it = law (newborn creds (begun.tie_breaker side)) (last side).agent h.log (is_new creds (begun.tie_breaker side)) (full_log (calls open_calls side turns) h.log h.logs each) h.run path
-      (waited u (last side) home path does selects) in
+      (waited u (last side) held path does selects) in
       placed first turns (Found open_calls roles_only side path known_all.ns) (TakesAnswer side path) (answer_taken first turns begun last session side path) turns last session (all_carried paths trades new turn first turns begun) (all_fresh paths trades new turn first turns begun)
       (λ y has. has) (found open_calls roles_only side path known_all.ns turns h.log h.logs (λ id is. h.issued path id is) (selected_in h.log path found_it))

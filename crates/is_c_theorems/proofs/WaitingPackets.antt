@@ -1,33 +1,20 @@
 -- A packet that waits in the agent or in what the slot holds: it stays until C gets it, or until a restart.
-use Rattle.std.proofs.Common.{◌≡◌, ◌⊎◌, ◌&&◌, ℕ, ◌==◌, Bool, true, false, nat_lt, List, [], ◌∷◌, ◌++◌, length, take, drop, Option, Some, None, option_map, Ok, Err, ℤ, inl, inr, refl, ap, sym, ◌∙◌, subst, if◌then◌else◌}
-use Rattle.std.proofs.Math.Seq.{take-append_seam}
-use Rattle.std.specs.Option.{option_and_then}
-use Rattle.is_proto.specs.Lists.{Has}
 use Rattle.is_proto.specs.Packets as packets
-use Rattle.is_stun.specs.Timing.{is_modern}
-use Rattle.is_rules.specs.declared.emitted.Issued.{Issued}
-use Rattle.is_rules.specs.declared.emitted.Path.{Path}
-use Rattle.is_rules.specs.Issuing.{via_out, IsQueued, QueuesPackets}
-use Rattle.is_rules.specs.Roles.{keeps_role}
 use Rattle.is_rules.specs.Steps as agent
-use Rattle.is_rules.specs.Steps.{Call, Entry}
 use Rattle.is_theorems.specs.Polled as polled
-use Rattle.is_agent.specs.Added.{AddsLocalListed, AddsRemoteListed}
 use Rattle.is_c_calls.specs.declared.packets.Packet.{Packet}
-use Rattle.is_c_calls.specs.declared.preference.Preference.{Preference}
-use Rattle.is_c_calls.specs.Addresses.{socket_of}
-use Rattle.is_c_calls.specs.Adding.{has_room, AddsMade}
-use Rattle.is_c_calls.specs.Candidates.{Made}
-use Rattle.is_c_calls.specs.Codes.{BAD_ADDRESS, NOT_UTF8, found_code}
-use Rattle.is_c_calls.specs.Given.{CallsMade, Discards}
-use Rattle.is_c_calls.specs.Held.{Held, HomeRecord}
-use Rattle.is_c_calls.specs.Monitoring.{NotesFailure}
-use Rattle.is_c_calls.specs.Packets.{packet_path, IsReported, HandlesDatagram, TakesNext, GivesOf}
-use Rattle.is_c_calls.specs.Preferences.{answers}
-use Rattle.is_c_calls.specs.Sessions.{is_ok}
-use Rattle.is_c_calls.specs.Uses.{Use, Ask, SetControlling, SetLite, SetRenomination, SetTieBreaker, SetMaxPairs, SetMaxDiscovered, SetMaxCandidates, SetTimingAdvance, SetInitialRto, SetMaxRto, SetLiteTimeout, SetMaxRetransmits, SetMtu, SetPreference, SetSettings, SkipPairIds, SetSilence, SetLocalCredentials, SetRemoteCredentials, AddLocal, AddLocalLine, AddRemote, InvalidateLocal, Invalidate, Restart, RecreatePairs, HandlePacket, HandleTimeout, PollTransmit, PollTimeout, PollEvent, SendFailed, FixTimes, mac_of, Does}
-use Rattle.is_c_theorems.specs.CallLogs.{Makes}
-use Rattle.is_c_theorems.specs.Seen.{Gets, IsToPoll, restarts}
+use Rattle.is_c_theorems.proofs.Common.{[], ◌&&◌, ◌++◌, ◌==◌, ◌∙◌, ◌∷◌, ◌≡◌, ◌⊎◌, AddLocal, AddLocalLine, AddRemote, AddsLocalListed}
+use Rattle.is_c_theorems.proofs.Common.{AddsMade, AddsRemoteListed, answers, ap, Ask, BAD_ADDRESS, Bool, Call, CallsMade, Discards, Does}
+use Rattle.is_c_theorems.proofs.Common.{drop, Entry, Err, false, FixTimes, found_code, Gets, GivesOf, HandlePacket, HandlesDatagram}
+use Rattle.is_c_theorems.proofs.Common.{HandleTimeout, Has, has_room, Held, HeldRecord, if◌then◌else◌, inl, inr, Invalidate}
+use Rattle.is_c_theorems.proofs.Common.{InvalidateLocal, is_modern, is_ok, IsQueued, IsReported, Issued, IsToPoll, keeps_role, length, List}
+use Rattle.is_c_theorems.proofs.Common.{mac_of, Made, Makes, nat_lt, None, NOT_UTF8, NotesFailure, Ok, Option, option_and_then, option_map}
+use Rattle.is_c_theorems.proofs.Common.{packet_path, Path, PollEvent, PollTimeout, PollTransmit, Preference, QueuesPackets, RecreatePairs}
+use Rattle.is_c_theorems.proofs.Common.{refl, Restart, restarts, SendFailed, SetControlling, SetInitialRto, SetLite, SetLiteTimeout}
+use Rattle.is_c_theorems.proofs.Common.{SetLocalCredentials, SetMaxCandidates, SetMaxDiscovered, SetMaxPairs, SetMaxRetransmits, SetMaxRto}
+use Rattle.is_c_theorems.proofs.Common.{SetMtu, SetPreference, SetRemoteCredentials, SetRenomination, SetSettings, SetSilence}
+use Rattle.is_c_theorems.proofs.Common.{SetTieBreaker, SetTimingAdvance, SkipPairIds, socket_of, Some, subst, sym, take, take-append_seam}
+use Rattle.is_c_theorems.proofs.Common.{TakesNext, true, Use, via_out, ℕ, ℤ}
 use Rattle.is_c_theorems.proofs.CallsAsSteps.{never, either}
 
 appended : {X : Type 0} (xs ys : List X) (x : X) → Has xs x → Has (xs ++ ys) x
@@ -43,7 +30,7 @@ reported_path r p (long, proto, from, to) =
     ∙ (ap (λ o. option_and_then (λ source. option_map (λ to. record { proto = p.proto; source = source; destination = to }) (socket_of r.destination)) o) from
     ∙ ap (λ o. option_map (λ to. record { proto = p.proto; source = p.source; destination = to }) o) to)
 
-handed : (before after : List ℕ) (known r : Packet) (code : ℤ) (p : packets.Packet) (h : HomeRecord) → GivesOf (Some p) before after known r code h.waiting
+handed : (before after : List ℕ) (known r : Packet) (code : ℤ) (p : packets.Packet) (h : HeldRecord) → GivesOf (Some p) before after known r code h.waiting
     → IsToPoll h p ⊎ Gets (record { export = PollTransmit before after known r; code = code }) (via_out p) p.contents
 handed before after known r code p h (reported, gives) = either (nat_lt (length before) (length p.contents))
     (λ k. inl (inl k.2))
@@ -58,17 +45,17 @@ handed before after known r code p h (reported, gives) = either (nat_lt (length 
       k.0,
     )) gives
 
-next_polled : (before after : List ℕ) (known r : Packet) (code : ℤ) (mid home : HomeRecord) (p : packets.Packet) (waiting first : Option packets.Packet)
-    → TakesNext waiting mid.agent first home.agent → GivesOf first before after known r code home.waiting → (waiting ≡ Some p) ⊎ Has mid.agent.packets p
-    → IsToPoll home p ⊎ Gets (record { export = PollTransmit before after known r; code = code }) (via_out p) p.contents
-next_polled before after known r code mid home p (Some w) first (is, same) gives (inl here) =
-    handed before after known r code p home (subst (λ (o : Option packets.Packet). GivesOf o before after known r code home.waiting) (is ∙ here) gives)
-next_polled before after known r code mid home p (Some w) first (is, same) gives (inr has) = inl (inr (subst (λ (a : Held). Has a.packets p) (sym same) has))
-next_polled before after known r code mid home p None None takes gives (inl here) = let wrong_ : None ≡ Some p = here in absurd (cc)
-next_polled before after known r code mid home p None (Some q) takes gives (inl here) = let wrong_ : None ≡ Some p = here in absurd (cc)
-next_polled before after known r code mid home p None None ((none, left), rest) gives (inr has) = absurd (subst (λ (ps : List packets.Packet). Has ps p) none has)
-next_polled before after known r code mid home p None (Some q) (is, rest) gives (inr has) = elim (subst (λ (ps : List packets.Packet). Has ps p) is has) [
-  | inl here ↦ handed before after known r code p home (subst (λ (x : packets.Packet). GivesOf (Some x) before after known r code home.waiting) here gives)
+next_polled : (before after : List ℕ) (known r : Packet) (code : ℤ) (mid held : HeldRecord) (p : packets.Packet) (waiting first : Option packets.Packet)
+    → TakesNext waiting mid.agent first held.agent → GivesOf first before after known r code held.waiting → (waiting ≡ Some p) ⊎ Has mid.agent.packets p
+    → IsToPoll held p ⊎ Gets (record { export = PollTransmit before after known r; code = code }) (via_out p) p.contents
+next_polled before after known r code mid held p (Some w) first (is, same) gives (inl here) =
+    handed before after known r code p held (subst (λ (o : Option packets.Packet). GivesOf o before after known r code held.waiting) (is ∙ here) gives)
+next_polled before after known r code mid held p (Some w) first (is, same) gives (inr has) = inl (inr (subst (λ (a : Held). Has a.packets p) (sym same) has))
+next_polled before after known r code mid held p None None takes gives (inl here) = let wrong_ : None ≡ Some p = here in absurd (cc)
+next_polled before after known r code mid held p None (Some q) takes gives (inl here) = let wrong_ : None ≡ Some p = here in absurd (cc)
+next_polled before after known r code mid held p None None ((none, left), rest) gives (inr has) = absurd (subst (λ (ps : List packets.Packet). Has ps p) none has)
+next_polled before after known r code mid held p None (Some q) (is, rest) gives (inr has) = elim (subst (λ (ps : List packets.Packet). Has ps p) is has) [
+  | inl here ↦ handed before after known r code p held (subst (λ (x : packets.Packet). GivesOf (Some x) before after known r code held.waiting) here gives)
   | inr there ↦ inl (inr there)
 ]
 
@@ -78,79 +65,79 @@ abbrev pub is_polling : Use → Bool
 is_polling (PollTransmit before after known r) = true
 is_polling _ = false
 
-by_home : (old new needed : HomeRecord) → new ≡ needed → needed.waiting ≡ old.waiting → new.waiting ≡ old.waiting
-by_home old new needed is same = ap (λ (h : HomeRecord). h.waiting) is ∙ same
+by_held : (old new needed : HeldRecord) → new ≡ needed → needed.waiting ≡ old.waiting → new.waiting ≡ old.waiting
+by_held old new needed is same = ap (λ (h : HeldRecord). h.waiting) is ∙ same
 
-received : (now : ℕ) (bytes : List ℕ) (path : Option Path) (code : ℤ) (old new : HomeRecord) → HandlesDatagram mac_of now path bytes old code new → new.waiting ≡ old.waiting
-received now bytes None code old new h = by_home old new old h.1 refl
-received now bytes (Some path) code old new (inl (e, fails, h)) = by_home old new old h.1 refl
+received : (now : ℕ) (bytes : List ℕ) (path : Option Path) (code : ℤ) (old new : HeldRecord) → HandlesDatagram mac_of now path bytes old code new → new.waiting ≡ old.waiting
+received now bytes None code old new h = by_held old new old h.1 refl
+received now bytes (Some path) code old new (inl (e, fails, h)) = by_held old new old h.1 refl
 received now bytes (Some path) code old new (inr (m, reads, (r, (emitted, handles, coded, kept)))) = kept.0
 
-pub waits : (export : Use) (code : ℤ) (old new : HomeRecord) → Does export old code new → is_polling export ≡ false → (if restarts export then is_ok code else false) ≡ false
+pub waits : (export : Use) (code : ℤ) (old new : HeldRecord) → Does export old code new → is_polling export ≡ false → (if restarts export then is_ok code else false) ≡ false
     → new.waiting ≡ old.waiting
-waits Ask code old new h np nr = by_home old new old h refl
-waits (SetControlling role) code old new h np nr = either (keeps_role old.agent && role) (λ k. by_home old new old k.1 refl) (λ k. by_home old new _ k.1 refl) h
+waits Ask code old new h np nr = by_held old new old h refl
+waits (SetControlling role) code old new h np nr = either (keeps_role old.agent && role) (λ k. by_held old new old k.1 refl) (λ k. by_held old new _ k.1 refl) h
 waits (SetMtu mtu warn) code old new (x, does, is, kept) np nr = kept.0
 waits RecreatePairs code old new (x, does, is, kept) np nr = kept.0
-waits (SetMaxRetransmits limit) code old new h np nr = either (limit == 0) (λ k. by_home old new old k.1 refl) (λ k. by_home old new _ k.1 refl) h
+waits (SetMaxRetransmits limit) code old new h np nr = either (limit == 0) (λ k. by_held old new old k.1 refl) (λ k. by_held old new _ k.1 refl) h
 waits (SetLocalCredentials u p) code old new (Ok creds, made, (x, does, is, kept)) np nr = kept.0
-waits (SetLocalCredentials u p) code old new (Err why, made, h) np nr = by_home old new old h.1 refl
+waits (SetLocalCredentials u p) code old new (Err why, made, h) np nr = by_held old new old h.1 refl
 waits (SetRemoteCredentials u p) code old new (Ok creds, made, (x, does, is, kept)) np nr = kept.0
-waits (SetRemoteCredentials u p) code old new (Err why, made, h) np nr = by_home old new old h.1 refl
-waits (AddLocal c before after) code old new h np nr = either (has_room old.max_candidates old.agent.local) (λ k. by k.0 k.2) (λ k. by_home old new old k.0.1 refl) h where
+waits (SetRemoteCredentials u p) code old new (Err why, made, h) np nr = by_held old new old h.1 refl
+waits (AddLocal c before after) code old new h np nr = either (has_room old.max_candidates old.agent.local) (λ k. by k.0 k.2) (λ k. by_held old new old k.0.1 refl) h where
   by : (made : Made) → AddsMade (AddsLocalListed answers) BAD_ADDRESS made before after old code new → new.waiting ≡ old.waiting
-  by None k = by_home old new old k.0.1 refl
-  by (Some (Err e)) k = by_home old new old k.0.1 refl
+  by None k = by_held old new old k.0.1 refl
+  by (Some (Err e)) k = by_held old new old k.0.1 refl
   by (Some (Ok made)) (x, does, puts, kept) = kept.0
-waits (AddLocalLine line before after) code old new h np nr = either (has_room old.max_candidates old.agent.local) (λ k. by k.0 k.2) (λ k. by_home old new old k.0.1 refl) h where
+waits (AddLocalLine line before after) code old new h np nr = either (has_room old.max_candidates old.agent.local) (λ k. by k.0 k.2) (λ k. by_held old new old k.0.1 refl) h where
   by : (made : Made) → AddsMade (AddsLocalListed answers) NOT_UTF8 made before after old code new → new.waiting ≡ old.waiting
-  by None k = by_home old new old k.0.1 refl
-  by (Some (Err e)) k = by_home old new old k.0.1 refl
+  by None k = by_held old new old k.0.1 refl
+  by (Some (Err e)) k = by_held old new old k.0.1 refl
   by (Some (Ok made)) (x, does, puts, kept) = kept.0
-waits (AddRemote line before after) code old new h np nr = either (has_room old.max_candidates old.agent.remote) (λ k. by k.0 k.2) (λ k. by_home old new old k.0.1 refl) h where
+waits (AddRemote line before after) code old new h np nr = either (has_room old.max_candidates old.agent.remote) (λ k. by k.0 k.2) (λ k. by_held old new old k.0.1 refl) h where
   by : (made : Made) → AddsMade AddsRemoteListed NOT_UTF8 made before after old code new → new.waiting ≡ old.waiting
-  by None k = by_home old new old k.0.1 refl
-  by (Some (Err e)) k = by_home old new old k.0.1 refl
+  by None k = by_held old new old k.0.1 refl
+  by (Some (Err e)) k = by_held old new old k.0.1 refl
   by (Some (Ok made)) (x, does, puts, kept) = kept.0
 waits (InvalidateLocal c) code old new (made, makes, h) np nr = by made h where
   by : (made : Made) → CallsMade Discards found_code BAD_ADDRESS made old code new → new.waiting ≡ old.waiting
-  by None k = by_home old new old k.1 refl
-  by (Some (Err e)) k = by_home old new old k.1 refl
+  by None k = by_held old new old k.1 refl
+  by (Some (Err e)) k = by_held old new old k.1 refl
   by (Some (Ok made)) (x, does, is, kept) = kept.0
 waits (Invalidate line) code old new (made, makes, h) np nr = by made h where
   by : (made : Made) → CallsMade Discards found_code NOT_UTF8 made old code new → new.waiting ≡ old.waiting
-  by None k = by_home old new old k.1 refl
-  by (Some (Err e)) k = by_home old new old k.1 refl
+  by None k = by_held old new old k.1 refl
+  by (Some (Err e)) k = by_held old new old k.1 refl
   by (Some (Ok made)) (x, does, is, kept) = kept.0
 waits (Restart u p keep) code old new (Ok creds, made, (Ok _, restarted, is)) np nr = never (sym nr ∙ ap is_ok is)
 waits (Restart u p keep) code old new (Ok creds, made, (Err e, restarted, is)) np nr = restarted.1
-waits (Restart u p keep) code old new (Err why, made, h) np nr = by_home old new old h.1 refl
+waits (Restart u p keep) code old new (Err why, made, h) np nr = by_held old new old h.1 refl
 waits (HandlePacket now protocol source destination bytes) code old new h np nr = received now bytes (packet_path protocol source destination) code old new h
-waits (HandleTimeout now random) code old new h np nr = either (nat_lt (length random) 12) (λ k. by_home old new old k.1 refl) (λ (x, (emitted, k)). k.3) h
+waits (HandleTimeout now random) code old new h np nr = either (nat_lt (length random) 12) (λ k. by_held old new old k.1 refl) (λ (x, (emitted, k)). k.3) h
 waits (PollTransmit before after known reported) code old new h np nr = never (sym np)
 waits (PollTimeout before after) code old new h np nr =
-    either (is_modern old.agent.timing) (λ k. by_home old new old k.1 refl) (λ (deadline, polls, kept, writes). kept.0) h
-waits (FixTimes soon) code old new (deadline, polls, coded, is) np nr = by_home old new _ is refl
+    either (is_modern old.agent.timing) (λ k. by_held old new old k.1 refl) (λ (deadline, polls, kept, writes). kept.0) h
+waits (FixTimes soon) code old new (deadline, polls, coded, is) np nr = by_held old new _ is refl
 waits (PollEvent before after) code old new (given, polls, returns, kept) np nr = kept.0
-waits (SetLite lite) code old new (coded, same) np nr = by_home old new _ same refl
-waits (SetRenomination enabled) code old new (coded, same) np nr = by_home old new _ same refl
-waits (SetTieBreaker n) code old new (coded, same) np nr = by_home old new _ same refl
-waits (SetMaxPairs n) code old new (coded, same) np nr = by_home old new _ same refl
-waits (SetMaxDiscovered n) code old new (coded, same) np nr = by_home old new _ same refl
-waits (SetMaxCandidates n) code old new (coded, same) np nr = by_home old new _ same refl
-waits (SetTimingAdvance n) code old new (coded, same) np nr = by_home old new _ same refl
-waits (SetInitialRto n) code old new (coded, same) np nr = by_home old new _ same refl
-waits (SetMaxRto n) code old new (coded, same) np nr = by_home old new _ same refl
-waits (SetLiteTimeout n) code old new (coded, same) np nr = by_home old new _ same refl
-waits (SetPreference p) code old new (coded, same) np nr = by_home old new _ same refl
-waits (SetSettings s) code old new h np nr = either (s.max_retransmits == 0) (λ k. by_home old new old k.1 refl) (λ k. by_home old new _ k.1 refl) h
-waits (SkipPairIds n) code old new (coded, same) np nr = by_home old new _ same refl
-waits (SetSilence n) code old new (coded, same) np nr = by_home old new _ same refl
+waits (SetLite lite) code old new (coded, same) np nr = by_held old new _ same refl
+waits (SetRenomination enabled) code old new (coded, same) np nr = by_held old new _ same refl
+waits (SetTieBreaker n) code old new (coded, same) np nr = by_held old new _ same refl
+waits (SetMaxPairs n) code old new (coded, same) np nr = by_held old new _ same refl
+waits (SetMaxDiscovered n) code old new (coded, same) np nr = by_held old new _ same refl
+waits (SetMaxCandidates n) code old new (coded, same) np nr = by_held old new _ same refl
+waits (SetTimingAdvance n) code old new (coded, same) np nr = by_held old new _ same refl
+waits (SetInitialRto n) code old new (coded, same) np nr = by_held old new _ same refl
+waits (SetMaxRto n) code old new (coded, same) np nr = by_held old new _ same refl
+waits (SetLiteTimeout n) code old new (coded, same) np nr = by_held old new _ same refl
+waits (SetPreference p) code old new (coded, same) np nr = by_held old new _ same refl
+waits (SetSettings s) code old new h np nr = either (s.max_retransmits == 0) (λ k. by_held old new old k.1 refl) (λ k. by_held old new _ k.1 refl) h
+waits (SkipPairIds n) code old new (coded, same) np nr = by_held old new _ same refl
+waits (SetSilence n) code old new (coded, same) np nr = by_held old new _ same refl
 waits (SendFailed p s d r) code old new h np nr = by (packet_path p s d) h where
   by : (path : Option Path) → NotesFailure path r old code new → new.waiting ≡ old.waiting
-  by None k = by_home old new old k.1 refl
-  by (Some path) (inl k) = by_home old new old k.1 refl
-  by (Some path) (inr (is, notes, same)) = by_home old new _ same refl
+  by None k = by_held old new old k.1 refl
+  by (Some path) (inl k) = by_held old new old k.1 refl
+  by (Some path) (inr (is, notes, same)) = by_held old new _ same refl
 
 -- ---- the packets of the agent
 
@@ -204,10 +191,10 @@ kept_packets _ e a b h none other p has = by e.emitted.issued h where
   by None is = subst (λ (ps : List packets.Packet). Has ps p) (sym is) has
   by (Some i) (q, via, is) = subst (λ (ps : List packets.Packet). Has ps p) (sym is) (appended a (q ∷ []) p has)
 
-pub carry_queue : (export : Use) (code : ℤ) (mid home : HomeRecord) → Does export mid code home → (if restarts export then is_ok code else false) ≡ false
-    → (is_polling export ≡ false → (p : packets.Packet) → Has mid.agent.packets p → Has home.agent.packets p)
-    → (p : packets.Packet) → IsToPoll mid p → IsToPoll home p ⊎ Gets (record { export = export; code = code }) (via_out p) p.contents
-carry_queue (PollTransmit before after known r) code mid home k none on p has =
-    next_polled before after known r code mid home p mid.waiting k.0 k.1 k.2 has
-carry_queue export code mid home does none on p (inl waiting) = inl (inl (waits export code mid home does refl none ∙ waiting))
-carry_queue export code mid home does none on p (inr has) = inl (inr (on refl p has))
+pub carry_queue : (export : Use) (code : ℤ) (mid held : HeldRecord) → Does export mid code held → (if restarts export then is_ok code else false) ≡ false
+    → (is_polling export ≡ false → (p : packets.Packet) → Has mid.agent.packets p → Has held.agent.packets p)
+    → (p : packets.Packet) → IsToPoll mid p → IsToPoll held p ⊎ Gets (record { export = export; code = code }) (via_out p) p.contents
+carry_queue (PollTransmit before after known r) code mid held k none on p has =
+    next_polled before after known r code mid held p mid.waiting k.0 k.1 k.2 has
+carry_queue export code mid held does none on p (inl waiting) = inl (inl (waits export code mid held does refl none ∙ waiting))
+carry_queue export code mid held does none on p (inr has) = inl (inr (on refl p has))

@@ -22,9 +22,9 @@ use Rattle.is_c_calls.specs.Candidates.{MakesCandidate, ReadsBytes}
 use Rattle.is_c_calls.specs.Clock.{agent_time}
 use Rattle.is_c_calls.specs.Codes.{OK, NOTHING, UNPARSED, code_of, found_code}
 use Rattle.is_c_calls.specs.Events.{ReturnsOf}
-use Rattle.is_c_calls.specs.Held.{Held, HomeRecord}
+use Rattle.is_c_calls.specs.Held.{Held, HeldRecord}
 use Rattle.is_c_calls.specs.Limits.{limit_of}
-use Rattle.is_c_calls.specs.Making.{fresh_home}
+use Rattle.is_c_calls.specs.Making.{fresh_held}
 use Rattle.is_c_calls.specs.Monitoring.{ReturnsSilence}
 use Rattle.is_c_calls.specs.Packets.{packet_path}
 use Rattle.is_c_calls.specs.Preferences.{answers}
@@ -166,14 +166,14 @@ abbrev pub newborn : IceCreds → ℕ → Held
 newborn creds tie_breaker = fresh (record {}) creds tie_breaker
 
 -- C made the agent, then made these calls, newest first, and holds it in this state. The agent's log of them is this one.
-pub record IsUsed (uses : List Used) (log : List (Logged Preference)) (home : HomeRecord) : Type 0 where
+pub record IsUsed (uses : List Used) (log : List (Logged Preference)) (held : HeldRecord) : Type 0 where
   pub creds : IceCreds
   pub tie_breaker : ℕ
   pub logs : IsLogOf uses log
-  pub run : SharedRun mac_of answers (newborn creds tie_breaker) log home.agent
+  pub run : SharedRun mac_of answers (newborn creds tie_breaker) log held.agent
 
 -- The theorem: C's calls on an agent are an execution of it, whatever C passes.
 abbrev pub SessionsAreRuns : Type 0
 SessionsAreRuns =
-    (creds : IceCreds) (tie_breaker : ℕ) (uses : List Used) (home : HomeRecord) → Session (fresh_home creds tie_breaker) uses home
-    → (log : List (Logged Preference)) × (used : IsUsed uses log home) × (used.creds ≡ creds) × (used.tie_breaker ≡ tie_breaker)
+    (creds : IceCreds) (tie_breaker : ℕ) (uses : List Used) (held : HeldRecord) → Session (fresh_held creds tie_breaker) uses held
+    → (log : List (Logged Preference)) × (used : IsUsed uses log held) × (used.creds ≡ creds) × (used.tie_breaker ≡ tie_breaker)

@@ -5,9 +5,9 @@ use Rattle.is_rules.specs.declared.credentials.IceCreds.{IceCreds}
 use Rattle.is_theorems.specs.Settings.{SettingsRecord, all_settings_of}
 use Rattle.is_c_calls.specs.declared.preference.Preference.{Preference}
 use Rattle.is_c_calls.specs.AgentSettings.{settings_of}
-use Rattle.is_c_calls.specs.Held.{HomeRecord}
+use Rattle.is_c_calls.specs.Held.{HeldRecord}
 use Rattle.is_c_calls.specs.Limits.{limit_of}
-use Rattle.is_c_calls.specs.Making.{fresh_home}
+use Rattle.is_c_calls.specs.Making.{fresh_held}
 use Rattle.is_c_calls.specs.Sessions.{Used, Session, is_ok}
 use Rattle.is_c_calls.specs.Uses.{Use, SetLite, SetRenomination, SetTieBreaker, SetMaxPairs, SetMaxDiscovered, SetTimingAdvance, SetInitialRto, SetMaxRto, SetLiteTimeout, SetMaxRetransmits, SetMtu, SetPreference, SetSettings}
 
@@ -38,8 +38,8 @@ settings_by first (u ∷ before) = if is_ok u.code then sets u.export (settings_
 -- The theorem: the agent's settings are those that C set last, whatever it received. Those of a new agent are `modern_settings`.
 abbrev pub SettingsAreThoseSet : Type 0
 SettingsAreThoseSet =
-    (creds : IceCreds) (tie_breaker : ℕ) (uses : List Used) (home : HomeRecord) → Session (fresh_home creds tie_breaker) uses home
-    → all_settings_of home.agent ≡ settings_by (all_settings_of (fresh_home creds tie_breaker).agent) uses
+    (creds : IceCreds) (tie_breaker : ℕ) (uses : List Used) (held : HeldRecord) → Session (fresh_held creds tie_breaker) uses held
+    → all_settings_of held.agent ≡ settings_by (all_settings_of (fresh_held creds tie_breaker).agent) uses
 
 -- ---- what C leaves
 

@@ -22,8 +22,8 @@ use Rattle.is_theorems.specs.Delivery.{IsFragment, IsReachedBy}
 use Rattle.is_c_calls.specs.declared.address.Address.{Address}
 use Rattle.is_c_calls.specs.Clock.{agent_time}
 use Rattle.is_c_calls.specs.Codes.{OK}
-use Rattle.is_c_calls.specs.Held.{HomeRecord}
-use Rattle.is_c_calls.specs.Making.{fresh_home}
+use Rattle.is_c_calls.specs.Held.{HeldRecord}
+use Rattle.is_c_calls.specs.Making.{fresh_held}
 use Rattle.is_c_calls.specs.Packets.{packet_path}
 use Rattle.is_c_calls.specs.Sessions.{Used, Session}
 use Rattle.is_c_calls.specs.Uses.{HandlePacket, HandleTimeout, Does}
@@ -32,22 +32,22 @@ use Rattle.is_c_theorems.specs.Chosen.{EachKeeps, keeps_modern}
 -- ---- one agent
 
 -- C made the agent and then made any calls, of which none makes it lite or leaves the profile `Modern`. Now the slot holds this.
-pub record IsInSlot (home : HomeRecord) : Type 0 where
+pub record IsInSlot (held : HeldRecord) : Type 0 where
   pub creds : IceCreds
   pub tie_breaker : ℕ
   pub uses : List Used
-  pub session : Session (fresh_home creds tie_breaker) uses home
+  pub session : Session (fresh_held creds tie_breaker) uses held
   pub modern : EachKeeps keeps_modern uses
 
 -- Any such calls lead from the one to the other.
-pub record Leads (from to : HomeRecord) : Type 0 where
+pub record Leads (from to : HeldRecord) : Type 0 where
   pub uses : List Used
   pub session : Session from uses to
   pub modern : EachKeeps keeps_modern uses
 
 -- Connected or Completed, as `is_ice_status` says
-abbrev pub IsConnected : HomeRecord → Type 0
-IsConnected home = is_connected home.agent.state ≡ true
+abbrev pub IsConnected : HeldRecord → Type 0
+IsConnected held = is_connected held.agent.state ≡ true
 
 -- an error, as of memory; neither OK nor NOTHING is one
 abbrev pub is_error : ℤ → Bool
@@ -55,7 +55,7 @@ is_error (pos n) = false
 is_error (negsuc n) = true
 
 -- C passes these bytes to `is_ice_handle_packet`, as received on the path.
-pub record PassesPacket (path : Path) (bytes : List ℕ) (old : HomeRecord) (code : ℤ) (new : HomeRecord) : Type 0 where
+pub record PassesPacket (path : Path) (bytes : List ℕ) (old : HeldRecord) (code : ℤ) (new : HeldRecord) : Type 0 where
   pub now : ℕ
   pub protocol : ℕ
   pub source : Address
@@ -66,13 +66,13 @@ pub record PassesPacket (path : Path) (bytes : List ℕ) (old : HomeRecord) (cod
 -- Each success response for which OK is returned connects a controlling agent at once.
 abbrev pub ResponsesConnect : Type 0
 ResponsesConnect =
-    (old new : HomeRecord) (via : Path) (bytes : List ℕ) (m : Message)
+    (old new : HeldRecord) (via : Path) (bytes : List ℕ) (m : Message)
     → IsInSlot old → PassesPacket via bytes old OK new → Reads bytes m → m.class ≡ class.Success → new.agent.controlling ≡ true → IsConnected new
 
 -- ---- a check, and its response
 
 -- C set the credentials of each agent at the other one. Their username fragments are not empty, and have no colon.
-pub record HaveExchanged (one other : HomeRecord) : Type 0 where
+pub record HaveExchanged (one other : HeldRecord) : Type 0 where
   pub at_one : one.agent.remote_creds ≡ Some other.agent.local_creds
   pub at_other : other.agent.remote_creds ≡ Some one.agent.local_creds
   pub fragment : IsFragment one.agent.local_creds.ufrag
@@ -80,7 +80,7 @@ pub record HaveExchanged (one other : HomeRecord) : Type 0 where
   pub fit : are_too_long one.agent.local_creds (Some other.agent.local_creds) ≡ false
 
 -- C had polled all packets. `is_ice_handle_timeout` returns OK, and then this packet is to be polled. It has a Binding request: a check.
-pub record SendsCheck (old : HomeRecord) (check : Packet) (m : Message) (new : HomeRecord) : Type 0 where
+pub record SendsCheck (old : HeldRecord) (check : Packet) (m : Message) (new : HeldRecord) : Type 0 where
   pub now : ℕ
   pub random : List ℕ
   pub does : Does (HandleTimeout now random) old OK new
@@ -92,12 +92,12 @@ pub record SendsCheck (old : HomeRecord) (check : Packet) (m : Message) (new : H
 -- One agent sends a check, and C passes its bytes to the other one, at any time, as received on `over`. A NAT may have changed the path. It
 -- leads to a local candidate of the other agent. That has the other role, or takes it at this check. No error is returned.
 pub record DeliveredCheck : Type 0 where
-  pub sender : HomeRecord
-  pub sent : HomeRecord
+  pub sender : HeldRecord
+  pub sent : HeldRecord
   pub check : Packet
   pub message : Message
-  pub receiver : HomeRecord
-  pub served : HomeRecord
+  pub receiver : HeldRecord
+  pub served : HeldRecord
   pub over : Path
   pub code : ℤ
   pub held : IsInSlot sender
@@ -114,8 +114,8 @@ pub record DeliveredCheck : Type 0 where
 pub record ReturnedReply (d : DeliveredCheck) : Type 0 where
   pub reply : Packet
   pub added : d.served.agent.packets ≡ d.receiver.agent.packets ++ reply ∷ []
-  pub mid : HomeRecord
-  pub taken : HomeRecord
+  pub mid : HeldRecord
+  pub taken : HeldRecord
   pub via : Path
   pub code : ℤ
   pub later : Leads d.sent mid
@@ -136,13 +136,13 @@ DeliveredAreAccepted = (d : DeliveredCheck) → CheckIsServed d × ((r : Returne
 -- ---- the controlled agent
 
 -- `is_ice_handle_timeout` returns OK, and no early request waits that it would serve. Or OK is returned for a success response.
-abbrev pub Evaluates : HomeRecord → HomeRecord → Type 0
+abbrev pub Evaluates : HeldRecord → HeldRecord → Type 0
 Evaluates old new =
     ((now : ℕ) × (random : List ℕ) × Does (HandleTimeout now random) old OK new × (request_at (agent_time now) old.agent ≡ None))
     ⊎ ((via : Path) × (bytes : List ℕ) × (m : Message) × PassesPacket via bytes old OK new × Reads bytes m × (m.class ≡ class.Success))
 
 -- Each pair with the path's addresses is still there: `is_ice_pairs` has its number.
-abbrev pub KeepsPairs : Path → HomeRecord → HomeRecord → Type 0
+abbrev pub KeepsPairs : Path → HeldRecord → HeldRecord → Type 0
 KeepsPairs path from to =
     (p : PairRecord) → Has from.agent.pairs p → UsesAddressesOf from.agent path p → (q : PairRecord) × Has to.agent.pairs q × (q.number ≡ p.number)
 
@@ -168,8 +168,8 @@ pub record DeliveredNomination : Type 0 where
   pub path : Path
   pub asks : NominatingCheck path
   pub own : AnsweredCheck path
-  pub near : HomeRecord
-  pub last : HomeRecord
+  pub near : HeldRecord
+  pub last : HeldRecord
   pub held : IsInSlot near
   pub evaluates : Evaluates near last
   pub after_request : Leads asks.check.served last
@@ -178,7 +178,7 @@ pub record DeliveredNomination : Type 0 where
   pub kept_since : KeepsPairs path own.back.taken last
   pub only : IsOnlyPair last.agent path
 
--- Then the controlled agent is connected.
+-- Once a nomination was delivered and the controlled agent evaluates (`DeliveredNomination`), that agent is connected.
 abbrev pub NominatedConnect : Type 0
 NominatedConnect = (k : DeliveredNomination) → IsConnected k.last
 
@@ -191,7 +191,7 @@ pub record NominationAfterResponse : Type 0 where
   pub there : KeepsPairs path own.back.taken asks.check.receiver
   pub only_one : IsOnlyPair asks.check.served.agent path
 
--- Then it is connected at once, by the call that passes the nomination.
+-- If the nomination is delivered after the response, the controlled agent is connected at once, by the call that passes the nomination.
 abbrev pub NominationsConnect : Type 0
 NominationsConnect = (k : NominationAfterResponse) → IsConnected k.asks.check.served
 

@@ -2,6 +2,7 @@
 pub mod CallLogs
 pub mod Chosen
 pub mod Seen
+pub mod FrugalCalls
 pub mod Headline
 pub mod Executions
 pub mod TwoAgents

@@ -14,7 +14,7 @@ use Rattle.is_c_calls.specs.declared.address.Address.{Address}
 use Rattle.is_c_calls.specs.declared.events.Event.{Event}
 use Rattle.is_c_calls.specs.declared.packets.Packet.{Packet}
 use Rattle.is_c_calls.specs.Codes.{OK}
-use Rattle.is_c_calls.specs.Held.{HomeRecord}
+use Rattle.is_c_calls.specs.Held.{HeldRecord}
 use Rattle.is_c_calls.specs.Packets.{packet_path}
 use Rattle.is_c_calls.specs.Sessions.{Used, is_ok}
 use Rattle.is_c_calls.specs.Uses.{Use, SetRemoteCredentials, Restart, RecreatePairs, HandlePacket, PollTransmit, PollEvent}
@@ -84,11 +84,11 @@ Since ends Is [] = ⊥
 Since ends Is (u ∷ before) = Is u before ⊎ ((ends u ≡ false) × Since ends Is before)
 
 -- The packet is still to be polled.
-abbrev pub IsToPoll : HomeRecord → packets.Packet → Type 0
-IsToPoll home p = (home.waiting ≡ Some p) ⊎ Has home.agent.packets p
+abbrev pub IsToPoll : HeldRecord → packets.Packet → Type 0
+IsToPoll held p = (held.waiting ≡ Some p) ⊎ Has held.agent.packets p
 
 -- A check with this ID was given to C for the path since pairs were last cleared, or is still to be polled.
-abbrev pub IsChecked : List Used → HomeRecord → Path → List ℕ → Type 0
-IsChecked uses home path id =
+abbrev pub IsChecked : List Used → HeldRecord → Path → List ℕ → Type 0
+IsChecked uses held path id =
     Since is_clear (λ u before. (bytes : List ℕ) × Gets u path bytes × IsCheckIn bytes id) uses
-    ⊎ ((p : packets.Packet) × IsToPoll home p × (via_out p ≡ path) × IsCheckIn p.contents id)
+    ⊎ ((p : packets.Packet) × IsToPoll held p × (via_out p ≡ path) × IsCheckIn p.contents id)

@@ -10,8 +10,8 @@ use Rattle.is_rules.specs.declared.emitted.Path.{Path}
 use Rattle.is_rules.specs.Answers.{is_reverse}
 use Rattle.is_c_calls.specs.declared.address.Address.{Address}
 use Rattle.is_c_calls.specs.Codes.{OK}
-use Rattle.is_c_calls.specs.Held.{HomeRecord}
-use Rattle.is_c_calls.specs.Making.{fresh_home}
+use Rattle.is_c_calls.specs.Held.{HeldRecord}
+use Rattle.is_c_calls.specs.Making.{fresh_held}
 use Rattle.is_c_calls.specs.Sessions.{Used, Session, is_ok}
 use Rattle.is_c_calls.specs.Uses.{Use, SetControlling, SetLite, SetTieBreaker, HandlePacket, HandleTimeout, FixTimes, Does}
 use Rattle.is_c_theorems.specs.Chosen.{EachKeeps, keeps_modern}
@@ -31,10 +31,10 @@ pub record Turn : Type 0 where
   pub used : Used
 
 -- C's calls lead from what both slots hold first to what they hold last, newest call first. What follows a call (`FixTimes`) is one more.
-abbrev pub Sessions : (Side → HomeRecord) → List Turn → (Side → HomeRecord) → Type 0
+abbrev pub Sessions : (Side → HeldRecord) → List Turn → (Side → HeldRecord) → Type 0
 Sessions first [] last = (side : Side) → last side ≡ first side
 Sessions first (x ∷ before) last =
-    (mid : Side → HomeRecord) × Sessions first before mid
+    (mid : Side → HeldRecord) × Sessions first before mid
     × Does x.used.export (mid x.side) x.used.code (last x.side) × (last (other x.side) ≡ mid (other x.side))
 
 -- It holds of one of these calls, and of those before it.
@@ -78,8 +78,8 @@ sets_role (FixTimes soon) = true
 sets_role _ = false
 
 -- C made the agent with this tie-breaker, and then may have set its role.
-abbrev pub Begins : ℕ → HomeRecord → Type 0
-Begins tie_breaker home = (creds : IceCreds) × (uses : List Used) × Session (fresh_home creds tie_breaker) uses home × EachKeeps sets_role uses
+abbrev pub Begins : ℕ → HeldRecord → Type 0
+Begins tie_breaker held = (creds : IceCreds) × (uses : List Used) × Session (fresh_held creds tie_breaker) uses held × EachKeeps sets_role uses
 
 -- C leaves the role and the tie-breaker, and never makes the agent lite.
 abbrev pub keeps_role : Use → Bool
@@ -89,7 +89,7 @@ keeps_role (SetLite lite) = not lite
 keeps_role _ = true
 
 -- Two new agents, of which `greater` has the greater tie-breaker, C's calls on them, and the network between them.
-pub record IsFair (first : Side → HomeRecord) (greater : Side) (turns : List Turn) : Type 0 where
+pub record IsFair (first : Side → HeldRecord) (greater : Side) (turns : List Turn) : Type 0 where
   pub tie_breaker : Side → ℕ
   pub begins : (side : Side) → Begins (tie_breaker side) (first side)
   pub tie : tie_breaker (other greater) < tie_breaker greater
@@ -100,26 +100,26 @@ pub record IsFair (first : Side → HomeRecord) (greater : Side) (turns : List T
 -- ---- roles (RFC 8445, section 7.3.1.1)
 
 -- the role of a side, as `is_ice_status` says
-abbrev pub role_at : Side → (Side → HomeRecord) → Bool
-role_at side homes = (homes side).agent.controlling
+abbrev pub role_at : Side → (Side → HeldRecord) → Bool
+role_at side all_held = (all_held side).agent.controlling
 
 -- After any such calls the agent with the greater tie-breaker has the role in which it began.
 abbrev pub GreaterKeepsRole : Type 0
 GreaterKeepsRole =
-    (first last : Side → HomeRecord) (greater : Side) (turns : List Turn) → IsFair first greater turns → Sessions first turns last
+    (first last : Side → HeldRecord) (greater : Side) (turns : List Turn) → IsFair first greater turns → Sessions first turns last
     → role_at greater last ≡ role_at greater first
 
 -- Once the other one has another role than that in which it began, it keeps it. So its role changes once at most.
 abbrev pub LesserSwitchesOnce : Type 0
 LesserSwitchesOnce =
-    (first mid last : Side → HomeRecord) (greater : Side) (before later : List Turn) → IsFair first greater (later ++ before)
+    (first mid last : Side → HeldRecord) (greater : Side) (before later : List Turn) → IsFair first greater (later ++ before)
     → Sessions first before mid → Sessions mid later last
     → role_at (other greater) mid ≢ role_at (other greater) first → role_at (other greater) last ≡ role_at (other greater) mid
 
 -- Once their roles are different, they stay so.
 abbrev pub RolesStayOpposite : Type 0
 RolesStayOpposite =
-    (first mid last : Side → HomeRecord) (greater : Side) (before later : List Turn) → IsFair first greater (later ++ before)
+    (first mid last : Side → HeldRecord) (greater : Side) (before later : List Turn) → IsFair first greater (later ++ before)
     → Sessions first before mid → Sessions mid later last
     → role_at A mid ≢ role_at B mid → role_at A last ≢ role_at B last
 
@@ -150,7 +150,7 @@ TakesAnswer side path x before =
 -- be lite, and both may have any roles.
 abbrev pub SelectedAreTraced : Type 0
 SelectedAreTraced =
-    (first last : Side → HomeRecord) (tie_breaker : Side → ℕ) (side : Side) (turns : List Turn) (used : Used) (home : HomeRecord) (path : Path)
+    (first last : Side → HeldRecord) (tie_breaker : Side → ℕ) (side : Side) (turns : List Turn) (used : Used) (held : HeldRecord) (path : Path)
     → ((z : Side) → Begins (tie_breaker z) (first z)) → AreCarried turns → HaveFreshIds turns → Sessions first turns last
     → ((x : Turn) → Has turns x → x.side ≡ side → keeps_modern x.used.export ≡ true)
-    → Does used.export (last side) used.code home → Selects used path → Before (TakesAnswer side path) turns
+    → Does used.export (last side) used.code held → Selects used path → Before (TakesAnswer side path) turns

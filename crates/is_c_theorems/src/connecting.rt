@@ -64,7 +64,7 @@ pub fn nominations_connect()
     pairs_stay::<DefaultSha1HmacProvider, Preference>();
 }
 
-/// Both agents become connected.
+/// Two agents become connected, if a check with its response, and a nomination, are delivered.
 pub fn both_become_connected()
     ensures { BothBecomeConnected }
 {

@@ -37,7 +37,7 @@ pub fn paths_are_answered()
     selections_are_answered::<DefaultSha1HmacProvider, Preference>();
 }
 
-/// Each path that it selects while it was controlled since the last clear was nominated by the peer since the last restart.
+/// Each path that an agent selects while it was controlled since the last clear was nominated by the peer since the last restart.
 pub fn paths_are_nominated_by_peer()
     ensures { PathsAreNominatedByPeer }
 {

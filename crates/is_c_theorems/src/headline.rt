@@ -38,8 +38,8 @@ pub fn selected_are_answered()
     waiting_are_answered::<DefaultSha1HmacProvider, Preference>();
 }
 
-/// Each such path of an agent that was controlled since the last restart was nominated by the peer since then: C passed a request that
-/// nominates it.
+/// Each path that C gets by a `NominatedSend`, of an agent that was controlled since the last restart, was nominated by the peer since
+/// then: C passed a request that nominates it.
 pub fn selected_are_nominated_by_peer()
     ensures { SelectedAreNominatedByPeer }
 {

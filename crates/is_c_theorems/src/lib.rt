@@ -6,5 +6,6 @@
 
 pub mod connecting;
 pub mod executions;
+pub mod frugal;
 pub mod headline;
 pub mod two_agents;

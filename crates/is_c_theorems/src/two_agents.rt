@@ -9,7 +9,7 @@ use is_theorems::transitions::{
     all_settings_are_set_in_turn, fresh_is_sound, path_effect, trade_effect,
 };
 
-/// The agent with the greater tie-breaker keeps its role.
+/// Of two agents, the one with the greater tie-breaker keeps its role.
 pub fn greater_keeps_role()
     ensures { GreaterKeepsRole }
 {
@@ -19,7 +19,7 @@ pub fn greater_keeps_role()
     all_settings_are_set_in_turn::<DefaultSha1HmacProvider, Preference>();
 }
 
-/// The other one changes its role once at most.
+/// The agent with the smaller tie-breaker changes its role once at most.
 pub fn lesser_switches_once()
     ensures { LesserSwitchesOnce }
 {
@@ -29,7 +29,7 @@ pub fn lesser_switches_once()
     all_settings_are_set_in_turn::<DefaultSha1HmacProvider, Preference>();
 }
 
-/// Once their roles are different, they stay so.
+/// Once the roles of the two agents are different, they stay so.
 pub fn roles_stay_opposite()
     ensures { RolesStayOpposite }
 {

@@ -30,7 +30,7 @@ abbrev pub ip_bytes : IpAddr → List ℕ
 ip_bytes (Ip.V4 a) = 4 ∷ ipv4_octets a
 ip_bytes (Ip.V6 a) = 6 ∷ ipv6_octets a
 
--- the same for a related address, or a zero if there is none
+-- the IP version and the bytes of a related address, or a zero if there is none
 abbrev pub related_bytes : Option SocketAddr → List ℕ
 related_bytes (Some a) = ip_bytes (socket_ip a)
 related_bytes None = 0 ∷ []

@@ -16,7 +16,7 @@ use Rattle.is_candidate.specs.Candidates.{CandidateRecord}
 abbrev pub ip_fault : IpAddr → Option (List ℕ)
 ip_fault ip = if is_valid_ip ip then None else Some (codes "invalid ip " ++ ip_text ip)
 
--- the same, or the base has another IP version
+-- an address that no candidate may have, or a base of another IP version
 abbrev pub reflexive_fault : SocketAddr → SocketAddr → Option (List ℕ)
 reflexive_fault addr base =
     if is_valid_ip (socket_ip addr)

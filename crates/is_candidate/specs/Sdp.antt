@@ -10,13 +10,13 @@ use Rattle.is_candidate.specs.Candidates.{CandidateRecord}
 use Rattle.is_candidate.specs.Priorities.{candidate_priority}
 use Rattle.is_candidate.specs.Foundations.{foundation_of}
 
--- from the prefix to the priority
+-- the text of a candidate attribute from the prefix to the priority
 unfoldable pub front_text : CandidateRecord → List ℕ
 front_text c =
     codes "candidate:" ++ foundation_of c ++ codes " " ++ decimal c.component ++ codes " " ++ protocol_word c.proto
     ++ codes " " ++ decimal (candidate_priority c)
 
--- from the address to the kind
+-- the text of a candidate attribute from the address to the kind
 unfoldable pub place_text : CandidateRecord → List ℕ
 place_text c =
     codes " " ++ ip_text (socket_ip c.addr) ++ codes " " ++ decimal (socket_port c.addr) ++ codes " typ " ++ kind_word c.kind

@@ -31,7 +31,7 @@ once_more f = record f { times = counted f.times }
 abbrev pub with_last : FailedSend → List FailedSend → List FailedSend
 with_last f fs = if nat_lt (length fs) FAILURE_LIMIT then fs ++ f ∷ [] else drop 1 (fs ++ f ∷ [])
 
--- One that is kept already counts once more; another one is kept last.
+-- A failure that is kept already counts once more; another one is kept last.
 abbrev pub Notes : Path → ℕ → List FailedSend → List FailedSend → Type 0
 Notes path reason old new =
     MatchOption (position (is_of path reason) old) (new ≡ with_last (first_failure path reason) old)

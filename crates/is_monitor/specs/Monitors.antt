@@ -61,7 +61,7 @@ to_report true true path = None
 abbrev pub next_silence : Monitor → Option Silence
 next_silence m = option_and_then (λ w. to_report w.is_reported (is_silent m) w.path) m.watched
 
--- it is reported once
+-- the monitor after it reported whether the path is silent: each change is reported once
 abbrev pub once_reported : Monitor → Monitor
 once_reported m = record m { watched = option_map (λ (w : Watched). record w { is_reported = is_silent m }) m.watched }
 

@@ -31,7 +31,7 @@ is_unheard new old = new.responses == old.responses && new.requests == old.reque
 abbrev pub is_unanswered : Bool → Watched → Watched → Bool
 is_unanswered lite new old = if lite then new.requests == old.requests else new.responses == old.responses
 
--- the same path, watched on
+-- a path that was watched before: each time stays the old one, unless something arrived on the path meanwhile
 abbrev pub watched_on : Bool → Watched → Watched → Watched
 watched_on lite new old = record new {
   heard = if is_unheard new old then old.heard else new.heard;

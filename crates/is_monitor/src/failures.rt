@@ -19,7 +19,7 @@ pub struct FailedSend {
     pub path: Path,
     /// The number of the caller's error.
     pub reason: u32,
-    /// How many packets.
+    /// How many packets could not be sent.
     pub times: u64,
 }
 
@@ -54,7 +54,7 @@ impl FailedSend {
     }
 }
 
-/// The index of the one of this path and reason, if there is one.
+/// The index of the failure of this path and reason, if there is one.
 fn place_of(sends: &Vec<FailedSend>, path: &Path, reason: u32) -> Option<usize>
     ensures place { result ≡ position (is_of path.now reason) sends.now.items }
     ensures within { IfSome result (λ place. place < length sends.now.items) }
@@ -62,7 +62,7 @@ fn place_of(sends: &Vec<FailedSend>, path: &Path, reason: u32) -> Option<usize>
     sends.iter().position(|failed| failed.is_of(path, reason))
 }
 
-/// The one with this index counts once more.
+/// The failure with this index counts once more.
 fn count_again(sends: &mut Vec<FailedSend>, place: usize)
     requires { place < length sends.old.items }
     ensures { (f : FailedSend) × (slice_get sends.old.items place ≡ Some f) × (sends.new.items ≡ slice_set sends.old.items place (once_more f)) }
@@ -71,7 +71,7 @@ fn count_again(sends: &mut Vec<FailedSend>, place: usize)
     sends[place] = failed.once_more();
 }
 
-/// Adds one at the end, and drops the oldest beyond the limit.
+/// Adds a failure at the end, and drops the oldest beyond the limit.
 fn push_last(sends: &mut Vec<FailedSend>, failed: FailedSend) -> Result<(), AllocFailed<FailedSend>>
     ensures kept { IfOk result (λ _. sends.new.items ≡ with_last failed sends.old.items) }
     ensures unchanged { IfErr result (λ _. sends.new.items ≡ sends.old.items) }
@@ -84,7 +84,7 @@ fn push_last(sends: &mut Vec<FailedSend>, failed: FailedSend) -> Result<(), Allo
 }
 
 impl FailedSends {
-    /// None.
+    /// No failures.
     pub fn new(alloc: Global) -> FailedSends
         ensures { failures_of result ≡ [] }
     {
@@ -93,8 +93,8 @@ impl FailedSends {
         }
     }
 
-    /// Notes that a packet could not be sent on this path, with the number of the caller's error. One that is kept already counts once
-    /// more.
+    /// Notes that a packet could not be sent on this path, with the number of the caller's error. A failure that is kept already counts
+    /// once more.
     ///
     /// Fails with `OutOfMemory` if there is no memory; then nothing changes.
     pub fn note(&mut self, path: Path, reason: u32) -> Result<(), IceError>
@@ -114,7 +114,7 @@ impl FailedSends {
         }
     }
 
-    /// How many are kept.
+    /// How many failures are kept.
     pub fn len(&self) -> usize
         ensures { result ≡ length (failures_of self.now) }
     {
@@ -128,7 +128,7 @@ impl FailedSends {
         self.sends.get(index).copied()
     }
 
-    /// Forgets all.
+    /// Forgets all failures.
     pub fn clear(&mut self)
         ensures { failures_of self.new ≡ [] }
     {

@@ -33,7 +33,7 @@ impl Monitor {
         }
     }
 
-    /// The same, while the new session has selected no path.
+    /// The path before the last ICE restart, until consent to send on it ends or the new session selects a path.
     fn kept_path(&self, now: Instant) -> Option<Path>
         ensures { result ≡ kept_path now.0 self.now }
     {

@@ -31,20 +31,20 @@ pub struct Monitor {
 #[derive(Clone, Copy)]
 pub struct Previous {
     pub path: Path,
-    /// When consent to send on it ends, since nothing arrives on it that counts.
+    /// When consent to send on the path ends, since nothing arrives on it that counts.
     pub end: Instant,
 }
 
 /// What is reported of the selected path.
 #[derive(Clone, Copy)]
 pub enum Silence {
-    /// Nothing arrived on it for the time that is set.
+    /// Nothing arrived on the path for the time that is set.
     Silent(Path),
-    /// A response or a check of the peer arrived on it again.
+    /// A response or a check of the peer arrived on the path again.
     Heard(Path),
 }
 
-/// By whether its silence was reported, and whether it is silent.
+/// What is to be reported of a path, by whether its silence was reported, and whether it is silent.
 fn to_report(is_reported: bool, is_silent: bool, path: Path) -> Option<Silence>
     ensures { result ≡ to_report is_reported is_silent path }
 {
@@ -71,7 +71,7 @@ fn previous_of(consent: Duration, watched: Watched) -> Previous
 }
 
 impl Monitor {
-    /// Has seen nothing yet. A path counts as silent after this time; None: never.
+    /// A monitor that has seen nothing yet. A path counts as silent after this time; None: never.
     pub fn new(threshold: Option<Duration>) -> Monitor
         ensures { result ≡ fresh_monitor threshold }
     {

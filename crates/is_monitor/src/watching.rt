@@ -14,14 +14,14 @@ use is_rules::emitted::Path;
 #[derive(Clone, Copy)]
 pub struct Watched {
     pub path: Path,
-    /// The number of its pair.
+    /// The number of the path's pair.
     pub pair: u64,
-    /// How many responses and how many checks of the peer had arrived on it.
+    /// How many responses and how many checks of the peer had arrived on the path.
     pub responses: u64,
     pub requests: u64,
-    /// When the last of them arrived, or when the path was selected, if that was later.
+    /// When the last response or check of the peer arrived, or when the path was selected, if that was later.
     pub heard: Instant,
-    /// The same of responses only, or on a lite agent of checks: they give consent to send (RFC 7675).
+    /// When consent to send was given last (RFC 7675): a response arrived, on a lite agent a check of the peer, or the path was selected.
     pub consented: Instant,
     /// Whether it was reported that the path is silent.
     pub is_reported: bool,
@@ -70,7 +70,7 @@ fn is_unanswered(lite: bool, new: &Watched, old: &Watched) -> bool
     }
 }
 
-/// The same path, watched on.
+/// A path that was watched before: each time stays the old one, unless something arrived on the path meanwhile.
 fn watched_on(lite: bool, new: Watched, old: Watched) -> Watched
     ensures { result ≡ watched_on lite new old }
 {

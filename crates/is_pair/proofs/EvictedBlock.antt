@@ -1,16 +1,10 @@
 -- Pairs of lowest priority that are removed at once: they could be removed one after another, in the order by priority.
-use Rattle.std.proofs.Common.{if◌then◌else◌, ◌≡◌, ◌==◌, ℕ, suc, ◌+◌, ◌<◌, ◌≤◌, ◌⊎◌, ◌&&◌, ◌||◌, ◌++◌, Bool, true, false, not, List, [], ◌∷◌, count_by, filter, length, nat_le, nat_lt, Option, Some, None, inl, inr, refl, sym, ap, subst, ◌∙◌, arith}
-use Rattle.std.proofs.lemmas.Bool.{eqb-true}
-use Rattle.std.proofs.lemmas.Bool.Decides.{nat_tests}
-use Rattle.std.proofs.lemmas.List.Sums.{length-filter}
-use Rattle.std.specs.List.{list_all, cons_option}
-use Rattle.is_proto.specs.Lists.{Has}
-use Rattle.is_pair.specs.declared.checklist.entries.Rank.{Rank}
-use Rattle.is_pair.specs.Pairs.{PairRecord}
-use Rattle.is_pair.specs.Multiset.{is_numbered, pair_numbered, rises, without, EvictsInTurn, IsLeast, IsLeastPassing}
-use Rattle.is_pair.specs.Entries.{are_ordered, are_single}
-use Rattle.is_pair.specs.Lowest.{is_low, pairs_of}
-use Rattle.is_pair.proofs.ListParts.{drops-none, filter-swap, find-other, had-filtered, has-filter, left-other, lt-from, named-once, none-numbered, one-goes, without-both}
+use Rattle.is_pair.proofs.Common.{[], ◌&&◌, ◌++◌, ◌+◌, ◌<◌, ◌==◌, ◌||◌, ◌∙◌, ◌∷◌, ◌≡◌, ◌≤◌, ◌⊎◌, ap, are_ordered, are_single, arith, Bool}
+use Rattle.is_pair.proofs.Common.{cons_option, eqb-true, EvictsInTurn, false, filter, Has, if◌then◌else◌, inl, inr, is_low, is_numbered}
+use Rattle.is_pair.proofs.Common.{IsLeast, IsLeastPassing, length, List, list_all, nat_le, nat_lt, nat_tests, None, not, Option}
+use Rattle.is_pair.proofs.Common.{pair_numbered, PairRecord, pairs_of, Rank, refl, rises, Some, subst, suc, sym, true, without, ℕ}
+use Rattle.is_pair.proofs.ListParts.{drops-none, filter-swap, had-filtered, has-filter, left-other, lt-from, named-once, none-numbered}
+use Rattle.is_pair.proofs.ListParts.{one-goes, without-both}
 use Rattle.is_pair.proofs.PairEntries.ChangedEntry.{both, found-number, rises-filter}
 use Rattle.is_pair.proofs.PriorityOrder.GreatestPair.{all-has, found-has}
 use Rattle.is_pair.proofs.PriorityOrder.OrderedPairs.{above-from, le-from}

@@ -1,3 +1,4 @@
+mod Common
 mod StoredChecks
 pub mod PairEntries
 mod ChecklistIndex

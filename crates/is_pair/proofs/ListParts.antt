@@ -1,11 +1,8 @@
 -- Parts of lists of pairs: those that pass a test, and the one with a number.
-use Rattle.std.proofs.Common.{if◌then◌else◌, ◌≡◌, ◌==◌, ℕ, suc, ◌<◌, ◌≤◌, Bool, true, false, not, List, [], ◌∷◌, filter, length, nat_lt, Option, Some, None, inl, inr, refl, sym, ap, subst, ◌∙◌, arith}
-use Rattle.std.proofs.lemmas.Bool.{eq-eqb, eqb-true}
-use Rattle.std.proofs.lemmas.Bool.Decides.{nat_tests}
-use Rattle.is_proto.specs.Lists.{Has}
-use Rattle.is_pair.specs.Pairs.{PairRecord}
-use Rattle.is_pair.specs.Multiset.{is_numbered, pair_numbered, passes_at, rises, without}
-use Rattle.is_pair.proofs.PairEntries.ChangedEntry.{above, apart, below-apart, both, none-passes, rises-filter}
+use Rattle.is_pair.proofs.Common.{[], ◌<◌, ◌==◌, ◌∙◌, ◌∷◌, ◌≡◌, ap, arith, Bool, eq-eqb, eqb-true, false, filter, Has, if◌then◌else◌, inl}
+use Rattle.is_pair.proofs.Common.{inr, is_numbered, length, List, nat_lt, nat_tests, None, not, pair_numbered, PairRecord, passes_at, refl}
+use Rattle.is_pair.proofs.Common.{rises, Some, subst, suc, sym, true, without, ℕ}
+use Rattle.is_pair.proofs.PairEntries.ChangedEntry.{above, apart, below-apart, both, none-passes}
 use Rattle.is_pair.proofs.PriorityOrder.GreatestPair.{all-has, has-any}
 
 pub lt-from : {a b : ℕ} → nat_lt a b ≡ true → a < b
@@ -49,10 +46,6 @@ passed t (x ∷ xs) q has = by (λ rest. passed t xs q rest) (t x) refl has wher
   by again true is (inl e) = ap t (sym e) ∙ is
   by again true is (inr rest) = again rest
   by again false is rest = again rest
-
-pub some-long : {X : Type 0} (xs : List X) (q : X) → Has xs q → 1 ≤ length xs
-some-long [] q has = elim has [ ]
-some-long (x ∷ xs) q has = omega arith
 
 -- all are left if none passes
 pub drops-none : (t : PairRecord → Bool) (xs : List PairRecord) → ((q : PairRecord) → Has xs q → t q ≡ true → ⊥) → without t xs ≡ xs

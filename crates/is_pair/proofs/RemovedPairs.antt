@@ -1,21 +1,12 @@
 -- What is listed of the pairs that are removed.
-use Rattle.std.proofs.Common.{◌≡◌, ◌==◌, ℕ, ◌+◌, ◌-◌, ◌<◌, ◌≤◌, Bool, true, false, not, List, [], ◌∷◌, ◌++◌, length, map, take, drop, filter, get_or, nat_lt, Some, None}
-use Rattle.std.proofs.Common.{refl, sym, ap, ◌∙◌, arith, append_assoc, if◌then◌else◌}
-use Rattle.std.proofs.lemmas.Bool.{eqb-true}
-use Rattle.std.proofs.lemmas.Bool.Decides.{nat_tests}
-use Rattle.std.proofs.lemmas.List.{append-nil, length-append, length-drop, length-take, map-append, drop-drop, drop-append-le, take-append-drop, take_more}
 use Rattle.std.proofs.lemmas.List.Elements.{filter-append, filter_map-append}
-use Rattle.std.specs.List.{cons_option}
-use Rattle.std.proofs.lemmas.List.Sums.{length-filter, count_by-le-length}
-use Rattle.std.specs.Option.{option_to_list}
-use Rattle.is_proto.specs.Lists.{Has}
-use Rattle.is_pair.specs.declared.checklist.entries.Rank.{Rank}
-use Rattle.is_pair.specs.declared.checklist.removed.RemovedPair.{RemovedPair}
 use Rattle.is_pair.specs.declared.checklist.removed.Removal.{Removal}
-use Rattle.is_pair.specs.Pairs.{PairRecord}
-use Rattle.is_pair.specs.Multiset.{is_numbered, pair_numbered, rises}
-use Rattle.is_pair.specs.Lowest.{listed_by, pairs_of}
-use Rattle.is_pair.specs.Removed.{kept_as, last_removed, removed_after, RemovedFit, REMOVED_LIMIT}
+use Rattle.is_pair.proofs.Common.{[], ◌++◌, ◌+◌, ◌-◌, ◌<◌, ◌==◌, ◌∙◌, ◌∷◌, ◌≡◌, ◌≤◌, ap, append-nil, append_assoc, arith, Bool, cons_option}
+use Rattle.is_pair.proofs.Common.{count_by-le-length, drop, drop-append-le, drop-drop, eqb-true, false, filter, get_or, Has, if◌then◌else◌}
+use Rattle.is_pair.proofs.Common.{is_numbered, kept_as, last_removed, length, length-append, length-drop, length-filter, length-take, List}
+use Rattle.is_pair.proofs.Common.{listed_by, map, map-append, nat_lt, nat_tests, None, not, option_to_list, pair_numbered, PairRecord}
+use Rattle.is_pair.proofs.Common.{pairs_of, Rank, refl, removed_after, REMOVED_LIMIT, RemovedFit, RemovedPair, rises, Some, sym, take}
+use Rattle.is_pair.proofs.Common.{take-append-drop, take_more, true, ℕ}
 use Rattle.is_pair.proofs.ListParts.{named-once, none-numbered}
 use Rattle.is_pair.proofs.PairEntries.ChangedEntry.{above, both, found-number}
 use Rattle.is_pair.proofs.PriorityOrder.GreatestPair.{all-has, filter-none, found-has}

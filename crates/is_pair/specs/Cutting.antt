@@ -15,7 +15,7 @@ CutsByNext kept checks Nothing = nat_le kept (length checks) ≡ false
 CutsByNext kept checks (Oldest id) = (length checks ≡ kept) × (c : Check) × (slice_get checks 0 ≡ Some c) × (c.id ≡ id.0)
 CutsByNext kept checks Several = Unit {0}
 
--- the pair, which sent the check, stores what it stored before, except those
+-- the pair, which sent the check, stores what it stored before, except the checks that are dropped
 abbrev pub LeavesCurrent : PairRecord → List Kept → Cut → Type 0
 LeavesCurrent p index Nothing = list_all (is_current p) index ≡ true
 LeavesCurrent p index (Oldest id) = list_all (λ (k : Kept). bytes_eq k.id.0 id.0 || is_current p k) index ≡ true

@@ -82,7 +82,7 @@ is_repeated_early now t p =
 abbrev pub is_hushed : PairRecord → Bool
 is_hushed p = is_valid p && is_nominated p && nat_lt 0 (unanswered_count p.checks)
 
--- how much later than the one before a response may come
+-- how much later than the one before a response may come, or sooner
 abbrev pub LATENESS : ℕ
 LATENESS = 30 * MILLISECOND
 
@@ -92,7 +92,7 @@ HUSHED_TIME = 4500 * MILLISECOND
 
 -- how often at most
 abbrev pub SHORT_INTERVAL : ℕ
-SHORT_INTERVAL = 80 * MILLISECOND
+SHORT_INTERVAL = 70 * MILLISECOND
 
 -- and after that
 abbrev pub HUSHED_INTERVAL : ℕ
@@ -104,9 +104,16 @@ hushed_interval now t p =
     then SHORT_INTERVAL
     else HUSHED_INTERVAL
 
--- then the next check is sent once the response to the last one is late
+-- by the time that the last response took: the first check without one is repeated once its response is late, the others before it is due
+abbrev pub response_wait : List Check → ℕ
+response_wait checks =
+    if unanswered_count checks == 1
+    then later (unwrap_or (last_round_trip checks) 0) LATENESS
+    else unwrap_or (last_round_trip checks) 0 - LATENESS
+
+-- then the next check is sent
 abbrev pub hushed_delay : ℕ → StunTiming → PairRecord → ℕ
-hushed_delay now t p = max (hushed_interval now t p) (later (unwrap_or (last_round_trip p.checks) 0) LATENESS)
+hushed_delay now t p = max (hushed_interval now t p) (response_wait p.checks)
 
 -- the delay after the last check: checks are repeated early, or after the RTO
 abbrev pub repeated_delay : ℕ → StunTiming → PairRecord → ℕ
@@ -135,8 +142,8 @@ computed_due_time Success now t p = next_due_time now t p
 abbrev pub due_time_of : ℕ → StunTiming → PairRecord → ℕ
 due_time_of now t p = unwrap_or p.due (min (computed_due_time p.nomination now t p) (later now t.max_rto.0))
 
-abbrev pub asked : ℕ → StunTiming → PairRecord → PairRecord
-asked now t p = record p { due = Some (due_time_of now t p) }
+abbrev pub scheduled : ℕ → StunTiming → PairRecord → PairRecord
+scheduled now t p = record p { due = Some (due_time_of now t p) }
 
 -- Triggered checks (RFC 8445, section 7.3.1.4): the first request on the pair, which is not valid yet.
 abbrev pub is_triggered : PairRecord → Bool

@@ -14,7 +14,7 @@ use Rattle.is_pair.specs.Multiset.{pair_numbered, passes_at, keeps, ranks}
 abbrev pub is_before : List ℕ → List ℕ → Bool
 is_before a b = is_lt (slice_cmp nat_cmp a b)
 
--- sorted by transaction ID
+-- the entries are sorted by transaction ID
 abbrev pub ids_rise : List Kept → Bool
 ids_rise [] = true
 ids_rise (k ∷ ks) = list_all (λ (q : Kept). not (is_before q.id.0 k.id.0)) ks && ids_rise ks
@@ -39,12 +39,12 @@ is_ranked priority number rs = list_any (is_rank priority number) rs
 abbrev pub IsRanking : List Rank → List PairRecord → Type 0
 IsRanking rs pairs = (priority : ℕ) (number : ℕ) → is_ranked priority number rs ≡ ranks priority number pairs
 
--- by priority, the least first
+-- the entries are sorted by priority, the least first
 abbrev pub are_ordered : List Rank → Bool
 are_ordered [] = true
 are_ordered (r ∷ rs) = list_all (λ q. nat_le r.priority q.priority) rs && are_ordered rs
 
--- no two have the same number
+-- no two entries have the same number
 abbrev pub are_single : List Rank → Bool
 are_single [] = true
 are_single (r ∷ rs) = list_all (λ q. not (q.number == r.number)) rs && are_single rs
@@ -53,7 +53,7 @@ are_single (r ∷ rs) = list_all (λ q. not (q.number == r.number)) rs && are_si
 abbrev pub names_passing : List ℕ → (PairRecord → Bool) → List PairRecord → Kept → Bool
 names_passing id test pairs k = bytes_eq k.id.0 id && list_any (passes_at k.number test) pairs
 
--- its pair passes
+-- the pair of the entry passes
 abbrev pub has_passing : (PairRecord → Bool) → List PairRecord → Rank → Bool
 has_passing test pairs r = list_any (passes_at r.number test) pairs
 

@@ -36,7 +36,7 @@ AreRanked pairs order =
     (priorities_rise order ≡ true) × (length order ≡ length pairs) × ((p : PairRecord) → Has pairs p → Has order p)
     × ((p : PairRecord) → Has order p → Has pairs p)
 
--- of lower priority, or of the same and no greater number
+-- the pair has a lower priority than this, or this one and no greater number
 abbrev pub is_low : (priority number : ℕ) → PairRecord → Bool
 is_low priority number p = nat_lt p.priority priority || (p.priority == priority && nat_le p.number number)
 
@@ -44,7 +44,7 @@ is_low priority number p = nat_lt p.priority priority || (p.priority == priority
 abbrev pub EvictsFirst : ℕ → List PairRecord → List PairRecord → List PairRecord → Type 0
 EvictsFirst limit gone old mid = (rest new : List PairRecord) → EvictsInTurn limit rest mid new → EvictsInTurn limit (gone ++ rest) old new
 
--- such pairs were removed, and are listed in this order
+-- pairs were removed, each as one of lowest priority (`EvictsFirst`), and are listed in this order
 abbrev pub EvictsSome : ℕ → (old mid : List PairRecord) → (listed after : List RemovedPair) → Type 0
 EvictsSome limit old mid listed after =
     (gone : List PairRecord) × EvictsFirst limit gone old mid × (after ≡ removed_after (λ p. Evicted) gone listed)

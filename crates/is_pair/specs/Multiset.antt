@@ -88,7 +88,7 @@ keeps id number pairs = list_any (passes_at number (keeps_check id)) pairs
 abbrev pub is_awaiting : List ℕ → (PairRecord → Bool) → PairRecord → Bool
 is_awaiting id test p = keeps_check id p && test p
 
--- one of these pairs, or none if there is none; any of several may be taken
+-- a pair that has a pending transaction with the ID and passes the test, or none if there is none; any of several may be taken
 abbrev pub IsAwaiting : List ℕ → (PairRecord → Bool) → List PairRecord → Option PairRecord → Type 0
 IsAwaiting id test pairs None = NonePass (is_awaiting id test) pairs
 IsAwaiting id test pairs (Some p) = Has pairs p × (is_awaiting id test p ≡ true)
@@ -128,7 +128,7 @@ IsLeastPassing test pairs (Some least) =
 abbrev pub IsLeast : List PairRecord → PairRecord → Type 0
 IsLeast pairs least = Has pairs least × ((p : PairRecord) → Has pairs p → least.priority ≤ p.priority)
 
--- one of these pairs, or none if there is none
+-- a pair of lowest priority, or none if there is no pair
 abbrev pub IsLowest : List PairRecord → Option PairRecord → Type 0
 IsLowest pairs None = pairs ≡ []
 IsLowest pairs (Some least) = IsLeast pairs least

@@ -1,6 +1,6 @@
 -- A candidate pair (RFC 8445, section 6.1.2), and its state after each operation. Times and durations are in
 -- nanoseconds.
-use Rattle.std.specs.Prelude.{◌≡◌, ℕ, ◌-◌, ◌*◌, ◌==◌, Bool, true, false, nat_lt, max, List, [], ◌∷◌, ◌++◌, slice_set, Option, Some, None, unwrap_or, if◌then◌else◌}
+use Rattle.std.specs.Prelude.{◌≡◌, ℕ, ◌+◌, ◌-◌, ◌*◌, ◌==◌, Bool, true, false, length, nat_lt, max, min, List, [], ◌∷◌, ◌++◌, slice_set, Option, Some, None, unwrap_or, if◌then◌else◌}
 use Rattle.std.specs.Option.{option_map_or}
 use Rattle.is_proto.specs.Times.{SECOND, counted, later}
 use Rattle.is_stun.specs.declared.timing.StunTiming.{StunTiming}
@@ -10,7 +10,7 @@ use Rattle.is_pair.specs.declared.pair.states.NominationState.{NominationState}
 use Rattle.is_pair.specs.declared.pair.states.NominationState.TheVariants.{None as Unnominated, Nominated, Success}
 use Rattle.is_pair.specs.States.{is_valid_state, is_nominated_state, state_once_sent, state_once_answered, state_from, nomination_once_sent, nomination_again}
 use Rattle.is_pair.specs.States.{nomination_once_answered, nomination_from}
-use Rattle.is_pair.specs.Checks.{Check, IsCheckAt, answered_at, last_checks}
+use Rattle.is_pair.specs.Checks.{Check, IsCheckAt, answered_at, last_checks, unanswered_count}
 
 -- a pair: the indices of its candidates, its priority, its checks, its states, and what the peer sent on it
 pub record PairRecord : Type 0 where
@@ -36,6 +36,8 @@ pub record PairRecord : Type 0 where
   -- how many responses arrived, including repeated ones, and the sum of their round-trip times
   pub answers : ℕ
   pub total_round_trip : ℕ
+  -- how many checks were lost: they had no response yet when a later one had its first
+  pub lost : ℕ
   -- when the last check that got a response was sent, on this pair or on one that it replaces
   pub consented : Option ℕ
   -- the due time of the next check, if it is fixed
@@ -61,6 +63,7 @@ new_pair number local remote priority = record {
   last_request = None;
   answers = 0;
   total_round_trip = 0;
+  lost = 0;
   consented = None;
   due = None;
   last_error = None;
@@ -81,7 +84,7 @@ abbrev pub nominated : Bool → PairRecord → PairRecord
 nominated true p = record p { nomination = Success }
 nominated false p = record p { nomination = Nominated }
 
--- its nomination begins again: no check was sent since, so early retransmissions begin again
+-- the nomination of the pair begins again: no check was sent since, so early retransmissions begin again
 abbrev pub renominated : PairRecord → PairRecord
 renominated p = record p { nomination = nomination_again p.nomination }
 
@@ -168,8 +171,20 @@ once_answered now c p = record p {
   due = None;
 }
 
+-- the greatest number of lost checks
+abbrev pub MOST_LOST : ℕ
+MOST_LOST = 0xffff_ffff
+
+-- how many checks of the pair's silence came before the one at this index
+abbrev pub passed_over : ℕ → List Check → ℕ
+passed_over place checks = unanswered_count checks - (length checks - place)
+
+-- These are lost once that check has a response. Before the first response of the pair none is: until then a NAT may let nothing through.
+abbrev pub lost_by : ℕ → PairRecord → ℕ
+lost_by place p = if p.answers == 0 then p.lost else min (p.lost + passed_over place p.checks) MOST_LOST
+
 abbrev pub answered : ℕ → ℕ → Check → PairRecord → PairRecord
-answered now place c p = once_answered now c (record p { checks = slice_set p.checks place (answered_at now c) })
+answered now place c p = once_answered now c (record p { checks = slice_set p.checks place (answered_at now c); lost = lost_by place p })
 
 -- if several pending transactions have the ID, the response may go to any of them
 abbrev pub TakesAnswer : PairRecord → ℕ → List ℕ → PairRecord → Type 0

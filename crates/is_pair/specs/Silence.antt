@@ -53,7 +53,7 @@ outlives span p = list_any (is_answered_within span) p.checks
 
 -- how long a silent pair is kept at least, from the time on at which the check after its last answered one was due at the latest
 abbrev pub LEAST_SILENCE : ℕ
-LEAST_SILENCE = 1100 * MILLISECOND
+LEAST_SILENCE = 850 * MILLISECOND
 
 -- The last check of the pair that had a response was sent so long ago.
 abbrev pub is_long_silent : ℕ → StunTiming → PairRecord → Bool

@@ -17,7 +17,7 @@ pub record IsPaced (t : StunTiming) : Type 0 where
 abbrev pub is_due_by : ℕ → ℕ → StunTiming → PairRecord → Bool
 is_due_by by now t p = nat_le (due_time_of now t p) by
 
--- the pairs that are due by then
+-- the pairs whose due time, computed at `now`, is at most `by`
 abbrev pub due_by : ℕ → ℕ → StunTiming → List PairRecord → List PairRecord
 due_by by now t pairs = filter (is_due_by by now t) pairs
 

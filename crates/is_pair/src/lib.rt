@@ -6,8 +6,10 @@ pub mod pair;
 pub mod theorems;
 
 pub use pair::due::{
-    due_time_of, is_asked, is_urgent, move_next, reset_next_binding_attempt, trigger,
+    due_time_of, is_scheduled, is_urgent, move_next, reset_next_binding_attempt, trigger,
 };
 pub use pair::replacing::take_over;
-pub use pair::silence::{is_long_silent, is_wholly_silent, outlives, silence_of, silence_until};
+pub use pair::silence::{
+    is_long_silent, is_wholly_silent, lost_checks, outlives, silence_of, silence_until,
+};
 pub use pair::{keep_number, renominate};

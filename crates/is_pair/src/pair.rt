@@ -40,12 +40,12 @@ pub struct CandidatePair {
     /// The pending transactions: the checks that were sent last, oldest first.
     binding_attempts: VecDeque<BindingAttempt>,
     checks_sent: u64,
-    /// When its first check was sent.
+    /// When the pair's first check was sent.
     first_sent: Option<Instant>,
     /// When the first check after a request of the peer was sent.
     first_after_request: Option<Instant>,
     nomination_state: NominationState,
-    /// The greatest number by which the peer nominated it; 0 if there is none.
+    /// The greatest number by which the peer nominated the pair; 0 if there is none.
     greatest_number: u32,
     state: CheckState,
     remote_binding_requests: u64,
@@ -56,8 +56,10 @@ pub struct CandidatePair {
     consented: Option<Instant>,
     /// The due time of the next check, if it is fixed.
     cached_next_attempt_time: Option<Instant>,
-    /// The code of the last error response to one of its checks, if one arrived. Nothing is decided by it.
+    /// The code of the last error response to one of the pair's checks, if one arrived. Nothing is decided by it.
     last_error: Option<u16>,
+    /// How many checks had no response yet when a later one had its first; not those before the pair's first response.
+    lost_checks: u32,
 }
 
 impl Model for CandidatePair {
@@ -82,6 +84,7 @@ impl Model for CandidatePair {
       last_request = option_map (λ at. at.0) p.remote_binding_request_time;
       answers = p.responses_received;
       total_round_trip = p.total_round_trip_time.0;
+      lost = p.lost_checks;
       consented = option_map (λ at. at.0) p.consented;
       due = option_map (λ at. at.0) p.cached_next_attempt_time;
       last_error = p.last_error;
@@ -121,6 +124,7 @@ impl CandidatePair {
             consented: None,
             cached_next_attempt_time: None,
             last_error: None,
+            lost_checks: 0,
         }
     }
 
@@ -236,6 +240,7 @@ impl CandidatePair {
             consented: self.consented,
             cached_next_attempt_time: self.cached_next_attempt_time,
             last_error: self.last_error,
+            lost_checks: self.lost_checks,
         })
     }
 }

@@ -234,7 +234,7 @@ pub trait Sha1HmacProvider {
     /// The function that the provider computes: its arguments are the provider, the key and the text.
     ghost mac: { Self → List ℕ → List ℕ → List ℕ };
 
-    /// Returns that function of the key and of the payloads, joined.
+    /// Returns the HMAC-SHA1 of the payloads, joined, under the key.
     fn sha1_hmac(&self, key: &[u8], payloads: &[&[u8]]) -> [u8; 20]
         ensures { result ≡ mac self.now key.now (joined payloads.now) };
 

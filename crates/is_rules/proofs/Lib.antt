@@ -1,3 +1,5 @@
+mod Common
 pub mod PairLists
 pub mod PollsAndResponses
+pub mod ServedRequests
 mod FunctionProofs

@@ -1,5 +1,6 @@
 -- The next timeout, and what a response contains.
 pub mod NextTimeout
+pub mod TimesWithinCredit
 pub mod AddressesInResponses
 pub mod LastTime
 pub mod CalmTimeouts

@@ -42,7 +42,7 @@ is_role_conflict m = option_map_or (λ (e : ℕ × List ℕ). e.0 == ROLE_CONFLI
 abbrev pub after_error : Message → PairRecord → PairRecord
 after_error m p = option_map_or (λ (e : ℕ × List ℕ). with_error e.0 p) m.attributes.error_code p
 
--- one more candidate, if there is one
+-- the candidates, and after them this one, if there is one
 abbrev pub joined_by : Option CandidateRecord → List CandidateRecord → List CandidateRecord
 joined_by None cs = cs
 joined_by (Some c) cs = cs ++ c ∷ []
@@ -71,7 +71,7 @@ module _ {H P : Type 0} where
   local_with p None a = a.local
   local_with p (Some mapped) a = if is_left_out a.max_discovered a.local mapped then a.local else a.local ++ mapped_candidate a p mapped ∷ []
 
-  -- The candidate is added here without forming a pair.
+  -- A mapped address adds a candidate, without forming a pair.
   abbrev pub mapped_added : PairRecord → Option SocketAddr → AgentRecord H P → AgentRecord H P
   mapped_added p mapped a = record a { local = local_with p mapped a }
 
@@ -86,14 +86,14 @@ module _ {H P : Type 0} where
   Concludes now old emitted new =
       (path : Option Path) × (mid : AgentRecord H P) × Nominates old path mid × (emitted ≡ selected_only path) × (new ≡ evaluated now mid)
 
-  -- Then nomination and state are evaluated.
+  -- The pair records the success response. Then nomination and state are evaluated.
   abbrev pub HandlesSuccess : ℕ → AgentRecord H P → Path → Message → Emitted → AgentRecord H P → Type 0
   HandlesSuccess now old via m emitted new =
       (recorded : AgentRecord H P) × Records now old via m recorded × Concludes now recorded emitted new
 
   -- ---- errors: any pair with the pending transaction, on the reverse of whose path the packet was received, may take it
 
-  -- The pair with this number keeps the code.
+  -- The pair with this number keeps the code of the error response.
   abbrev pub error_noted : ℕ → Message → AgentRecord H P → AgentRecord H P
   error_noted number m a = record a { pairs = change_pair number (after_error m) a.pairs }
 

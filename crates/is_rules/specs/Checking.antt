@@ -7,7 +7,7 @@ use Rattle.is_proto.specs.Times.{counted}
 use Rattle.is_candidate.specs.Candidates.{candidate_at}
 use Rattle.is_candidate.specs.Priorities.{check_priority}
 use Rattle.is_pair.specs.Pairs.{PairRecord, heard, checked, renominated}
-use Rattle.is_pair.specs.Due.{asked, IsNextDue}
+use Rattle.is_pair.specs.Due.{scheduled, IsNextDue}
 use Rattle.is_stun.specs.declared.header.Class.TheVariants.{Request}
 use Rattle.is_stun.specs.Message.{Message}
 use Rattle.is_stun.specs.Checks.{binding_request, with_nomination}
@@ -32,8 +32,8 @@ abbrev pub username_between : IceCreds → IceCreds → List ℕ
 username_between remote local = remote.ufrag ++ 58 ∷ local.ufrag
 
 module _ {H P : Type 0} where
-  abbrev pub all_asked : ℕ → AgentRecord H P → AgentRecord H P
-  all_asked now a = record a { pairs = map (asked now a.timing) a.pairs }
+  abbrev pub all_scheduled : ℕ → AgentRecord H P → AgentRecord H P
+  all_scheduled now a = record a { pairs = map (scheduled now a.timing) a.pairs }
 
   abbrev pub all_heard : ℕ → AgentRecord H P → AgentRecord H P
   all_heard now a = record a { pairs = map (heard now) a.pairs }
@@ -45,7 +45,7 @@ module _ {H P : Type 0} where
       with_nomination (nomination_of a p) (binding_request (username_between remote a.local_creds) id a.controlling a.tie_breaker
       (check_priority (candidate_at a.local p.local)) (a.controlling && stays_nominated a p))
 
-  -- Until a path is selected, kinds take turns.
+  -- Kinds of pairs take turns: with the profile `Modern`, until a path is selected.
   abbrev pub are_kinds_in_turn : AgentRecord H P → Bool
   are_kinds_in_turn a = is_modern a.timing && not (is_connected a.state)
 
@@ -56,15 +56,15 @@ module _ {H P : Type 0} where
     urgent = is_modern a.timing;
   }
 
-  -- One of them is due.
+  -- A pair that comes before all kinds is due.
   abbrev pub has_first : ℕ → AgentRecord H P → Bool
   has_first now a = list_any (is_first_due (precedence a) now a.timing) a.pairs
 
-  -- This check goes ahead: every second one may.
+  -- The next check goes ahead of pairs that are due earlier: every second one may.
   abbrev pub is_ahead_turn : ℕ → AgentRecord H P → Bool
   is_ahead_turn now a = is_modern a.timing && a.ahead_turn && (are_kinds_in_turn a || has_first now a)
 
-  -- The pair whose check goes ahead: the one that is asked along, if any.
+  -- The pair that is checked ahead of those that are due earlier: the one that is asked along with the selected one, if any.
   abbrev pub GoesAhead : ℕ → AgentRecord H P → Option PairRecord → Type 0
   GoesAhead now a next =
       (along : Option PairRecord) × IsAskedAlong now a along
@@ -127,4 +127,4 @@ module _ {H P : Type 0} where
     MayCheck now (Some remote) old s issued new t =
         MatchBool old.lite
         ((issued ≡ None) × (new ≡ all_heard now old) × (t ≡ s))
-        (ChecksNext now remote (all_asked now old) s issued new t)
+        (ChecksNext now remote (all_scheduled now old) s issued new t)

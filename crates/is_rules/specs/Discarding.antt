@@ -31,7 +31,7 @@ abbrev pub live_at : List CandidateRecord → Option ℕ → Option ℕ
 live_at cs None = None
 live_at cs (Some place) = if (candidate_at cs place).discarded then None else Some place
 
--- This one is equivalent, and live.
+-- x is equivalent to c, and live.
 abbrev pub is_live_equivalent : CandidateRecord → CandidateRecord → Bool
 is_live_equivalent c x = is_equivalent c x && not x.discarded
 

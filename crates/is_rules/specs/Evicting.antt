@@ -20,7 +20,7 @@ module _ (kind_of : PairRecord → ℕ) where
   abbrev pub AreCounted : List PairRecord → List ℕ → Type 0
   AreCounted pairs counts = (kind : ℕ) → kind < KINDS → slice_index counts kind ≡ kind_count pairs kind
 
-  -- No kind has more pairs.
+  -- No other kind has more pairs than this one.
   abbrev pub HasMost : List PairRecord → ℕ → Type 0
   HasMost pairs kind = (other : ℕ) → kind_count pairs other ≤ kind_count pairs kind
 
@@ -34,7 +34,7 @@ module _ (kind_of : PairRecord → ℕ) where
   abbrev pub IsLeastOfMost : List PairRecord → PairRecord → Type 0
   IsLeastOfMost pairs least = HasMost pairs (kind_of least) × IsLeastOfKind (kind_of least) pairs (Some least)
 
-  -- one of these pairs, or none if there is none
+  -- a pair of lowest priority of a kind with the most pairs, or none if there is no pair
   abbrev pub IsLowestOfMost : List PairRecord → Option PairRecord → Type 0
   IsLowestOfMost pairs None = pairs ≡ []
   IsLowestOfMost pairs (Some least) = IsLeastOfMost pairs least

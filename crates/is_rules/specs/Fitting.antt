@@ -11,7 +11,7 @@ USERNAME_LIMIT = 508
 abbrev pub MTU_FLOOR : ℕ
 MTU_FLOOR = 20 + (4 + USERNAME_LIMIT) + 12 + 8 + 4 + 24 + 8
 
--- the same with NOMINATION
+-- the length of the longest check with NOMINATION
 abbrev pub CHECK_ROOM : ℕ
 CHECK_ROOM = MTU_FLOOR + 8
 

@@ -93,7 +93,8 @@ module _ {H P : Type 0} where
   Says class.Success old call e bytes m path controlling =
       (q : RequestRecord) × IsServing old call e q × (m ≡ binding_reply q.id q.path.source) × (path ≡ reversed q.path)
       × IsPut bytes (binding_reply q.id (carried q.path.source))
-  -- So does a 487. Its request claimed the agent's own role with a tie-breaker that is not greater. The role does not change.
+  -- A 487 replies to the request that is served, on its reverse path. The request claimed the agent's own role with a tie-breaker that is
+  -- not greater. The role does not change.
   Says class.Failure old call e bytes m path controlling =
       (q : RequestRecord) × IsServing old call e q × (m ≡ binding_role_conflict_reply q.id) × (path ≡ reversed q.path)
       × IsPut bytes m × (conflict_of old q ≡ Send487) × (controlling ≡ old.controlling)

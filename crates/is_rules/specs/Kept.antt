@@ -5,7 +5,7 @@ use Rattle.is_candidate.specs.Candidates.{CandidateRecord}
 use Rattle.is_candidate.specs.Priorities.{candidate_priority, TOO_HIGH}
 use Rattle.is_pair.specs.Pairs.{PairRecord}
 
--- none has the greatest priority
+-- no candidate has the greatest priority
 abbrev pub NoneTooHigh : List CandidateRecord → Type 0
 NoneTooHigh cs = All (λ c. candidate_priority c < TOO_HIGH) cs
 

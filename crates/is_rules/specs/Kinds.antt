@@ -27,19 +27,19 @@ counted_kind c = if same_kind c.kind Host && is_public (socket_ip c.addr) then S
 abbrev pub is_reflexive : CandidateRecord → Bool
 is_reflexive c = same_kind (counted_kind c) ServerReflexive && not c.discarded
 
--- It has this base: packets from the base reach the outside.
+-- The candidate is a live one that counts as server-reflexive, and has this base: packets from the base reach the outside.
 abbrev pub is_reflexive_of : SocketAddr → CandidateRecord → Bool
 is_reflexive_of base c = is_reflexive c && same_address (base_of c) base
 
--- Its base has this IP version.
+-- The candidate is a live one that counts as server-reflexive, and its base has the IP version of this one.
 abbrev pub is_reflexive_like : SocketAddr → CandidateRecord → Bool
 is_reflexive_like base c = is_reflexive c && same_version (base_of c) base
 
--- Packets from this base reach the outside: such a candidate has it, or none has a base of its IP version.
+-- Packets from this base reach the outside: a candidate that counts as server-reflexive has it, or none has a base of its IP version.
 abbrev pub reaches_out : List CandidateRecord → SocketAddr → Bool
 reaches_out local base = list_any (is_reflexive_of base) local || not (list_any (is_reflexive_like base) local)
 
--- So do those of a relay.
+-- Packets of the candidate reach the outside: it is a relayed one, or packets from its base do.
 abbrev pub is_outer : List CandidateRecord → CandidateRecord → Bool
 is_outer local c = same_kind c.kind Relayed || reaches_out local (base_of c)
 
@@ -75,7 +75,7 @@ kind_of local remote p = kind_between local (candidate_at local p.local) (candid
 
 -- ---- turns
 
--- how many there are: one for each rank of a remote candidate, and the inner one
+-- how many kinds of pairs there are: one for each rank of a remote candidate, and the inner one
 abbrev pub KINDS : ℕ
 KINDS = 9
 
@@ -101,7 +101,7 @@ module _ (local remote : List CandidateRecord) (first : Precedence) (next now : 
       if is_named_by first.selected p then 0
       else (if first.urgent && is_urgent p then (if is_brought remote p then 2 else 1) else 3 + turn_of next (kind_of local remote p))
 
-  -- its turn comes earlier, or they have the same turn and it is due earlier
+  -- The turn of p comes earlier than that of q, or they have the same turn and p is due earlier.
   abbrev pub TurnsBefore : PairRecord → PairRecord → Type 0
   TurnsBefore p q = (turn_of_pair p < turn_of_pair q) ⊎ ((turn_of_pair p ≡ turn_of_pair q) × GoesBefore now t p q)
 

@@ -33,17 +33,17 @@ IsAskedNext number silence now t pairs (Some p) =
 
 -- ---- the silent pair is left
 
--- how much longer a pair is kept of which most checks were lost before
+-- how much longer a pair is kept of which many checks were lost before
 abbrev pub LOSSY_TIME : ℕ
 LOSSY_TIME = 2200 * MILLISECOND
 
--- Of its checks before the last `max_retransmits`, fewer had a response than had none.
-abbrev pub is_lossy : StunTiming → PairRecord → Bool
-is_lossy t p = nat_lt p.answers (p.checks_sent - t.max_retransmits - p.answers)
+-- More than a third of its checks were lost, from its first response to its last one.
+abbrev pub is_lossy : PairRecord → Bool
+is_lossy p = nat_lt p.answers (2 * p.lost)
 
 -- It was silent for long, for longer if it is lossy.
 abbrev pub is_silent_enough : ℕ → StunTiming → PairRecord → Bool
-is_silent_enough now t p = is_long_silent (if is_lossy t p then now - LOSSY_TIME else now) t p
+is_silent_enough now t p = is_long_silent (if is_lossy p then now - LOSSY_TIME else now) t p
 
 -- due a nanosecond from now, after all pairs that are due now, if the agent may nominate it
 abbrev pub hastened : Bool → ℕ → PairRecord → PairRecord

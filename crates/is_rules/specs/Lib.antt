@@ -31,7 +31,7 @@ pub mod Nominating
 pub mod Answers
 pub mod Restarting
 pub mod States
-pub mod Settling
+pub mod StateUpdates
 pub mod Charging
 pub mod Checking
 pub mod Due

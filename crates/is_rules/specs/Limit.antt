@@ -21,7 +21,7 @@ use Rattle.is_rules.specs.Request.{RequestRecord}
 abbrev pub discovered_count : List CandidateRecord → ℕ
 discovered_count remote = count_by is_temporary remote
 
--- A request may bring one more. Without a limit it always may.
+-- One more candidate may be brought. Without a limit it always may.
 abbrev pub is_below : Option ℕ → ℕ → Bool
 is_below limit n = option_map_or (λ most. nat_lt n most) limit true
 
@@ -46,21 +46,21 @@ IsVacancy remote pairs (Vacant r) = (r < length remote) × (is_vacant remote pai
 IsVacancy remote pairs Full = NoneVacantBelow (length remote) remote pairs
 IsVacancy remote pairs _ = ⊥
 
--- Below the limit it is appended.
+-- Below the limit an unknown sender is appended.
 abbrev pub IsRoom : Option ℕ → List CandidateRecord → List PairRecord → RemotePlace → Type 0
 IsRoom limit remote pairs place = MatchBool (has_room limit remote) (place ≡ Unknown) (IsVacancy remote pairs place)
 
 -- The limit acts on unknown senders only.
-abbrev pub Settles : Option ℕ → List CandidateRecord → List PairRecord → RemotePlace → RemotePlace → Type 0
-Settles limit remote pairs Unknown place = IsRoom limit remote pairs place
-Settles limit remote pairs (Known r) place = place ≡ Known r
-Settles limit remote pairs Barred place = place ≡ Barred
-Settles limit remote pairs (Vacant r) place = ⊥
-Settles limit remote pairs Full place = ⊥
+abbrev pub IsPlaceAtLimit : Option ℕ → List CandidateRecord → List PairRecord → RemotePlace → RemotePlace → Type 0
+IsPlaceAtLimit limit remote pairs Unknown place = IsRoom limit remote pairs place
+IsPlaceAtLimit limit remote pairs (Known r) place = place ≡ Known r
+IsPlaceAtLimit limit remote pairs Barred place = place ≡ Barred
+IsPlaceAtLimit limit remote pairs (Vacant r) place = ⊥
+IsPlaceAtLimit limit remote pairs Full place = ⊥
 
 -- where the sender of a request is among the remote candidates, or the place that it gets
 abbrev pub IsPlaceOf : Option ℕ → List CandidateRecord → List PairRecord → RequestRecord → RemotePlace → Type 0
-IsPlaceOf limit remote pairs q place = (found : RemotePlace) × IsRemotePlace remote q found × Settles limit remote pairs found place
+IsPlaceOf limit remote pairs q place = (found : RemotePlace) × IsRemotePlace remote q found × IsPlaceAtLimit limit remote pairs found place
 
 -- ---- local candidates that responses bring
 
@@ -68,11 +68,11 @@ IsPlaceOf limit remote pairs q place = (found : RemotePlace) × IsRemotePlace re
 abbrev pub is_mapped : CandidateRecord → Bool
 is_mapped c = same_kind c.kind PeerReflexive
 
--- Discarded ones count, since they stay in the list.
+-- How many peer-reflexive local candidates there are. Discarded ones count, since they stay in the list.
 abbrev pub mapped_count : List CandidateRecord → ℕ
 mapped_count local = count_by is_mapped local
 
--- A response may bring one more.
+-- A response may bring one more local candidate.
 abbrev pub has_local_room : Option ℕ → List CandidateRecord → Bool
 has_local_room limit local = is_below limit (mapped_count local)
 

@@ -17,7 +17,7 @@ use Rattle.is_rules.specs.declared.emitted.Emitted.{Emitted}
 use Rattle.is_rules.specs.Agent.{AgentRecord}
 use Rattle.is_rules.specs.Discarding.{change_place, local_discarded}
 use Rattle.is_rules.specs.Forming.{HasNumbers, partners, local_combinations, FormsAll}
-use Rattle.is_rules.specs.Settling.{ReselectsAfter}
+use Rattle.is_rules.specs.StateUpdates.{ReselectsAfter}
 
 -- If both candidates have the greatest priority, no pair priority fits into 64 bits.
 abbrev pub is_too_high : CandidateRecord → Bool

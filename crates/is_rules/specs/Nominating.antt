@@ -115,11 +115,11 @@ abbrev pub Names : SidesRecord → Option ℕ → Selection → Option Path → 
 Names s followed old emitted new = (top : Option PairRecord) × IsChosen s.controlling followed old top × NamesTop s followed top old emitted new
 
 module _ {H P : Type 0} where
-  -- Nominations have numbers: with renomination, by the agent's rules.
+  -- Nominations have numbers: with renomination and the profile `Modern`.
   abbrev pub numbers : AgentRecord H P → Bool
   numbers a = a.renominates && is_modern a.timing
 
-  -- By the numbers of the peer's nominations: the number of the pair that is selected.
+  -- the number of the pair that is selected by the numbers of the peer's nominations
   abbrev pub followed_by_number : AgentRecord H P → Option ℕ
   followed_by_number a = option_map (λ (p : PairRecord). p.number) (first_numbered a.controlling a.selected_pair a.pairs)
 
@@ -147,7 +147,8 @@ module _ {H P : Type 0} where
   abbrev pub nominates_at_once : AgentRecord H P → Bool
   nominates_at_once a = a.controlling && not a.lite && numbers a && a.nomination_due && is_some (pair_selected a.selected_pair a.pairs)
 
-  -- the same, or the selected pair is gone, and another one may be selected: `handle_timeout` is to be called soon
+  -- `handle_timeout` is to be called soon, if nominations have numbers: to nominate the path that was selected, or to select an eligible
+  -- pair if the selected one is gone.
   abbrev pub is_pressing : AgentRecord H P → Bool
   is_pressing a =
       numbers a

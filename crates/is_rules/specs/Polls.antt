@@ -3,7 +3,7 @@ use Rattle.std.specs.Prelude.{◌≡◌, ℕ, ◌*◌, min, max, ◌&&◌, ◌||
 use Rattle.std.specs.List.{list_any}
 use Rattle.is_proto.specs.Lists.{is_empty}
 use Rattle.is_proto.specs.Times.{MAX, MILLISECOND, SECOND, later}
-use Rattle.is_pair.specs.Due.{call_time_of, asked, is_beginning}
+use Rattle.is_pair.specs.Due.{call_time_of, scheduled, is_beginning}
 use Rattle.is_proto.specs.Packets.{Packet}
 use Rattle.is_stun.specs.Timing.{is_modern}
 use Rattle.is_rules.specs.declared.event.IceAgentEvent.{IceAgentEvent}
@@ -38,15 +38,16 @@ module _ {H P : Type 0} where
   abbrev pub is_settled : AgentRecord H P → Bool
   is_settled a = is_connected a.state && not (a.controlling && a.nomination_due)
 
-  -- It knows the peer, and an early request waits, a pair is at its beginning, or an urgent one is due soon.
+  -- The agent knows the peer, and an early request waits, a pair is at its beginning, or an urgent one is due soon.
   abbrev pub has_begun : ℕ → AgentRecord H P → Bool
   has_begun last a = is_some a.remote_creds && (not (is_empty a.queue) || list_any (is_beginning last) a.pairs || is_urged last a)
 
-  -- It is early, for an agent with `Modern` that is not settled: it has begun so, or only a nomination is still to be sent.
+  -- The pacing interval is that of early checks: with the profile `Modern`, before the agent is settled, once it has begun (`has_begun`)
+  -- or if only a nomination is still to be sent.
   abbrev pub is_early : ℕ → AgentRecord H P → Bool
   is_early last a = is_modern a.timing && not (is_settled a) && (is_connected a.state || has_begun last a)
 
-  -- the pacing interval early on: short with credit
+  -- the pacing interval of early checks: short if there is credit
   abbrev pub early_ta : ℕ → AgentRecord H P → ℕ
   early_ta last a = if has_credit last a then EARLY_TA else CHARGE
 
@@ -70,14 +71,14 @@ module _ {H P : Type 0} where
   abbrev pub WaitingTimeout : AgentRecord H P → ℕ → ℕ → AgentRecord H P → Type 0
   WaitingTimeout old last deadline new =
       (deadline ≡ soon old last)
-      × MatchBool (is_modern old.timing) (new ≡ record old { pairs = map (asked last old.timing) old.pairs }) (new ≡ old)
+      × MatchBool (is_modern old.timing) (new ≡ record old { pairs = map (scheduled last old.timing) old.pairs }) (new ≡ old)
 
-  -- If nothing waits, it fixes them.
+  -- If nothing waits, `poll_timeout` fixes the due times.
   abbrev pub IdleTimeout : AgentRecord H P → ℕ → ℕ → AgentRecord H P → Type 0
   IdleTimeout old last deadline new =
       MatchBool (is_idle old)
       ((deadline ≡ later last (3 * SECOND)) × (new ≡ old))
-      ((deadline ≡ max (earliest_call old last) (soon old last)) × (new ≡ record old { pairs = map (asked last old.timing) old.pairs }))
+      ((deadline ≡ max (earliest_call old last) (soon old last)) × (new ≡ record old { pairs = map (scheduled last old.timing) old.pairs }))
 
   abbrev pub NextTimeouts : AgentRecord H P → ℕ → ℕ → AgentRecord H P → Type 0
   NextTimeouts old last deadline new = MatchBool (is_waiting old) (WaitingTimeout old last deadline new) (IdleTimeout old last deadline new)

@@ -56,7 +56,7 @@ module _ {H P : Type 0} where
   StoresAt old c place new =
       FormsAll (with_remote c place old) (remote_combinations c (place_or_end place old.remote) old.local) new
 
-  -- Numbers are checked before memory.
+  -- The candidate is stored and paired, or the call fails: numbers are checked before memory.
   abbrev pub JoinsRemote : AgentRecord H P → CandidateRecord → Result (Unit {0}) IceError → AgentRecord H P → Type 0
   JoinsRemote old c (Ok _) new = HasNumbersFor old c × StoresAt old c (position (is_placeholder c) old.remote) new
   JoinsRemote old c (Err PairIdsExhausted) new = (¬ HasNumbersFor old c) × (new ≡ old)

@@ -38,9 +38,9 @@ events_kept true events = filter (λ e. not (is_selection e)) events
 events_kept false events = events
 
 module _ {H P : Type 0} where
-  -- These do not change: the role, with `Original` the early requests, the selected number, that of the peer's last nomination, the number of
-  -- the agent's last nomination, the turns of kinds,
-  -- the next pair number, the settings and the time of the last call.
+  -- The session is cleared. These do not change: the role, with `Original` the early requests, the selected number, that of the peer's
+  -- last nomination, and the number of the agent's last nomination. Nor do the turns of kinds, the next pair number, the settings and the
+  -- time of the last call.
   abbrev pub cleared : IceCreds → Bool → AgentRecord H P → AgentRecord H P
   cleared creds keep a = record a {
     local_creds = creds;
@@ -78,7 +78,7 @@ module _ {H P : Type 0} where
   abbrev pub unpaired : AgentRecord H P → AgentRecord H P
   unpaired a = record a { pairs = []; events = events_kept (is_modern a.timing) a.events }
 
-  -- the same, and the state Checking
+  -- no pairs, of the events those that are kept, and the state Checking
   abbrev pub emptied : AgentRecord H P → AgentRecord H P
   emptied a = with_state Checking (unpaired a)
 

@@ -1,5 +1,5 @@
--- Serving a Binding request (RFC 8445, section 7.3). There is one definition for each rule, in the order in which they act; each
--- ends in the next one. `s` is the state before the rule. `emitted` and `new` are what serving emits, and the state after it.
+-- Serving a Binding request (RFC 8445, section 7.3): what is chosen before anything changes, the steps, and their list, `ServesAt`. `s` is the
+-- state before, and `emitted` and `new` are what serving emits, and the state after it.
 use Rattle.std.specs.Prelude.{◌≡◌, ℕ, ◌==◌, ◌&&◌, ◌||◌, Bool, true, false, not, List, [], ◌∷◌, ◌++◌, length, slice_set, bytes_eq, max, unwrap_or, Option, Some, None}
 use Rattle.std.specs.Prelude.{is_some, MatchBool, MatchOption, if◌then◌else◌}
 use Rattle.std.specs.Option.{option_map_or}
@@ -34,7 +34,7 @@ use Rattle.is_rules.specs.Forming.{formed, with_pair}
 use Rattle.is_rules.specs.Queue.{queued}
 use Rattle.is_rules.specs.Sending.{carried, path_between, with_packet}
 use Rattle.is_rules.specs.Nominating.{numbers, NominatesWhere}
-use Rattle.is_rules.specs.Settling.{settled}
+use Rattle.is_rules.specs.StateUpdates.{state_updated}
 use Rattle.is_rules.specs.Roles.{conflict_of, switched}
 
 -- A lite agent sends no checks of its own: while it is controlled, each request makes the pair valid.
@@ -90,6 +90,20 @@ needs_pair_at Unknown pair discarded = not (is_some pair) && not discarded
 needs_pair_at (Vacant r) pair discarded = not (is_some pair) && not discarded
 needs_pair_at Full pair discarded = false
 
+-- The agent keeps its role, and sends a 487.
+abbrev pub is_487 : Conflict → Bool
+is_487 Absent = false
+is_487 Send487 = true
+is_487 SwitchRole = false
+
+-- The index of the sender among the remote candidates. None: only discarded candidates match it, or there is no place for it at the limit.
+abbrev pub sender_index : List CandidateRecord → RemotePlace → Option ℕ
+sender_index remote (Known r) = Some r
+sender_index remote Barred = None
+sender_index remote Unknown = Some (length remote)
+sender_index remote (Vacant r) = Some r
+sender_index remote Full = None
+
 module _ {H P : Type 0} where
   -- the request is dropped
   abbrev pub Drops : AgentRecord H P → Emitted → AgentRecord H P → Type 0
@@ -109,6 +123,19 @@ module _ {H P : Type 0} where
   abbrev pub nominates : AgentRecord H P → RequestRecord → Bool
   nominates s q = (as_taken (numbers s) q).use_candidate
 
+  -- The sender claims the agent's own role, and the agent keeps it: it sends a 487 (RFC 8445, section 7.3.1.1).
+  abbrev pub sends_487 : AgentRecord H P → RequestRecord → Bool
+  sends_487 s q = is_487 (conflict_of s q)
+
+  abbrev pub role_after : Conflict → AgentRecord H P → AgentRecord H P
+  role_after Absent s = s
+  role_after Send487 s = s
+  role_after SwitchRole s = switched s
+
+  -- The role switches if the sender claims it with a greater tie-breaker.
+  abbrev pub role_resolved : RequestRecord → AgentRecord H P → AgentRecord H P
+  role_resolved q s = role_after (conflict_of s q) s
+
   abbrev pub request_counted : AgentRecord H P → AgentRecord H P
   request_counted s = record s { stats = record s.stats { bind_request_recv = counted s.stats.bind_request_recv } }
 
@@ -119,9 +146,27 @@ module _ {H P : Type 0} where
   abbrev pub with_sender : RequestRecord → AgentRecord H P → AgentRecord H P
   with_sender q s = record s { remote = s.remote ++ sender_candidate s q ∷ [] }
 
-  -- It replaces the one at the index.
+  -- The sender becomes a remote candidate in place of the one at the index.
   abbrev pub with_sender_at : ℕ → RequestRecord → AgentRecord H P → AgentRecord H P
   with_sender_at r q s = record s { remote = slice_set s.remote r (sender_candidate s q) }
+
+  -- An unknown sender is appended to the remote candidates. At the limit it replaces a candidate that has no pair.
+  abbrev pub sender_added : RequestRecord → RemotePlace → AgentRecord H P → AgentRecord H P
+  sender_added q (Known r) s = s
+  sender_added q Barred s = s
+  sender_added q Unknown s = with_sender q s
+  sender_added q (Vacant r) s = with_sender_at r q s
+  sender_added q Full s = s
+
+  -- The number of the pair of both candidates. If there is none, one is added; but not with a local candidate that is discarded: None.
+  abbrev pub pair_number : ℕ → Option ℕ → AgentRecord H P → Option ℕ
+  pair_number l (Some number) s = Some number
+  pair_number l None s = if (candidate_at s.local l).discarded then None else Some s.next_number
+
+  -- The pair of both candidates is added, if there is none, without regard to the limit and to redundancy (RFC 8445, section 7.3.1.4).
+  abbrev pub pair_added : ℕ → ℕ → Option ℕ → AgentRecord H P → AgentRecord H P
+  pair_added l r (Some number) s = s
+  pair_added l r None s = if (candidate_at s.local l).discarded then s else with_pair (formed s l r) s
 
   -- when a request triggers a check: at once, and not before the last `handle_timeout` call
   abbrev pub trigger_time : RequestRecord → AgentRecord H P → ℕ
@@ -142,6 +187,10 @@ module _ {H P : Type 0} where
   abbrev pub selects_at_requests : AgentRecord H P → Bool
   selects_at_requests s = if is_modern s.timing then true else s.controlling
 
+  -- Nomination is evaluated when a request arrives on the pair with this number.
+  abbrev pub evaluates_at : ℕ → AgentRecord H P → Bool
+  evaluates_at number s = selects_at_requests s && is_valid_at number s.pairs
+
   -- ---- what serving prepares
 
   -- the candidate that serving adds
@@ -152,7 +201,25 @@ module _ {H P : Type 0} where
   sender_at s q (Vacant r) = Some (sender_candidate s q)
   sender_at s q Full = None
 
-  -- ---- the rules
+  -- ---- what is chosen before anything changes
+
+  -- These are candidates, and a pair, at which the request can be served. None: the request is dropped before that.
+  abbrev pub Chooses : AgentRecord H P → RequestRecord → Option Places → Type 0
+  Chooses s q None = MatchBool (is_for_other_peer s q) (Unit {0}) (local_place s.local q ≡ None)
+  Chooses s q (Some at) =
+      (is_for_other_peer s q ≡ false) × (local_place s.local q ≡ Some at.local) × IsSenderPlace s q at.remote
+      × IsPairBetween s.pairs at.local (remote_index s.remote at.remote) at.pair
+
+  -- A pair must be added to serve the request at these candidates.
+  abbrev pub needs_pair : AgentRecord H P → RequestRecord → Places → Bool
+  needs_pair s q at =
+      is_admitted (conflict_of s q) s.controlling q && needs_pair_at at.remote at.pair (candidate_at s.local at.local).discarded
+
+  -- A pair must be added to serve the request, and no number is left: they run from 0 to one below the greatest counter.
+  abbrev pub lacks_number : AgentRecord H P → RequestRecord → Places → Bool
+  lacks_number s q at = s.next_number == MAX && needs_pair s q at
+
+  -- ---- the steps
 
   module _ (mac : H → List ℕ → List ℕ → List ℕ) where
     -- The success response is signed with the present local password, and carries the address from which the request came. It is
@@ -160,7 +227,7 @@ module _ {H P : Type 0} where
     abbrev pub replied : RequestRecord → Path → AgentRecord H P → AgentRecord H P
     replied q path s = with_packet path (written (mac s.provider) (Some s.local_creds.pass) (binding_reply q.id q.path.source)) s
 
-    -- The 487 is signed with the same password, and sent on the reverse path of the request.
+    -- The 487 is signed with the present local password, and sent on the reverse path of the request.
     abbrev pub role_conflict_sent : RequestRecord → AgentRecord H P → AgentRecord H P
     role_conflict_sent q s = with_packet (reversed q.path) (written (mac s.provider) (Some s.local_creds.pass) (binding_role_conflict_reply q.id)) s
 
@@ -170,95 +237,48 @@ module _ {H P : Type 0} where
         IsPut (written (mac s.provider) (Some s.local_creds.pass) (binding_reply q.id q.path.source)) (binding_reply q.id (carried q.path.source))
         × (emitted ≡ emitted_by (Some (issued_as path Success q.id)) selected_paths None) × (new ≡ replied q path s)
 
-    -- The pair records the request. A controlling agent evaluates nomination if the pair is valid, and with `Modern` a controlled one too.
-    -- If that selects a path, the state is evaluated with `Modern`. Then the response is sent.
-    abbrev pub RecordsAndResponds : RequestRecord → ℕ → ℕ → ℕ → AgentRecord H P → Emitted → AgentRecord H P → Type 0
-    RecordsAndResponds q l r number s emitted new =
-        (path : Option Path) × (mid : AgentRecord H P)
-        × NominatesWhere (selects_at_requests s && is_valid_at number s.pairs) (pair_served q number s) path mid
-        × Replies q (path_between s l r) path (settled (is_some path) (trigger_time q s) mid) emitted new
-
-    -- A pair is added, without regard to the limit and to redundancy. There is a number left for it.
-    abbrev pub AddsPairAndResponds : RequestRecord → ℕ → ℕ → AgentRecord H P → Emitted → AgentRecord H P → Type 0
-    AddsPairAndResponds q l r s emitted new = (s.next_number == MAX ≡ false) × RecordsAndResponds q l r s.next_number (with_pair (formed s l r) s) emitted new
-
-    -- A pair of the two candidates records the request. If there is none, one is added; but if the local candidate is discarded,
-    -- the request is dropped instead (RFC 8445, section 7.3.1.4).
-    abbrev pub FindsOrAddsPair : RequestRecord → ℕ → ℕ → Option ℕ → AgentRecord H P → Emitted → AgentRecord H P → Type 0
-    FindsOrAddsPair q l r (Some number) s emitted new = RecordsAndResponds q l r number s emitted new
-    FindsOrAddsPair q l r None s emitted new =
-        MatchBool (candidate_at s.local l).discarded (Drops s emitted new) (AddsPairAndResponds q l r s emitted new)
-
-    abbrev pub Joins : RequestRecord → ℕ → ℕ → AgentRecord H P → Emitted → AgentRecord H P → Type 0
-    Joins q l r s emitted new = (pair : Option ℕ) × IsPairBetween s.pairs l r pair × FindsOrAddsPair q l r pair s emitted new
-
-    -- An unknown sender is appended to the remote candidates. At the limit it replaces a candidate that has no pair, or the
-    -- request is dropped. It is dropped too if only discarded candidates match the sender.
-    abbrev pub AddsUnknownSender : RequestRecord → ℕ → RemotePlace → AgentRecord H P → Emitted → AgentRecord H P → Type 0
-    AddsUnknownSender q l (Known r) s emitted new = Joins q l r s emitted new
-    AddsUnknownSender q l Barred s emitted new = Drops s emitted new
-    AddsUnknownSender q l Unknown s emitted new = Joins q l (length s.remote) (with_sender q s) emitted new
-    AddsUnknownSender q l (Vacant r) s emitted new = Joins q l r (with_sender_at r q s) emitted new
-    AddsUnknownSender q l Full s emitted new = Drops s emitted new
-
-    -- The remote candidate is looked up.
-    abbrev pub FindsSender : RequestRecord → ℕ → AgentRecord H P → Emitted → AgentRecord H P → Type 0
-    FindsSender q l s emitted new = (place : RemotePlace) × IsSenderPlace s q place × AddsUnknownSender q l place s emitted new
-
-    -- A controlling agent drops a request with USE-CANDIDATE, and counts any other request.
-    abbrev pub CountsAndServes : RequestRecord → ℕ → AgentRecord H P → Emitted → AgentRecord H P → Type 0
-    CountsAndServes q l s emitted new = MatchBool (is_misled s.controlling q) (Drops s emitted new) (FindsSender q l (request_counted s) emitted new)
-
     -- The 487 is sent, and serving ends.
     abbrev pub SendsRoleConflict : RequestRecord → AgentRecord H P → Emitted → AgentRecord H P → Type 0
     SendsRoleConflict q s emitted new =
         IsPut (written (mac s.provider) (Some s.local_creds.pass) (binding_role_conflict_reply q.id)) (binding_role_conflict_reply q.id)
         × (emitted ≡ issued_only (reversed q.path) Failure q.id) × (new ≡ role_conflict_sent q s)
 
-    -- The sender claims the agent's own role: the greater tie-breaker keeps it (RFC 8445, section 7.3.1.1).
-    abbrev pub ResolvesRoleConflictBy : Conflict → RequestRecord → ℕ → AgentRecord H P → Emitted → AgentRecord H P → Type 0
-    ResolvesRoleConflictBy Absent q l s emitted new = CountsAndServes q l s emitted new
-    ResolvesRoleConflictBy Send487 q l s emitted new = SendsRoleConflict q s emitted new
-    ResolvesRoleConflictBy SwitchRole q l s emitted new = CountsAndServes q l (switched s) emitted new
+    -- The steps of serving a request at these places, in the order of RFC 8445, section 7.3.1, each with the state after it: the role conflict,
+    -- USE-CANDIDATE to a controlling agent, the count, the sender, the pair, its check and its record, nomination with the state, and the
+    -- response. Serving ends early with a 487, or the request is dropped in the state so far.
+    abbrev pub ServesAt : RequestRecord → Places → AgentRecord H P → Emitted → AgentRecord H P → Type 0
+    ServesAt q at s emitted new =
+        MatchBool (sends_487 s q) (SendsRoleConflict q s emitted new) (
+        let s1 = role_resolved q s in
+        MatchBool (is_misled s1.controlling q) (Drops s1 emitted new) (
+        let s2 = request_counted s1 in
+        MatchOption (sender_index s2.remote at.remote) (Drops s2 emitted new) (λ r.
+        let s3 = sender_added q at.remote s2 in
+        MatchOption (pair_number at.local at.pair s3) (Drops s3 emitted new) (λ number.
+        let s4 = pair_added at.local r at.pair s3 in
+        let s5 = pair_served q number s4 in
+        (path : Option Path) × (s6 : AgentRecord H P)
+        × NominatesWhere (evaluates_at number s4) s5 path s6
+        × Replies q (path_between s4 at.local r) path (state_updated (is_some path) (trigger_time q s4) s6) emitted new))))
 
-    abbrev pub ResolvesRoleConflict : RequestRecord → ℕ → AgentRecord H P → Emitted → AgentRecord H P → Type 0
-    ResolvesRoleConflict q l s emitted new = ResolvesRoleConflictBy (conflict_of s q) q l s emitted new
-
-    -- The local candidate is looked up. Without one the request is dropped.
-    abbrev pub ServesHere : RequestRecord → AgentRecord H P → Emitted → AgentRecord H P → Type 0
-    ServesHere q s emitted new = MatchOption (local_place s.local q) (Drops s emitted new) (λ l. ResolvesRoleConflict q l s emitted new)
-
-    -- A request that names another peer is dropped.
+    -- A request is dropped if it names another peer, or if no local candidate received it. Otherwise a number is left for the pair that it may
+    -- need, and it is served at the places that are chosen.
     abbrev pub Serves : RequestRecord → AgentRecord H P → Emitted → AgentRecord H P → Type 0
-    Serves q s emitted new = MatchBool (is_for_other_peer s q) (Drops s emitted new) (ServesHere q s emitted new)
+    Serves q s emitted new =
+        (choice : Option Places) × Chooses s q choice
+        × MatchOption choice (Drops s emitted new) (λ at. (lacks_number s q at ≡ false) × ServesAt q at s emitted new)
 
     -- If no remote credentials are known, the request is queued.
     abbrev pub HandlesRequest : RequestRecord → AgentRecord H P → Emitted → AgentRecord H P → Type 0
     HandlesRequest q s emitted new = MatchOption s.remote_creds (Queues q s emitted new) (λ _. Serves q s emitted new)
 
-  -- ---- when a pair is needed and no number is left
-
-  -- These are candidates, and a pair, at which the request can be served. None: the request is dropped before that.
-  abbrev pub Chooses : AgentRecord H P → RequestRecord → Option Places → Type 0
-  Chooses s q None = MatchBool (is_for_other_peer s q) (Unit {0}) (local_place s.local q ≡ None)
-  Chooses s q (Some at) =
-      (is_for_other_peer s q ≡ false) × (local_place s.local q ≡ Some at.local) × IsSenderPlace s q at.remote
-      × IsPairBetween s.pairs at.local (remote_index s.remote at.remote) at.pair
-
-  -- A pair must be added for these candidates.
-  abbrev pub needs_pair : AgentRecord H P → RequestRecord → Places → Bool
-  needs_pair s q at =
-      is_admitted (conflict_of s q) s.controlling q && needs_pair_at at.remote at.pair (candidate_at s.local at.local).discarded
-
-  -- numbers run from 0 to one below the greatest counter
-  abbrev pub lacks_number : AgentRecord H P → RequestRecord → Places → Bool
-  lacks_number s q at = s.next_number == MAX && needs_pair s q at
+  -- ---- when no number is left for a pair
 
   -- For a choice of candidates a pair must be added, and no number is left.
   abbrev pub LacksNumber : AgentRecord H P → RequestRecord → Type 0
   LacksNumber s q = (at : Places) × Chooses s q (Some at) × (lacks_number s q at ≡ true)
 
-  -- This is so for every possible choice.
+  -- For every possible choice of candidates a pair must be added, and no number is left.
   abbrev pub AlwaysLacksNumber : AgentRecord H P → RequestRecord → Type 0
   AlwaysLacksNumber s q = LacksNumber s q × ((at : Places) → Chooses s q (Some at) → lacks_number s q at ≡ true)
 
@@ -268,6 +288,6 @@ module _ {H P : Type 0} where
   MayFailAtRequest s q OutOfMemory = ¬ AlwaysLacksNumber s q
   MayFailAtRequest s q _ = ⊥
 
-  -- Why the arrival of a request may fail: queueing it fails only for an allocation failure, and serving it as above.
+  -- Why the arrival of a request may fail: queueing it fails only for an allocation failure, and serving it as in `MayFailAtRequest`.
   abbrev pub MayFailAtArrival : AgentRecord H P → RequestRecord → IceError → Type 0
   MayFailAtArrival s q error = MatchOption s.remote_creds (error ≡ OutOfMemory) (λ _. MayFailAtRequest s q error)

@@ -22,7 +22,7 @@ use Rattle.is_rules.specs.Discarding.{Invalidates}
 use Rattle.is_rules.specs.Local.{AddsLocal}
 use Rattle.is_rules.specs.Remote.{AddsRemote}
 use Rattle.is_rules.specs.Restarting.{Restarts, Recreates}
-use Rattle.is_rules.specs.Settling.{ReselectsAfter}
+use Rattle.is_rules.specs.StateUpdates.{ReselectsAfter}
 use Rattle.is_rules.specs.Accepting.{HandlesPacket}
 use Rattle.is_rules.specs.Timeouts.{TimesOut}
 use Rattle.is_rules.specs.Polls.{PollsTransmit, PollsEvent, PollsTimeout}

@@ -20,7 +20,7 @@ use Rattle.is_rules.specs.Agent.{AgentRecord}
 use Rattle.is_rules.specs.Leaving.{path_left}
 use Rattle.is_rules.specs.Nominating.{Nominates}
 use Rattle.is_rules.specs.States.{same_state, evaluated}
-use Rattle.is_rules.specs.Settling.{started, settled}
+use Rattle.is_rules.specs.StateUpdates.{started, state_updated}
 use Rattle.is_rules.specs.Serving.{Serves, MayFailAtRequest}
 use Rattle.is_rules.specs.Queue.{queue_cleared, first_taken, request_at}
 use Rattle.is_rules.specs.Checking.{MayCheck}
@@ -32,13 +32,14 @@ module _ {H P : Type 0} where
   abbrev pub start_emitted : AgentRecord H P → AgentRecord H P
   start_emitted a = record a { events = if same_state a.state New then a.events ++ IceRestart a.local_creds ∷ [] else a.events }
 
-  -- Then the state is evaluated, unless it is after nomination, and outdated early requests are removed.
+  -- A `handle_timeout` call starts: after the start event the state is evaluated, unless it is after nomination, and outdated early
+  -- requests are removed.
   abbrev pub timeout_begun : ℕ → AgentRecord H P → AgentRecord H P
   timeout_begun now a = queue_cleared now (started now (start_emitted a))
 
   -- ---- pairs that are removed after timeout
 
-  -- Consent expired (RFC 7675). Under lite: the last request on the pair is too old.
+  -- The consent of the pair expired (RFC 7675). Of a lite agent: the last request on the pair is too old.
   abbrev pub is_expired : ℕ → AgentRecord H P → PairRecord → Bool
   is_expired now a p = due.is_pair_expired a.lite now a.timing p
 
@@ -50,7 +51,7 @@ module _ {H P : Type 0} where
   RemovesExpired now old path new =
       MatchBool (list_any (is_expired now old) old.pairs)
       ((mid : AgentRecord H P) × Nominates (expired_gone now old) path mid × (new ≡ evaluated now mid))
-      ((path ≡ None) × (new ≡ settled true now old))
+      ((path ≡ None) × (new ≡ state_updated true now old))
 
   -- ---- the call
 

@@ -32,7 +32,7 @@ fn is_source(source: &Source, path: &Path) -> bool
     same_address(source.address, path.source) && same_protocol(source.proto, path.proto)
 }
 
-/// This source was discovered before.
+/// The source of a packet on this path was discovered before.
 pub fn is_discovered(seen: &[Source], path: &Path) -> bool
     ensures { result ≡ list_any (is_source path.now) seen.now }
 {

@@ -33,7 +33,7 @@ const ROLE_CONFLICT: u16 = 487;
 
 // ---- which responses are expected
 
-/// Any pair passes.
+/// A test that any pair passes.
 #[derive(Clone, Copy)]
 struct Any;
 

@@ -20,12 +20,12 @@ pub fn write_username(name: &mut String, peer: &IceCreds, own: &IceCreds) -> Res
 /// What a check contains of its pair, and its path.
 #[derive(Clone, Copy)]
 pub struct Draft {
-    /// The path on which it is sent.
+    /// The path on which the check is sent.
     pub path: Path,
-    /// The value of its PRIORITY.
+    /// The value of PRIORITY.
     pub priority: u32,
     /// The pair is nominated, and its nomination is not replaced by a later one.
     pub nominated: bool,
-    /// The value of its NOMINATION.
+    /// The value of NOMINATION.
     pub nomination: Option<u32>,
 }

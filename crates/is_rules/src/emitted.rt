@@ -14,23 +14,23 @@ pub struct Path {
     pub proto: Protocol,
     /// Where packets are sent from.
     pub source: SocketAddr,
-    /// Where they are sent to.
+    /// Where packets are sent to.
     pub destination: SocketAddr,
 }
 
 /// A packet that was issued.
 #[derive(Clone, Copy, Debug, PartialEq, Eq)]
 pub struct Issued {
-    /// The path that it takes.
+    /// The path of the packet.
     pub path: Path,
-    /// The class of its message.
+    /// The class of the packet's message.
     pub class: Class,
-    /// The transaction id of its message.
+    /// The transaction ID of the packet's message.
     pub id: TransId,
 }
 
 impl Issued {
-    /// This packet, on this path.
+    /// An issued packet with this path, class and transaction ID.
     pub fn new(path: Path, class: Class, id: TransId) -> Issued
         ensures { result ≡ issued_as path class id.0 }
     {
@@ -56,7 +56,7 @@ impl Path {
 pub struct Emitted {
     /// The packet that the call issued.
     pub issued: Option<Issued>,
-    /// The paths that it selected (`NominatedSend`), in order.
+    /// The paths that the call selected (`NominatedSend`), in order.
     pub selected_paths: [Option<Path>; 2],
 }
 

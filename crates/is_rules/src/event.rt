@@ -18,7 +18,7 @@ pub enum IceAgentEvent {
     DiscoveredRecv {
         /// The protocol of the packet.
         proto: Protocol,
-        /// Where it came from.
+        /// Where the packet came from.
         source: SocketAddr,
     },
     /// Media is sent on this path from now on, until the next such event (RFC 8445, section 8.1.1).

@@ -116,7 +116,7 @@ fn evict_by_kind(pairs: &mut Checklist, limit: usize, kinds: &KindTable<'_>)
     }
 }
 
-/// The same with a table of the kinds, if there are more pairs.
+/// If there are more pairs than the limit, makes a table of the kinds and removes pairs of the kind with the most pairs down to the limit.
 fn evict_of_most(pairs: &mut Checklist, limit: usize, local: &[Candidate], remote: &[Candidate])
     requires placed { are_placed local.now remote.now (multiset_of pairs.old) ≡ true }
     ensures evicted { EvictsOfMost (kind_of local.now remote.now) limit (multiset_of pairs.old) (multiset_of pairs.new) }

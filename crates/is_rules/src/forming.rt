@@ -165,7 +165,7 @@ fn try_one(
     }
 }
 
-/// The same, and the slot of a new pair holds it.
+/// A combination becomes a pair as in `try_one`. If there is a new pair, the combination's slot holds it.
 fn try_next(
     alloc: Global,
     sides: Sides<'_>,

@@ -36,14 +36,14 @@ fn has_any_reflexive(local: &[Candidate]) -> bool
     local.iter().any(|c| is_reflexive(c))
 }
 
-/// None does: then packets of each candidate reach the outside.
+/// No live candidate counts as server-reflexive: then packets of each candidate reach the outside.
 fn are_all_outer(local: &[Candidate]) -> bool
     ensures { result ≡ true → (c : CandidateRecord) → side_of local.now c ≡ 0 }
 {
     !has_any_reflexive(local)
 }
 
-/// The parts of the first 64 candidates.
+/// The parts of the first 64 local candidates in the kinds of their pairs.
 fn sides_of(local: &[Candidate]) -> [u8; 64]
     ensures { (place : ℕ) → place < 64 → place < length local.now → slice_index result place ≡ side_of local.now (candidate_at local.now place) }
 {
@@ -54,7 +54,7 @@ fn sides_of(local: &[Candidate]) -> [u8; 64]
     sides
 }
 
-/// The same, unless all are outer ones.
+/// The parts of the first 64 local candidates in the kinds of their pairs, unless packets of all candidates reach the outside.
 fn sides_unless(all_outer: bool, local: &[Candidate]) -> [u8; 64]
     ensures { all_outer ≡ false → (place : ℕ) → place < 64 → place < length local.now → slice_index result place ≡ side_of local.now (candidate_at local.now place) }
 {

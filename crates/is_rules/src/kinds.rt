@@ -47,28 +47,28 @@ pub(crate) fn is_reflexive(candidate: &Candidate) -> bool
     same_kind(counted_kind(candidate), CandidateKind::ServerReflexive) && !is_discarded(candidate)
 }
 
-/// A live candidate that counts as server-reflexive has this base.
+/// The candidate is a live one that counts as server-reflexive, and has this base.
 fn is_reflexive_of(address: SocketAddr, candidate: &Candidate) -> bool
     ensures { result ≡ is_reflexive_of address candidate.now }
 {
     is_reflexive(candidate) && same_address(base(candidate), address)
 }
 
-/// A live candidate that counts as server-reflexive, whose base has the IP version of this one.
+/// The candidate is a live one that counts as server-reflexive, and its base has the IP version of this address.
 fn is_reflexive_like(address: SocketAddr, candidate: &Candidate) -> bool
     ensures { result ≡ is_reflexive_like address candidate.now }
 {
     is_reflexive(candidate) && same_version(base(candidate), address)
 }
 
-/// Such a candidate has this base.
+/// A live candidate that counts as server-reflexive has this base.
 fn has_reflexive(local: &[Candidate], address: SocketAddr) -> bool
     ensures { result ≡ list_any (is_reflexive_of address) local.now }
 {
     local.iter().any(|c| is_reflexive_of(address, c))
 }
 
-/// Such a candidate has a base of this IP version.
+/// A live candidate that counts as server-reflexive has a base with the IP version of this address.
 fn has_reflexive_like(local: &[Candidate], address: SocketAddr) -> bool
     ensures { result ≡ list_any (is_reflexive_like address) local.now }
 {
@@ -293,8 +293,8 @@ fn first_in_round<'a>(pairs: &'a Checklist, round: &Round<'_>) -> Option<&'a Can
     first
 }
 
-/// The same by looking at all pairs. It is a separate function, so that calls that find no pair due do not pay for the table of kinds. Often few
-/// pairs are due, and so no rank is computed first.
+/// Looks at all pairs and returns the one to check ahead, as in `next_ahead`. It is a separate function, so that calls that find no pair
+/// due do not pay for the table of kinds. Often few pairs are due, and so no rank is computed first.
 #[inline(never)]
 fn next_by_turns<'a>(
     pairs: &'a Checklist,
@@ -326,7 +326,7 @@ fn goes_first(precedence: Precedence, pair: &CandidatePair) -> bool
     is_named_by(precedence.selected, pair) || (precedence.urgent && is_urgent(pair))
 }
 
-/// Whether such a pair is due.
+/// Whether a pair that comes before all kinds is due.
 #[derive(Clone, Copy)]
 struct FirstDue<'a> {
     precedence: Precedence,

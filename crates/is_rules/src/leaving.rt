@@ -11,7 +11,7 @@ use crate::nomination::is_eligible;
 use crate::timeout::awaits_nomination;
 use is_pair::checklist::{Checklist, Expired, PairChange, PairTest, goes_before};
 use is_pair::pair::{CandidatePair, CheckState, Span};
-use is_pair::{is_long_silent, move_next, outlives};
+use is_pair::{is_long_silent, lost_checks, move_next, outlives};
 use is_proto::{Duration, Instant};
 use is_stun::stun::StunTiming;
 
@@ -46,25 +46,21 @@ impl PairTest for MayReplace<'_> {
     }
 }
 
-/// How much longer a pair is kept of which most checks were lost before: then the checks of another second are rarely lost, too.
+/// How much longer a pair is kept of which many checks were lost before: then the checks of another second are rarely lost, too.
 const LOSSY_TIME: Duration = Duration(2_200_000_000);
 
-/// Whether fewer of its checks before the last `max_retransmits` had a response than had none.
-fn is_lossy(pair: &CandidatePair, timing: &StunTiming) -> bool
-    ensures { result ≡ is_lossy timing.now pair.now }
+/// Whether more than a third of its checks were lost, from its first response to its last one.
+fn is_lossy(pair: &CandidatePair) -> bool
+    ensures { result ≡ is_lossy pair.now }
 {
-    let answers = pair.responses_received();
-    let before = pair
-        .checks_sent()
-        .saturating_sub(timing.max_retransmits() as u64);
-    answers < before.saturating_sub(answers)
+    pair.responses_received() < 2 * lost_checks(pair) as u64
 }
 
 /// Whether the pair was silent for long, for longer if it is lossy.
 pub fn is_silent_enough(pair: &CandidatePair, timing: &StunTiming, now: Instant) -> bool
     ensures { result ≡ is_silent_enough now.0 timing.now pair.now }
 {
-    let by = if is_lossy(pair, timing) {
+    let by = if is_lossy(pair) {
         Instant(now.0.saturating_sub(LOSSY_TIME.0))
     } else {
         now

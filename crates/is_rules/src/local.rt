@@ -59,7 +59,7 @@ pub fn count_alike(candidate: &Candidate, local: &[Candidate]) -> usize
         .count()
 }
 
-/// What the object returns, or the default if no object is set.
+/// The local preference of a candidate: what the object returns, or the default if no object is set.
 pub fn preference_for<P: LocalPreference>(
     object: &Option<P>,
     candidate: &Candidate,

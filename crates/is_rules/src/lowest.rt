@@ -145,7 +145,7 @@ fn going_counts(pairs: &Checklist, going: &Going<'_>) -> [usize; 9]
     counts
 }
 
-/// Those that go and those that stay are all.
+/// Of each kind, the pairs that go and those that stay are as many as there are.
 fn are_sums(gone: &[usize; 9], stays: &[usize; 9], counts: &[usize; 9]) -> bool
     ensures { result ≡ true → AreSums gone.now stays.now counts.now }
 {

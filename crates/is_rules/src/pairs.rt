@@ -75,9 +75,9 @@ pub struct ServingRole {
 /// Whether, and when, the request triggers a check of the pair.
 #[derive(Clone, Copy)]
 pub struct Trigger {
-    /// The first request on a pair does.
+    /// Whether the first request on a pair that is not valid triggers a check: with the profile `Modern`.
     pub modern: bool,
-    /// When it is due.
+    /// When the check is due.
     pub at: Instant,
 }
 

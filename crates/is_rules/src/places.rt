@@ -23,15 +23,16 @@ use std::net::SocketAddr;
 /// Where the remote candidate of a request is in its list.
 #[derive(Clone, Copy, Debug, PartialEq, Eq)]
 pub enum RemotePlace {
-    /// At this index.
+    /// The remote candidate is at this index.
     Known(usize),
-    /// Only discarded candidates have the address and the protocol.
+    /// Only discarded candidates have the sender's address and protocol.
     Barred,
-    /// No candidate has them, and the sender is appended.
+    /// No candidate has the sender's address and protocol, and the sender is appended.
     Unknown,
-    /// No candidate has them, and the limit is reached: the sender replaces the candidate at this index, which has no pair.
+    /// No candidate has the sender's address and protocol, and the limit is reached: the sender replaces the candidate at this index,
+    /// which has no pair.
     Vacant(usize),
-    /// No candidate has them, and there is no place for another one.
+    /// No candidate has the sender's address and protocol, and there is no place for another one.
     Full,
 }
 

@@ -14,17 +14,17 @@ use std::alloc::{AllocError, Global};
 /// A Binding request that the agent received (RFC 8445, section 7.3).
 #[derive(Clone, Copy)]
 pub struct Request<'a> {
-    /// When it was received.
+    /// When the request was received.
     pub time: Instant,
-    /// The path on which it was received: from the sender's address to the local one.
+    /// The path on which the request was received: from the sender's address to the local one.
     pub path: Path,
-    /// Its transaction id.
+    /// The transaction ID of the request.
     pub id: TransId,
-    /// The value of its PRIORITY.
+    /// The value of PRIORITY.
     pub priority: u32,
-    /// It has USE-CANDIDATE.
+    /// The request has USE-CANDIDATE.
     pub use_candidate: bool,
-    /// The value of its NOMINATION.
+    /// The value of NOMINATION.
     pub nomination: Option<u32>,
     /// The sender's username fragment.
     pub ufrag: &'a str,
@@ -101,17 +101,17 @@ impl<'a> Request<'a> {
 /// An early request: received before the remote credentials.
 #[derive(Drop)]
 pub struct Waiting {
-    /// When it was received.
+    /// When the request was received.
     pub time: Instant,
-    /// The path on which it was received: from the sender's address to the local one.
+    /// The path on which the request was received: from the sender's address to the local one.
     pub path: Path,
-    /// Its transaction id.
+    /// The transaction ID of the request.
     pub id: TransId,
-    /// The value of its PRIORITY.
+    /// The value of PRIORITY.
     pub priority: u32,
-    /// It has USE-CANDIDATE.
+    /// The request has USE-CANDIDATE.
     pub use_candidate: bool,
-    /// The value of its NOMINATION.
+    /// The value of NOMINATION.
     pub nomination: Option<u32>,
     /// The sender's username fragment.
     pub ufrag: Text,

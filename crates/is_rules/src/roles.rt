@@ -18,9 +18,9 @@ use is_pair::pair::CandidatePair;
 pub enum Conflict {
     /// The sender does not claim the agent's role.
     Absent,
-    /// It does, with no greater tie-breaker, or the agent keeps its role in any case: the agent sends a 487.
+    /// The sender claims the agent's role with no greater tie-breaker, or the agent keeps its role in any case: the agent sends a 487.
     Send487,
-    /// It does, with a greater tie-breaker: the agent switches its role.
+    /// The sender claims the agent's role with a greater tie-breaker: the agent switches its role.
     SwitchRole,
 }
 

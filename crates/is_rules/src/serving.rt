@@ -12,11 +12,11 @@ use is_candidate::Candidate;
 /// The candidates and the pair at which a request can be served.
 #[derive(Clone, Copy, Debug, PartialEq, Eq)]
 pub struct Places {
-    /// The index of the local candidate that received it.
+    /// The index of the local candidate that received the request.
     pub local: usize,
-    /// Where its sender is among the remote candidates.
+    /// Where the sender of the request is among the remote candidates.
     pub remote: RemotePlace,
-    /// The number of the pair of both.
+    /// The number of the pair of both candidates, if there is one.
     pub pair: Option<u64>,
 }
 

@@ -1,7 +1,7 @@
 //! The lemmas and theorems of each transition of an agent. Each is the contract of a function that does nothing. Those of
 //! executions are in `is_theorems`.
 
-ghost use Rattle.is_rules.specs.TimeoutTimes.{TimeoutIsAhead, TimeoutIsInTime, TimeoutIsSoon, TimeoutIsGiven, CallsAreNoted, CallsAreFollowed, NominationsAreSent};
+ghost use Rattle.is_rules.specs.TimeoutTimes.{TimeoutIsAhead, TimeoutIsInTime, TimeoutIsSoon, TimeoutIsGiven, TimeoutKeepsCredit, CallsAreNoted, CallsAreFollowed, NominationsAreSent};
 
 use is_candidate::LocalPreference;
 use is_proto::Sha1HmacProvider;
@@ -31,6 +31,12 @@ pub fn nominations_are_sent<H: Sha1HmacProvider, P: LocalPreference>()
 /// There is a next timeout if there was a last `handle_timeout` call.
 pub fn timeout_is_given<H: Sha1HmacProvider, P: LocalPreference>()
     ensures { TimeoutIsGiven H P }
+{}
+
+/// With a pacing interval of at least 25 ms, the next timeout is 25 ms after the last `handle_timeout` call, or the charges for checks are at
+/// most 225 ms ahead of it.
+pub fn timeout_keeps_credit<H: Sha1HmacProvider, P: LocalPreference>()
+    ensures { TimeoutKeepsCredit H P }
 {}
 
 /// With the profile `Modern` there is a last call after each successful `handle_timeout` call. So `poll_timeout` returns a

@@ -5,7 +5,7 @@ ghost use Rattle.is_rules.specs.Due.{awaits_nomination};
 
 use is_pair::checklist::PairTest;
 use is_pair::pair::{CandidatePair, CheckState};
-use is_pair::{due_time_of, is_asked};
+use is_pair::{due_time_of, is_scheduled};
 use is_proto::Instant;
 use is_stun::stun::StunTiming;
 
@@ -27,7 +27,7 @@ impl PairTest for FallsDue<'_> {
 
     fn passes(&self, pair: &CandidatePair) -> bool {
         due_time_of(pair, self.now, self.timing) <= self.now
-            || (!is_asked(pair) && awaits_nomination(pair, self.controlling))
+            || (!is_scheduled(pair) && awaits_nomination(pair, self.controlling))
     }
 }
 

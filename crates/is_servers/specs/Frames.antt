@@ -12,8 +12,8 @@ padded n = (n + 3) / 4 * 4
 abbrev pub padding : ℕ → List ℕ
 padding n = replicate (padded n - n) 0
 
--- by the first byte: a STUN message has 20 bytes before its attributes; ChannelData, whose number is 0x4000 to 0x4FFF, has 4 before the
--- data, and padding after it
+-- how long a message is, by its first byte: a STUN message has 20 bytes before its attributes; ChannelData, whose number is 0x4000 to
+-- 0x4FFF, has 4 before the data, and padding after it
 abbrev pub frame_of : ℕ → ℕ → Frame
 frame_of first len =
     if nat_lt first 0x40 then Of (20 + len)

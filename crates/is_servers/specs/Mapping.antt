@@ -24,20 +24,20 @@ use Rattle.is_servers.specs.declared.mapping.Life.TheVariants.{Asking, Mapped, E
 use Rattle.is_servers.specs.declared.mapping.Mapping.{Mapping}
 use Rattle.is_servers.specs.Events.{ending_of, stun_happened}
 
--- it is started at once, with the modern timing
+-- a new client, which is started at once, with the modern timing
 abbrev pub new_mapping : Instant → SocketAddr → SocketAddr → Mapping
 new_mapping now local server = record { local = local; client = after_start now (new_client server modern); life = Asking }
 
 -- ---- how far it is
 
--- it has not ended
+-- the client has not ended
 abbrev pub is_alive : Life → Bool
 is_alive Asking = true
 is_alive Mapped = true
 is_alive (Ending e) = false
 is_alive Over = false
 
--- it ended, and that was reported
+-- the client ended, and that was reported
 abbrev pub is_done : Life → Bool
 is_done Over = true
 is_done _ = false

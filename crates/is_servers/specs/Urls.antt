@@ -34,7 +34,7 @@ scheme_of text =
     else if same_word text (codes "turns") then Some (Turn, true)
     else None
 
--- without a transport: TCP for TLS
+-- the transport of a URL that names none: TCP for TLS, else UDP
 abbrev pub usual_transport : Bool → Transport
 usual_transport is_secure = if is_secure then Tcp else Udp
 

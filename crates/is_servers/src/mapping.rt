@@ -16,9 +16,9 @@ pub(crate) enum Life {
     Asking,
     /// A mapped address was reported.
     Mapped,
-    /// It ended so, which is to be polled.
+    /// The client ended so, which is to be polled.
     Ending(Ending),
-    /// Its end was polled: its place may be given to another client.
+    /// The client's end was polled: its place may be given to another client.
     Over,
 }
 
@@ -63,7 +63,7 @@ impl Mapping {
 
     // ---- how far it is
 
-    /// Whether it has not ended.
+    /// Whether the client has not ended.
     pub(crate) fn is_alive(&self) -> bool
         ensures { result ≡ is_alive self.now.life }
     {
@@ -76,7 +76,7 @@ impl Mapping {
         matches!(self.life, Life::Over)
     }
 
-    /// Whether it waits for its first answer, or what that said was not polled yet.
+    /// Whether the client waits for its first answer, or what that said was not polled yet.
     pub(crate) fn is_asking(&self) -> bool
         ensures { result ≡ is_asking self.now }
     {
@@ -112,7 +112,7 @@ impl Mapping {
         }
     }
 
-    /// Whether its time has come.
+    /// Whether the client's time has come.
     pub(crate) fn is_due_at(&self, time: Instant) -> bool
         ensures { result ≡ is_due_at time self.now }
     {
@@ -150,7 +150,7 @@ impl Mapping {
         }
     }
 
-    /// Returns what is to be reported. It ends with its last event.
+    /// Returns what is to be reported. The client ends with its last event.
     pub(crate) fn poll_event(&mut self) -> Option<Happened>
         ensures { (self.new, result) ≡ reported self.old }
     {

@@ -25,7 +25,7 @@ pub struct ServerPacket {
 /// Where a packet goes.
 #[derive(Clone, Copy, Debug, PartialEq, Eq)]
 pub enum ServerOutgoing {
-    /// Its source is no relayed address: it goes as it is.
+    /// The packet's source is no relayed address: it goes as it is.
     AsItIs,
     /// Through a server: the buffer has what to send.
     Through(ServerPacket),

@@ -48,7 +48,7 @@ fn add_to<H: Sha1HmacProvider + Drop>(
 }
 
 impl<H: Sha1HmacProvider> Servers<H> {
-    /// Has no client.
+    /// No clients.
     pub fn new(alloc: Global) -> Servers<H>
         ensures mappings { mappings_of result ≡ [] }
         ensures udp { udp_of result ≡ [] }

@@ -69,14 +69,14 @@ fn is_hex_digit(byte: u8) -> bool
     is_digit(byte) || (b'A' <= byte && byte <= b'F') || (b'a' <= byte && byte <= b'f')
 }
 
-/// A letter, a digit, or one of `-._~`.
+/// Whether the byte is a letter, a digit, or one of `-._~`.
 fn is_unreserved(byte: u8) -> bool
     ensures { result ≡ is_unreserved byte }
 {
     is_alpha(byte) || is_digit(byte) || byte == b'-' || byte == b'.' || byte == b'_' || byte == b'~'
 }
 
-/// One of `!$&'()*+,;=`.
+/// Whether the byte is one of `!$&'()*+,;=`.
 fn is_sub_delimiter(byte: u8) -> bool
     ensures { result ≡ is_sub_delimiter byte }
 {

@@ -1,3 +1,4 @@
+mod Common
 mod MessageReading
 mod WrittenMessages
 mod RoundTrips

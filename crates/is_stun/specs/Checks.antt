@@ -21,11 +21,11 @@ binding_request username id is_controlling tie_breaker priority use_candidate =
 abbrev pub with_nomination : Option ℕ → Message → Message
 with_nomination number m = record m { attributes = record m.attributes { nomination = number } }
 
--- its success response, with the source address of the request (RFC 8445, section 7.3.1.2)
+-- the success response to a check, with the source address of the request (RFC 8445, section 7.3.1.2)
 abbrev pub binding_reply : List ℕ → SocketAddr → Message
 binding_reply id address = built Binding Success id (record no_attributes { xor_mapped_address = Some address })
 
--- its error response from an agent in the same role (RFC 8445, section 7.3.1.1)
+-- the code of the error response to a check from an agent in the same role (RFC 8445, section 7.3.1.1)
 abbrev pub ROLE_CONFLICT : ℕ
 ROLE_CONFLICT = 487
 

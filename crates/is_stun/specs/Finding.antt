@@ -13,7 +13,7 @@ unfoldable pub last_value : ℕ → List Tlv → Option (List ℕ)
 last_value code [] = None
 last_value code (c ∷ cs) = option_or (last_value code cs) (if c.code == code then Some c.value else None)
 
--- the same before MESSAGE-INTEGRITY, in the bytes of a message
+-- the value of the last attribute of a type before MESSAGE-INTEGRITY, in the bytes of a message
 abbrev pub value_of : ℕ → List ℕ → Option (List ℕ)
 value_of code bytes = last_value code (before_integrity (tlvs_of (body_of bytes)))
 

@@ -12,7 +12,7 @@ pub record AttributesRecord : Type 0 where
   -- the code and its reason
   pub error_code : Option (ℕ × List ℕ)
   pub channel_number : Option ℕ
-  -- in seconds
+  -- LIFETIME, in seconds
   pub lifetime : Option ℕ
   pub xor_peer_address : Option SocketAddr
   pub «data» : Option (List ℕ)

@@ -63,7 +63,7 @@ rows_with id attributes r = rows_of id attributes ++ requested_rows r
 unfoldable pub rejection_with : Option (List ℕ) → ℕ → Message → Requested → Option StunError
 rejection_with key room m r = option_or (value_rejection m) (rows_rejection key room (rows_with m.id m.attributes r))
 
--- its bytes
+-- the bytes of a message that requests this
 unfoldable pub written_with : (List ℕ → List ℕ → List ℕ) → Option (List ℕ) → Message → Requested → List ℕ
 written_with mac key m r = written_rows mac key (class_bits m.class + method_bits m.method) m.id (rows_with m.id m.attributes r)
 
@@ -81,7 +81,7 @@ RequestIsRead mac key m r =
     ((k text : List ℕ) → length (mac k text) ≡ 20) → (room : ℕ) → rejection_with key room m r ≡ None → IsCarried m
     → requested_in (written_with mac key m r) ≡ r
 
--- and with a key nothing else of the message changes: it is read as no other one
+-- with a key a message that requests something parses as no other message, and verifies with that key
 abbrev pub RequestIsSkipped : (List ℕ → List ℕ → List ℕ) → List ℕ → Message → Requested → Type 0
 RequestIsSkipped mac key m r =
     ((k text : List ℕ) → length (mac k text) ≡ 20) → (room : ℕ) → rejection_with (Some key) room m r ≡ None → IsCarried m

@@ -77,7 +77,7 @@ pub record IsReadable (m : Message) : Type 0 where
   pub values : HasReadableValues m.attributes
   pub demands : demand_fault (sealed m) ≡ None
 
--- the same message, except its FINGERPRINT and MESSAGE-INTEGRITY
+-- the messages are the same, except their FINGERPRINT and MESSAGE-INTEGRITY
 pub record SameMessage (n m : Message) : Type 0 where
   pub method : n.method ≡ m.method
   pub class : n.class ≡ m.class
@@ -104,7 +104,7 @@ WrittenIsRead mac key m =
     ((k text : List ℕ) → length (mac k text) ≡ 20) → (room : ℕ) → rejection (Some key) room m ≡ None → IsReadable m
     → ReadsBack mac key (written mac (Some key) m) m
 
--- the same with the default provider
+-- a message that is written with a key and the default provider without an error parses as the same message, and verifies with that key
 abbrev pub WrittenByDefaultIsRead : List ℕ → Message → Type 0
 WrittenByDefaultIsRead key m =
     (room : ℕ) → rejection (Some key) room m ≡ None → IsReadable m → ReadsBack hmac_sha1 key (written hmac_sha1 (Some key) m) m

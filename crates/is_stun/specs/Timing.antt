@@ -13,7 +13,7 @@ unfoldable pub delay_millis : StunTiming → ℕ → ℕ
 delay_millis t n =
     min (t.initial_rto.0 / MILLISECOND * 2 ^ min (n - 1) t.max_retransmits) (t.max_rto.0 / MILLISECOND)
 
--- the same in nanoseconds, and zero before the first check
+-- the delay after the last of n checks in nanoseconds, and zero before the first check
 abbrev pub resend_delay : StunTiming → ℕ → ℕ
 resend_delay t n = if n == 0 then 0 else delay_millis t n * MILLISECOND
 

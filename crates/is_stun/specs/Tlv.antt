@@ -4,7 +4,7 @@ use Rattle.std.specs.Int.{w16, from_be_bytes}
 
 pub record Tlv : Type 0 where
   pub code : ℕ
-  -- its offset, counted from the end of the header
+  -- the offset of the attribute, counted from the end of the header
   pub place : ℕ
   -- the length that it declares
   pub len : ℕ

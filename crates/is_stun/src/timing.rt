@@ -18,7 +18,8 @@ const EARLY_RETRANSMITS: u64 = 2;
 /// The delay before each early retransmission: below the 500 ms of RFC 8445, section 14.3, as that of other stacks.
 const EARLY_INTERVAL: Duration = Duration(100_000_000);
 
-/// The longest delay after them, while checks are repeated early. With one up to the longest RTO, a row of losses costs seconds.
+/// The longest delay after the early retransmissions, while checks are repeated early. With one up to the longest RTO, a row of losses
+/// costs seconds.
 const EARLY_CAP: Duration = Duration(350_000_000);
 
 /// Which behavior an agent has.
@@ -63,7 +64,7 @@ pub struct ConsentSetting {
 /// How long a full agent keeps a pair after its last check that got a response (consent freshness, RFC 7675, section 5.1).
 #[derive(Clone, Copy, Debug, PartialEq, Eq)]
 pub struct Consent {
-    /// How long after that check was sent. Each nanosecond counts.
+    /// How long after its last check that got a response was sent a pair is kept. Each nanosecond counts.
     pub timeout: Duration,
     /// Whether only responses keep a pair, as in RFC 7675. Otherwise the peer's checks keep it too, each for 15 s.
     pub strict: bool,

@@ -8,7 +8,7 @@ use std::iter::Iterator;
 #[derive(Clone, Copy)]
 pub struct Tlv<'a> {
     pub code: u16,
-    /// Its offset after the header.
+    /// The offset of the attribute after the header.
     pub place: usize,
     /// The length that it declares.
     pub len: usize,

@@ -82,7 +82,7 @@ fn put_header(buf: &mut [u8], typ: u16, len: u16, id: &[u8; 12]) -> usize
 pub struct Row<'a> {
     /// The type of the attribute.
     pub code: u16,
-    /// Its value, without padding. `None`: it is not written.
+    /// The value of the attribute, without padding. `None`: it is not written.
     pub value: Option<&'a [u8]>,
 }
 

@@ -1,7 +1,7 @@
--- USERNAMEs, addresses, lists, multisets, greatest pairs and the pair that is checked next.
+-- USERNAMEs, addresses, lists, multisets and the pair that is checked next.
 pub mod EqualAddresses
 pub mod UsernamesAndFirstMatches
-pub mod GreatestAndLeastPairs
+pub mod MembersOfLists
 pub mod MultisetInclusion
 pub mod VacantIndices
 pub mod CandidatesByIndex

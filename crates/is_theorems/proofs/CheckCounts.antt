@@ -4,6 +4,7 @@ pub mod LastTimes
 pub mod PacedChecks
 pub mod ChargedChecks
 pub mod ChecksInSecond
+pub mod CallsWithinCredit
 pub mod CheckTimes
 pub mod Bounds
 pub mod KeptPairs

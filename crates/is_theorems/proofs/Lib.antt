@@ -1,3 +1,4 @@
+mod Common
 pub mod BasicLemmas
 mod RuleEffects
 mod CallEffects
@@ -17,5 +18,5 @@ mod RenominatedPaths
 mod PunctualTimeouts
 mod ConnectedConsent
 mod SettledStates
-mod CheckCounts
+pub mod CheckCounts
 mod WorkedExamples

@@ -31,8 +31,8 @@ module _ {H P : Type 0} (mac : H → List ℕ → List ℕ → List ℕ) (answer
     pub controlled : last.controlling ≡ false
     pub only_pair : IsOnlyPair last path
 
-  -- Then the path that was selected last is that of an eligible pair with the greatest stored priority, after this very call, unless a
-  -- pair that uses the path's addresses may have been removed.
+  -- Right after a call that makes the nomination of a path complete, the path that was selected last is that of an eligible pair with the
+  -- greatest stored priority. The exception is that a pair that uses the path's addresses may have been removed.
   abbrev pub CompletedNominationsAreSelected : Type 0
   CompletedNominationsAreSelected =
       (first start near last : AgentRecord H P) (before xs : List (Call P × Entry)) (call : Call P) (e : Entry) (path : Path)

@@ -30,8 +30,9 @@ module _ {H P : Type 0} where
         ≤ length rounds + 1 + checks_for (is_modern start.timing) start.next_number
 
   module _ (mac : H → List ℕ → List ℕ → List ℕ) (answers : P → CandidateRecord → ℕ → ℕ → Type 0) where
-    -- Then a check is sent on the pair's path in one of them, unless a success response is received on the path in one of them, or
-    -- a candidate that is added in them may remove a pair of the path. This holds whatever the agent receives and received before.
+    -- If the rounds suffice for as many pairs as the caller allows (`SufficeWithin`), a check is sent on the pair's path in one of them.
+    -- The exceptions are a success response on the path in one of them, and a candidate that is added in them and may remove a pair of the
+    -- path. This holds whatever the agent receives and received before.
     abbrev pub LimitedRoundsReach : AgentRecord H P → Stream → List (Logged P) → Type 0
     LimitedRoundsReach first s log =
         (most limit : ℕ) → IsLimited mac answers most first s log → FormsFew mac answers limit first s log

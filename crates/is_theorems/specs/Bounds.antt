@@ -65,7 +65,7 @@ module _ {H P : Type 0} where
     abbrev pub IsLimited : ℕ → AgentRecord H P → Stream → List (Logged P) → Type 0
     IsLimited most first s log = AtEach mac answers first s log (λ before mid x after. may_serve x.call ≡ true → IsWithin most mid.max_discovered)
 
-    -- Then the lists are bounded after each call.
+    -- If the limit is at most this one whenever a packet or a timeout comes, the lists are bounded after each call.
     abbrev pub ListsAreBounded : AgentRecord H P → Stream → List (Logged P) → Type 0
     ListsAreBounded first s log =
         (most : ℕ) → IsLimited most first s log

@@ -89,8 +89,8 @@ module _ {H P : Type 0} (mac : H → List ℕ → List ℕ → List ℕ) (answer
 
   -- A role conflict at any time: if a check is sent, and received, it is served. If its receiver has the role that the check was
   -- sent in, either it has the smaller tie-breaker and takes the other role, or it keeps its role and sends a 487.
-  abbrev pub CarriedSettle : Type 0
-  CarriedSettle =
+  abbrev pub CarriedResolve : Type 0
+  CarriedResolve =
       (k : SentCheck mac answers) (c : CarriedCheck k)
       → ServesPastTests c.receipt.receiver (handing c.came c.receipt.at) c.receipt.handed
       × (c.receipt.receiver.controlling ≡ k.sender.controlling

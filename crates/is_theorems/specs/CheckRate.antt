@@ -1,12 +1,14 @@
 -- How fast an agent sends checks (RFC 8445, sections 14.2 and 19.5.1), whatever it receives.
 use Rattle.std.specs.Prelude.{◌≡◌, ℕ, ◌+◌, ◌-◌, ◌*◌, ◌/◌, ◌<◌, ◌≤◌, ◌⊎◌, ◌&&◌, min, Bool, true, false, nat_le, nat_lt, List, [], ◌∷◌, count_by, Some}
 use Rattle.std.specs.Option.{option_map_or}
-use Rattle.is_proto.specs.Times.{MAX, MILLISECOND, SECOND}
+use Rattle.is_proto.specs.Lists.{Has}
+use Rattle.is_proto.specs.Times.{MAX, MILLISECOND, SECOND, later}
 use Rattle.is_candidate.specs.Candidates.{CandidateRecord}
 use Rattle.is_rules.specs.declared.emitted.Issued.{Issued}
 use Rattle.is_rules.specs.Agent.{AgentRecord}
 use Rattle.is_rules.specs.Polls.{LEAST_TA, is_early, pacing_of}
 use Rattle.is_rules.specs.Steps.{Answer, Call, Entry, HandleTimeout, NextTimeout, PollTimeout}
+use Rattle.is_rules.specs.TimeoutTimes.{IsWithinCredit}
 use Rattle.is_theorems.specs.Logs.{Logged}
 use Rattle.is_theorems.specs.NotStarved.{is_timeout, timeout_count}
 use Rattle.is_theorems.specs.Pending.{is_request}
@@ -53,6 +55,10 @@ MayCallAt gap now [] = Unit {0}
 MayCallAt gap now (x ∷ before) =
     (lets_call now x.call x.entry.answer ≡ true) ⊎ ((is_before gap now x.call ≡ true) ⊎ ((is_timeout x.call ≡ false) × MayCallAt gap now before))
 
+-- If the call is `handle_timeout`, it comes no sooner than then.
+abbrev pub ComesFrom : {P : Type 0} → ℕ → Logged P → Type 0
+ComesFrom at x = (now : ℕ) → x.call ≡ HandleTimeout now → at ≤ now
+
 -- The log has a `handle_timeout` call at this time or later.
 abbrev pub HasCalled : {P : Type 0} → ℕ → List (Logged P) → Type 0
 HasCalled from [] = ⊥
@@ -79,11 +85,13 @@ module _ {H P : Type 0} where
       x.call ≡ PollTimeout → (last : ℕ) → a.last_time ≡ Some last → from ≤ last → last < from + SECOND → 50 * MILLISECOND ≤ a.timing_advance
 
   -- In the second that begins then, the call is the first one; or it comes no sooner than the time that `poll_timeout` returned, or 25 ms after
-  -- the one before; or the charges for checks are at most 225 ms ahead of it, as when `poll_timeout_soon` of `Modern` brings it forward.
+  -- the one before; or 25 ms after the last one that served no early request; or the charges for checks are at most 225 ms ahead of it, as when
+  -- `poll_timeout_soon` of `Modern` brings it forward.
   abbrev pub IsFrugalAt : ℕ → List (Logged P) → AgentRecord H P → Logged P → Type 0
   IsFrugalAt from before a x =
       (now : ℕ) → x.call ≡ HandleTimeout now → now < from + SECOND → HasCalled from before
-      → MayCallAt (25 * MILLISECOND) now before ⊎ ((from ≤ now) × (a.charged_until ≤ now + 225 * MILLISECOND))
+      → MayCallAt (25 * MILLISECOND) now before ⊎ ((last : ℕ) → a.last_time ≡ Some last → from ≤ last
+      → (later last (25 * MILLISECOND) ≤ now) ⊎ ((from ≤ now) × (a.charged_until ≤ now + 225 * MILLISECOND)))
 
   -- It is not early in this second: the profile is `Original`, the agent is settled, or no pair is at its beginning, and no urgent one is due.
   abbrev pub IsLateAt : ℕ → AgentRecord H P → Logged P → Type 0
@@ -120,3 +128,11 @@ module _ {H P : Type 0} where
         × (IsPatient from SECOND (50 * MILLISECOND) log → BeforeEach mac answers (IsLateAt from) first log last run
         → checks_in_span from SECOND log ≤ 20)
         × (IsFrugal from first log last run → from + 2 * SECOND ≤ MAX → checks_in_span from SECOND log ≤ 49)
+
+    -- Whatever the log before it, a call is frugal in the second that begins then, if it comes no sooner than a time within credit: that of any
+    -- state since the last `handle_timeout` call, as `poll_timeout` and the other queries return it (`KeepsCredit`).
+    abbrev pub CreditIsFrugal : Type 0
+    CreditIsFrugal =
+        (asked last : AgentRecord H P) (since before : List (Logged P)) (x : Logged P) (from at : ℕ) → SharedRun mac answers asked since last
+        → ((y : Logged P) → Has since y → is_timeout y.call ≡ false) → IsWithinCredit asked at → ComesFrom at x → from ≤ MAX
+        → IsFrugalAt from before last x

@@ -43,8 +43,8 @@ module _ {H P : Type 0} where
 
     -- If a check is sent, and soon received, it is served. If its receiver has the role that the check was sent in, either it has
     -- the smaller tie-breaker and takes the other role, or it keeps its role and sends a 487.
-    abbrev pub ConflictsSettle : Type 0
-    ConflictsSettle =
+    abbrev pub ConflictsResolve : Type 0
+    ConflictsResolve =
         (k : SentCheck mac answers) (c : ReceivedSoon mac answers k)
         → ServesPastTests c.receipt.receiver (handing k.check c.receipt.at) c.receipt.handed
         × (c.receipt.receiver.controlling ≡ k.sender.controlling

@@ -49,7 +49,8 @@ module _ {H P : Type 0} (mac : H → List ℕ → List ℕ → List ℕ) where
         → IsMaintained old now s emitted first t → consent_of old.timing ≡ Some c → IsFollowed pace delay now next first xs last polled
         → Has polled.pairs p → next ≤ max (consent_end c p) (now + pace) + delay
 
--- After such a call each pair has consent. There is no count of pairs, no RTO and no caller in it.
+-- After a `handle_timeout` call of a full agent that serves no early request each pair has consent. There is no count of pairs, no RTO and
+-- no caller in it.
 abbrev pub ConsentHolds : {H : Type 0} (P : Type 0) → (H → List ℕ → List ℕ → List ℕ) → Type 0
 ConsentHolds {H = H} P mac =
     (old new : AgentRecord H P) (now : ℕ) (s t : Stream) (emitted : Emitted) → IsMaintained mac old now s emitted new t

@@ -54,7 +54,8 @@ module _ {H P : Type 0} where
       pub full : near.lite ≡ false
       pub connected : is_connected last.state ≡ true
 
-    -- Then the path that was selected last has consent, whatever profile is set.
+    -- If a full agent is connected after a `handle_timeout` call that serves no early request, the path that was selected last has
+    -- consent, whatever profile is set.
     abbrev pub ConnectedHaveConsent : Type 0
     ConnectedHaveConsent =
         (before : List (Call P × Entry)) (now : ℕ) (timeout : Entry) (last : AgentRecord H P) → IsConnectedAfter before now timeout last

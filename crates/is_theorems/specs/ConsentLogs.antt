@@ -25,14 +25,16 @@ module _ {H P : Type 0} where
     pub connected : is_connected after.state ≡ true
 
   module _ (mac : H → List ℕ → List ℕ → List ℕ) (answers : P → CandidateRecord → ℕ → ℕ → Type 0) where
-    -- At each such entry the path that was selected last since the last clear has consent, whatever profile is set.
+    -- At each `handle_timeout` call that serves no early request, after which a full agent is connected: the path that was selected last
+    -- since the last clear has consent, whatever profile is set.
     abbrev pub PathsHaveConsent : AgentRecord H P → Stream → List (Logged P) → Type 0
     PathsHaveConsent first s log =
         AtEach mac answers first s log (λ before mid x after. (now : ℕ) → IsConnectedAt now mid x after
         → HasConsentOn now (last_selected (x ∷ before)) after)
 
-    -- At each such entry of an agent that was never lite, with the profile `Modern`: the path that was selected last since the last clear is
-    -- that of a pair that is alive by the responses to its checks and the peer's checks.
+    -- At each `handle_timeout` call that serves no early request, after which an agent is connected that was never lite, with the profile
+    -- `Modern`: the path that was selected last since the last clear is alive. Its pair had responses, or checks of the peer, recently
+    -- enough.
     abbrev pub PathsAreAlive : AgentRecord H P → Stream → List (Logged P) → Type 0
     PathsAreAlive first s log =
         AtEach mac answers first s log (λ before mid x after. (now : ℕ) (c : Consent) → IsConnectedAt now mid x after

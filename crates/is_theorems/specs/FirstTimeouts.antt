@@ -42,15 +42,16 @@ SufficesFromDue first second last later ahead =
     (length first.pairs ≤ 1)
     ⊎ (checks_for (is_modern second.timing) (2 * length second.pairs + last.next_number + ahead) ≤ later + 1 + checks_for (is_modern second.timing) second.next_number)
 
--- The same for a pair that is due by the time `by`, if the first call comes at time `now`. If this is later than `by`, 2n - 1 rounds
--- suffice, the first included, and one more for each pair that is added in them; if checks may go ahead, 4n - 1, and two more. Each
--- nomination that may be sent at once counts like such a pair: so many are `all_ahead` in all rounds, and `ahead` in those after the first.
+-- Enough rounds follow the first one for a pair that is due by the time `by`, if the first call comes at time `now`. If this is later than
+-- `by`, 2n - 1 rounds suffice for n pairs, the first included, and one more for each pair that is added in them. If checks may go ahead,
+-- 4n - 1 do, and two more. Each nomination that may be sent at once counts like such a pair: so many are `all_ahead` in all rounds, and
+-- `ahead` in those after the first. Otherwise the rounds of `SufficesFromDue` do.
 abbrev pub Suffices : {H P : Type 0} → (by now : ℕ) → (first second last : AgentRecord H P) → (later all_ahead ahead : ℕ) → Type 0
 Suffices by now first second last later all_ahead ahead =
     ((by < now) × (checks_for (is_modern first.timing) (2 * length first.pairs + last.next_number + all_ahead) ≤ later + 2 + checks_for (is_modern first.timing) first.next_number))
     ⊎ SufficesFromDue first second last later ahead
 
--- The same for rounds of an execution, if `many` of them follow the first one or more.
+-- In an execution enough rounds follow the first one for a pair that is due by the time `by` (`Suffices`), if `many` or more follow it.
 abbrev pub RoundsSuffice : {H P : Type 0} → (by : ℕ) → (first second last : AgentRecord H P) → ExecutionRound P → List (ExecutionRound P) → (many : ℕ) → Type 0
 RoundsSuffice by first second last r later many =
     Suffices by r.now first second last many (nominations_ahead first (selections_among (r ∷ later))) (nominations_ahead second (selections_among later))
@@ -81,7 +82,8 @@ module _ {H P : Type 0} (mac : H → List ℕ → List ℕ → List ℕ) (answer
       ≤ length (r ∷ rounds) + 1 + checks_for (is_modern start.timing) start.next_number
       → IsReached (r ∷ rounds) start last run (path_of start p)
 
-  -- The same of a pair that is due by the first `handle_timeout` call of the rounds, and maybe not before it. All others are later.
+  -- An execution starts with a newly created agent. A pair waits for its check, due by the first `handle_timeout` call of the rounds and
+  -- maybe not before it. All others are later, and enough (`RoundsSuffice`). Then the pair's path is reached.
   abbrev pub ExecutionsReachFromDue : Type 0
   ExecutionsReachFromDue =
       (first start last : AgentRecord H P) (xs : List (Call P × Entry)) (r : ExecutionRound P) (later : List (ExecutionRound P)) (p : PairRecord) (by : ℕ)
@@ -91,8 +93,9 @@ module _ {H P : Type 0} (mac : H → List ℕ → List ℕ → List ℕ) (answer
       → ((x : ExecutionRound P) → Has later x → IsLasting x.now start p) → RoundsSuffice by start run.1 last r later (length later)
       → IsReached (r ∷ later) start last run (path_of start p)
 
-  -- The same for a controlling agent without a valid pair, which sends no nomination at once, whether nominations have numbers or not:
-  -- unless a success response is accepted in the rounds.
+  -- An execution starts with a newly created agent. It is controlling, has no valid pair, and sends no nomination at once, whether
+  -- nominations have numbers or not. A pair is due by the first `handle_timeout` call of the rounds. The others are later, and enough
+  -- (`Suffices`). Then the pair's path is reached, unless a success response is accepted in the rounds.
   abbrev pub ExecutionsReachUnanswered : Type 0
   ExecutionsReachUnanswered =
       (first start last : AgentRecord H P) (xs : List (Call P × Entry)) (r : ExecutionRound P) (later : List (ExecutionRound P)) (p : PairRecord) (by : ℕ)

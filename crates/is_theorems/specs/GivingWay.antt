@@ -49,7 +49,8 @@ module _ {H P : Type 0} where
     pub eligible : is_eligible after.controlling stays.pair ≡ true
 
   module _ (mac : H → List ℕ → List ℕ → List ℕ) (answers : P → CandidateRecord → ℕ → ℕ → Type 0) where
-    -- Then the path that was selected last is that of an eligible pair with the greatest stored priority, as after each such call.
+    -- If a `handle_timeout` call that serves no early request removes a pair that did not expire, another one replaces it (`IsReplaced`).
+    -- Then the path that was selected last is that of an eligible pair with the greatest stored priority.
     abbrev pub LeftAreReplaced : AgentRecord H P → Stream → List (Logged P) → Type 0
     LeftAreReplaced first s log =
         AtEach mac answers first s log (λ before mid x after. (now : ℕ) (p : PairRecord) → IsLeft now mid x after p

@@ -85,7 +85,7 @@ module _ {H P : Type 0} (mac : H → List ℕ → List ℕ → List ℕ) (provid
       × Brings x.call x.entry at by m × (m.method ≡ Binding) × (m.class ≡ class.Success) × (remote_of before ≡ Some peer)
       × IsSignedBy (mac provider) m peer.pass × IsSent before path m.id × (is_reverse by path ≡ true)
 
-  -- Such an entry is in the log, and no later entry is a clear.
+  -- An entry of the log accepted a success response to a check on the path (`AnswersAt`), and no later entry is a clear.
   abbrev pub Answered : List (Logged P) → Path → Type 0
   Answered [] path = ⊥
   Answered (x ∷ before) path = AnswersAt x before path ⊎ ((clears_at x ≡ false) × Answered before path)

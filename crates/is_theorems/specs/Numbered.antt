@@ -76,7 +76,7 @@ module _ {H P : Type 0} where
         → (number n : ℕ) (path : Path) → IsGreatest after number n path
         → (after.selected_pair ≡ Some number) × (last_selected (x ∷ before) ≡ Some path))
 
-    -- It is so in each state of the segment.
+    -- In each state of the segment the pair with this number leads by its number.
     abbrev pub StaysGreatest : (before : List (Logged P)) (start : AgentRecord H P) (s : Stream) (part : List (Logged P)) (last : AgentRecord H P) (t : Stream)
         → RunsOn mac answers before start s part last t → (number : ℕ) → Path → Type 0
     StaysGreatest before start s [] last t run number path = LeadsByNumber last number path
@@ -92,7 +92,8 @@ module _ {H P : Type 0} where
         → StaysGreatest before start found.at part last found.following found.run number path
         → (last.selected_pair ≡ Some number) × (last_selected (part ++ before) ≡ Some path)
 
-    -- In each state of the segment one such pair is eligible, and no request nominates another path by n or more: all others are of less.
+    -- In each state of the segment an eligible pair on the path was nominated by n at least, and no request nominates another path by n or
+    -- more.
     abbrev pub StaysAhead : (before : List (Logged P)) (start : AgentRecord H P) (s : Stream) (part : List (Logged P)) (last : AgentRecord H P) (t : Stream)
         → RunsOn mac answers before start s part last t → ℕ → Path → Type 0
     StaysAhead before start s [] last t run n path = LeadsWith last n path
@@ -112,8 +113,8 @@ module _ {H P : Type 0} where
         → StaysAhead before start found.at part last found.following found.run n path
         → last_selected (part ++ before) ≡ Some path
 
-    -- Such a pair's path is the one that the agent selected last, after a `handle_timeout` call that serves no early request. The agent may
-    -- share its random source.
+    -- If a pair leads by its number after a `handle_timeout` call that serves no early request, the path that the agent selected last is
+    -- that of this pair. The agent may share its random source.
     abbrev pub GreatestAreLast : Type 0
     GreatestAreLast =
         (first near last : AgentRecord H P) (before : List (Call P × Entry)) (s t : Stream) (now : ℕ) (timeout : Entry) (number : ℕ) (path : Path)

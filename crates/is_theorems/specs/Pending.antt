@@ -93,7 +93,7 @@ module _ {H P : Type 0} where
         (old new : AgentRecord H P) (s t : Stream) (call : Call P) (e : Entry) (p : PairRecord)
         → IsSound old → GivesBased call → Step mac answers old s call e new t → Has old.pairs p → Follows old e p new ⊎ MayEnd answers old call e p
 
-    -- The same for one pending transaction.
+    -- Each transition leaves one pending transaction as it is, or sends a later check on its path, unless it may remove the pair.
     abbrev pub ChecksPend : Type 0
     ChecksPend =
         (old new : AgentRecord H P) (s t : Stream) (call : Call P) (e : Entry) (number : ℕ) (path : Path) (check : Check) (later : ℕ)

@@ -19,18 +19,18 @@ restarts _ answer = false
 abbrev pub removes_selections : {P : Type 0} → Logged P → List (Logged P) → Bool
 removes_selections x before = if (numbering_of before).1 then clears_at x else restarts x.call x.entry.answer
 
--- A call since all such events were last removed selected the path, and the property holds of this call and of the log before it.
+-- A call since `NominatedSend` events were last removed selected the path, and the property holds of this call and of the log before it.
 abbrev pub SelectedSince : {P : Type 0} → (Logged P → List (Logged P) → Type 0) → List (Logged P) → Path → Type 0
 SelectedSince Holds [] path = ⊥
 SelectedSince Holds (x ∷ before) path =
     (Has x.entry.emitted.selected_paths (Some path) × Holds x before)
     ⊎ ((removes_selections x before ≡ false) × SelectedSince Holds before path)
 
--- such a call, whatever was before it
+-- A call since `NominatedSend` events were last removed selected the path, whatever was before it.
 abbrev pub IsSelectedSince : {P : Type 0} → List (Logged P) → Path → Type 0
 IsSelectedSince log path = SelectedSince (λ x before. Unit {0}) log path
 
--- such a call, and the path was answered by then
+-- A call since `NominatedSend` events were last removed selected the path, and the path was answered by then.
 abbrev pub IsAnsweredSince : {H P : Type 0} → (H → List ℕ → List ℕ → List ℕ) → H → List (Logged P) → Path → Type 0
 IsAnsweredSince mac provider log path = SelectedSince (λ x before. IsAnsweredBy mac provider x before path) log path
 
@@ -46,8 +46,8 @@ abbrev pub AskedSince : {P : Type 0} → Bool → List (Logged P) → Path → T
 AskedSince numbered [] path = ⊥
 AskedSince numbered (x ∷ before) path = AsksAt numbered x path ⊎ ((restarts x.call x.entry.answer ≡ false) × AskedSince numbered before path)
 
--- The peer nominated the path since the last ICE restart: at some call since then such a request nominates it, as the settings before this call
--- take requests.
+-- The peer nominated the path since the last ICE restart: at some call since then a request that was accepted since the restart
+-- nominates it, as the settings before this call take requests.
 abbrev pub NominatedSince : {P : Type 0} → List (Logged P) → Path → Type 0
 NominatedSince [] path = ⊥
 NominatedSince (x ∷ before) path =
@@ -62,28 +62,29 @@ module _ {H P : Type 0} (mac : H → List ℕ → List ℕ → List ℕ) (answer
 
   -- ---- the theorems, of a `NominatedSend` that waits after any execution from a newly created agent
 
-  -- The path of each `NominatedSend` that waits was selected since all such events were last removed.
+  -- The path of each `NominatedSend` that waits was selected since these events were last removed.
   abbrev pub WaitingAreSelected : Type 0
   WaitingAreSelected =
       (first last : AgentRecord H P) (log : List (Logged P))
       → IsNewlyCreated first → SharedRun mac answers first log last
       → (path : Path) → Has last.events (selecting path) → IsSelectedSince log path
 
-  -- Never lite: the path of each that waits was selected since then, and answered when it was.
+  -- Never lite: the path of each `NominatedSend` that waits was selected since these events were last removed, and answered when it was.
   abbrev pub WaitingAreAnswered : Type 0
   WaitingAreAnswered =
       (first last : AgentRecord H P) (log : List (Logged P))
       → IsNewlyCreated first → NeverLite log → SharedRun mac answers first log last
       → (path : Path) → Has last.events (selecting path) → IsAnsweredSince mac first.provider log path
 
-  -- Never lite, and controlled since the last ICE restart: the peer nominated the path of each that waits.
+  -- Never lite, and controlled since the last ICE restart: the peer nominated the path of each `NominatedSend` that waits.
   abbrev pub WaitingAreNominatedByPeer : Type 0
   WaitingAreNominatedByPeer =
       (first last : AgentRecord H P) (log : List (Logged P))
       → IsNewlyCreated first → NeverLite log → (run : SharedRun mac answers first log last)
       → IsControlledSinceRestart first log last run → (path : Path) → Has last.events (selecting path) → NominatedByPeer log path
 
-  -- If the profile was `Modern` at the last ICE restart, or there was none, the peer nominated it since then.
+  -- Never lite, and controlled since the last ICE restart: if the profile was `Modern` at that restart, or there was none, the peer
+  -- nominated the path of each `NominatedSend` that waits since then.
   abbrev pub WaitingAreNominatedSince : Type 0
   WaitingAreNominatedSince =
       (first last : AgentRecord H P) (log : List (Logged P))
@@ -91,7 +92,8 @@ module _ {H P : Type 0} (mac : H → List ℕ → List ℕ → List ℕ) (answer
       → (run : SharedRun mac answers first log last) → IsControlledSinceRestart first log last run
       → (path : Path) → Has last.events (selecting path) → NominatedSince log path
 
-  -- So it did of each path that the last call selects, if the agent is controlled since the last clear.
+  -- Never lite, and controlled since the last clear: if the profile was `Modern` at the last ICE restart, or there was none, the peer
+  -- nominated each path that the last call selects since that restart.
   abbrev pub SelectionsAreNominatedSince : Type 0
   SelectionsAreNominatedSince =
       (first last : AgentRecord H P) (x : Logged P) (before : List (Logged P))

@@ -166,7 +166,7 @@ module _ {H P : Type 0} where
       SelectsAfter [] old new came = ⊥
       SelectsAfter (x ∷ rest) old new came = (IsSuccess x × MatchesTop came.0) ⊎ SelectsAfter rest came.2 new came.11
 
-      -- This holds in one of the rounds.
+      -- In one of the rounds a path is selected after an accepted success response.
       abbrev pub RoundSelects : (rounds : List Round) (old new : AgentRecord H P) → Rounds rounds old new → Type 0
       RoundSelects [] old new run = ⊥
       RoundSelects (x ∷ rest) old new run = SelectsAfter x.arrivals run.1 run.2 run.5 ⊎ RoundSelects rest run.2 new run.6
@@ -220,8 +220,8 @@ module _ {H P : Type 0} (mac : H → List ℕ → List ℕ → List ℕ) (answer
       → m.class ≡ class.Success
       → after.controlling ≡ true → IsTopPath mac answers (x ∷ before) after)
 
-  -- The same holds after a `handle_timeout` call that serves no early request, if a pair is valid and nominated: so it holds for
-  -- a controlled agent, too.
+  -- After a `handle_timeout` call that serves no early request, an agent in either role has selected the path of an eligible pair with the
+  -- greatest stored priority, if a pair is valid and nominated.
   abbrev pub NominationsSelect : AgentRecord H P → Stream → List (Logged P) → Type 0
   NominationsSelect first s log =
       AtEach mac answers first s log (λ before mid x after. (now : ℕ) → x.call ≡ HandleTimeout now → x.entry.answer ≡ Done → request_at now mid ≡ None

@@ -44,7 +44,7 @@ module _ {H P : Type 0} where
       pub asks : message.attributes.use_candidate ≡ true
       pub renominates : after.renominates ≡ true
 
-    -- It is sent on the path that was selected last.
+    -- While nominations replace earlier ones, a check with USE-CANDIDATE is sent on the path that was selected last.
     abbrev pub OnlySelectedAreNominated : Type 0
     OnlySelectedAreNominated =
         (first : AgentRecord H P) (s : Stream) (log before : List (Logged P)) (x : Logged P) (check : Packet) → IsFresh first
@@ -86,8 +86,8 @@ module _ {H P : Type 0} where
       pub answered : IsAnsweredIn part path
       pub only_pair : IsOnlyPair last path
 
-    -- Then the agent selects this path by the end of the call, unless a pair that uses its addresses may have been removed. No
-    -- priorities are compared.
+    -- The peer nominated this path last, and a success response was received on it (`IsToFollow`). Then the agent selects it by the end of
+    -- the call, unless a pair that uses its addresses may have been removed. No priorities are compared.
     abbrev pub LastAskedAreSelected : Type 0
     LastAskedAreSelected =
         (first : AgentRecord H P) (s : Stream) (log before part : List (Logged P)) (timeout : Logged P) (path : Path) → IsFresh first

@@ -87,8 +87,8 @@ abbrev pub Conveys : Class → RoleState → RoleEvent → Mail → Bool → Typ
 Conveys class.Request old d m role = Claims m.ice_controlling m.ice_controlled old.controlling old.tie_breaker × (role ≡ old.controlling)
 -- A success response has the transaction ID of the request that was served.
 Conveys class.Success old d m role = (q : RequestRecord) × (d.serves ≡ Some q) × (q.id ≡ m.id)
--- So has a 487. Its request claimed the agent's own role with a tie-breaker that is not greater, or the agent keeps its role. The role
--- does not change.
+-- A 487 has the transaction ID of the request that was served. This claimed the agent's own role with a tie-breaker that is not greater,
+-- or the agent keeps its role. The role does not change.
 Conveys class.Failure old d m role = (q : RequestRecord) × (d.serves ≡ Some q) × (q.id ≡ m.id) × (sends_487 old q ≡ true) × (role ≡ old.controlling)
 Conveys class.Indication old d m role = ⊥
 Conveys class.Unknown old d m role = ⊥

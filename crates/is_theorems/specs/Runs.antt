@@ -36,7 +36,7 @@ module _ {H P : Type 0} (mac : H → List ℕ → List ℕ → List ℕ) (answer
       (mid : AgentRecord H P) × (u : Stream) × Run first s before mid u
       × (x.number ≡ length before) × GivesBased x.call × Step mac answers mid u x.call x.entry last t
 
-  -- It is an execution with shared random words, which come from one stream.
+  -- An execution with one random source is one with shared random words, which come from one stream.
   abbrev pub shared_run : (first : AgentRecord H P) (s : Stream) (log : List (Logged P)) (last : AgentRecord H P) (t : Stream)
       → Run first s log last t → SharedRun mac answers first log last
   shared_run first s [] last t run = run.0

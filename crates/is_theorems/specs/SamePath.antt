@@ -45,7 +45,7 @@ module _ {H P : Type 0} where
   NoneFollows g d = (followed g ≡ None) × (followed d ≡ None)
 
   module _ (seen : Path → Option Path) (g d : AgentRecord H P) where
-    -- the same path through the network
+    -- Both pairs are on the same path through the network.
     abbrev pub IsSamePath : PairRecord → PairRecord → Type 0
     IsSamePath p p2 = seen (path_of g p) ≡ Some (path_of d p2)
 
@@ -97,8 +97,8 @@ module _ (H P : Type 0) where
       (seen : Path → Option Path) (g d : AgentRecord H P) (p q p2 q2 : PairRecord) → RankAlike seen g d
       → AreCounterparts seen g d p p2 → AreCounterparts seen g d q q2 → IsUndisputed seen g d p q p2 q2
 
-  -- So if two agents rank alike and select by priority, and each has an eligible counterpart of the pair that the other selected last, these pairs are
-  -- on the same path.
+  -- If two agents rank alike and select by priority, and each has an eligible counterpart of the pair that the other selected last, these
+  -- pairs are on the same path.
   abbrev pub SelectedPairsMatch : Type 0
   SelectedPairsMatch =
       (seen : Path → Option Path) (g d : AgentRecord H P) (p q p2 q2 : PairRecord) → NoneFollows g d → RankAlike seen g d
@@ -107,8 +107,8 @@ module _ (H P : Type 0) where
       → IsSamePath seen g d p q2
 
 module _ {H P : Type 0} (mac : H → List ℕ → List ℕ → List ℕ) (answers : P → CandidateRecord → ℕ → ℕ → Type 0) where
-  -- The same holds of the path x that g selected last in its log, and the path y that d selected last in its own, if each is the
-  -- path of a greatest eligible pair.
+  -- g and d rank alike and select by priority. g selected the path x last in its log, and d the path y in its own. Each is the path of a
+  -- greatest eligible pair, and the other agent has an eligible pair on it. Then x and y are the same path, each as its agent sees it.
   abbrev pub SelectedPathsMatch : Type 0
   SelectedPathsMatch =
       (seen : Path → Option Path) (g d : AgentRecord H P) (near far : List (Logged P)) (x y : Path) (q p2 : PairRecord) → NoneFollows g d → RankAlike seen g d
@@ -131,8 +131,8 @@ module _ {H P : Type 0} (mac : H → List ℕ → List ℕ → List ℕ) (answer
     pub point : Point mac answers first s all before mid x g
     pub evaluates : IsNominationPoint mid x.call x.entry
 
-  -- So without NATs: at any such transitions of two executions, the path that d selected last is the reverse of the one that g
-  -- selected last.
+  -- Without NATs g and d rank alike and select by priority, right after transitions of two executions at which nomination was evaluated.
+  -- If each has an eligible pair on the reverse of the path that the other selected last, these two paths are the reverse of each other.
   abbrev pub SelectedPathsAreReversed : Type 0
   SelectedPathsAreReversed =
       (g d : AgentRecord H P) (near far : List (Logged P)) (x y : Path) (q p2 : PairRecord) → NoneFollows g d → RankAlike reverse_of g d

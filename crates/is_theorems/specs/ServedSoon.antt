@@ -65,7 +65,8 @@ module _ {H P : Type 0} where
         IsOvertakenAmong number n later run.1 new run.6
         ⊎ ((k : ℕ) × (n ≡ suc k) × IsOvertaken number r.now old r.timeout.emitted × IsOvertakenAmong number k later run.1 new run.6)
 
-    -- The same as in a log, in either role.
+    -- In either role: a request was served on a pair that is due before the rounds, and no `handle_timeout` call of them selects a path.
+    -- Then in 2 * m rounds the pair's path is reached, or m of them check the selected pair or urgent pairs before it.
     abbrev pub ServedExecutionsReach : Type 0
     ServedExecutionsReach =
         (first start last : AgentRecord H P) (xs : List (Call P × Entry)) (r : ExecutionRound P) (later : List (ExecutionRound P)) (p : PairRecord) (by m : ℕ)

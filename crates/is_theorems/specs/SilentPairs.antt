@@ -89,7 +89,7 @@ pub record IsSilent (p : PairRecord) : Type 0 where
   pub unanswered : is_valid p ≡ false
   pub unheard : p.requests ≡ 0
 
--- It is the same pair as before, no response was recorded on it, and no request since.
+-- The pair is the same as before, no response was recorded on it, and no request since.
 pub record StaysSilent (before after : PairRecord) : Type 0 where
   pub number : after.number ≡ before.number
   pub unanswered : is_valid after ≡ false
@@ -117,8 +117,8 @@ module _ {H P : Type 0} where
         → (run : SharedRun mac answers first log last) → AreInOrder 0 log → BeforeEach mac answers (IsTimedBy t) first log last run
         → (p : PairRecord) → Has last.pairs p → IsSilent p → p.checks_sent ≤ n
 
-    -- So does any pair without a response from any point on, while no request arrives on it. A pair that a request brings has no check
-    -- then: so with k requests it gets at most k times n.
+    -- From any point on a pair gets at most n checks while no response and no request arrives on it. A pair that a request brings has no
+    -- check then: so with k requests it gets at most k times n.
     abbrev pub SilencesHaveFewChecks : Type 0
     SilencesHaveFewChecks =
         (t : StunTiming) (n : ℕ) (first start last : AgentRecord H P) (before part : List (Logged P)) → EndsWith t n → IsNewlyCreated first
@@ -126,8 +126,8 @@ module _ {H P : Type 0} where
         → (run : SharedRun mac answers start part last) → AreInOrder (time_of 0 before) part → BeforeEach mac answers (IsTimedBy t) start part last run
         → (p q : PairRecord) → Has start.pairs p → Has last.pairs q → IsSilentSince t n p q → q.checks_sent ≤ p.checks_sent + n
 
-    -- If its first check followed a request, it gets at most so many as suffice for such pairs. So with k requests, the first of which brought
-    -- it, it gets at most k times n.
+    -- From any point on a pair whose first check followed a request gets at most so many checks as suffice for such pairs, while no
+    -- response and no further request arrives on it. So with k requests, the first of which brought it, it gets at most k times n.
     abbrev pub AskedPairsGetFew : Type 0
     AskedPairsGetFew =
         (t : StunTiming) (n : ℕ) (first start last : AgentRecord H P) (before part : List (Logged P)) → EndsAsked t n → IsNewlyCreated first

@@ -62,7 +62,7 @@ module _ {H P : Type 0} where
         × Point mac answers first s log before mid x after × Has part x × Has mid.pairs p × (p.number ≡ number) × (path_of mid p ≡ path)
         × MayEnd answers mid x.call x.entry p
 
-    -- The same over each segment of the log.
+    -- Over each segment of the log a pair stays (`Stays`), unless it may be removed at an entry of the segment.
     abbrev pub PairsStayIn : AgentRecord H P → Stream → List (Logged P) → Type 0
     PairsStayIn first s log =
         (before : List (Logged P)) (start last : AgentRecord H P) (part : List (Logged P)) (p : PairRecord)

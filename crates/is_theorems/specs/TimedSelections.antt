@@ -126,8 +126,9 @@ module _ {H P : Type 0} (mac : H → List ℕ → List ℕ → List ℕ) (answer
     pub timed : IsTimedIn pace delay k.start k.opening k.later
     pub answered : IsAnsweredInBy trip (rounds_of k) (path_of k.start p)
 
-  -- Then a path is selected in one of the rounds. It begins after the first one by at most `pace + delay` for each of the later ones, and
-  -- `trip`. The exception: a candidate that is added in the first or in a later one may remove a pair of the path.
+  -- If the rounds suffice and checks are answered in time (`SufficeInTime`), a path is selected in one of them. This round begins after
+  -- the first one by at most `pace + delay` for each of the later ones, and `trip`. The exception: a candidate that is added in the first
+  -- or in a later one may remove a pair of the path.
   abbrev pub RoundsSelectInTime : AgentRecord H P → Stream → List (Logged P) → Type 0
   RoundsSelectInTime first s log =
       (k : ControllingRounds first s log) (p : PairRecord) (by pace delay trip : ℕ) → SufficeInTime k p by pace delay trip

@@ -61,9 +61,9 @@ module _ {H P : Type 0} where
       pub enough : AreEnoughLater by k.opening.now many bound (selection_count (all_entries k.opening k.later)) k.start
       pub long : (many ≤ length k.later) ⊎ BeginsAfter (k.opening.now + many * (pace + delay)) k.later
 
-    -- Then a check is sent on the pair's path in one of the rounds, by so many times `pace + delay` after the first `handle_timeout` call,
-    -- unless a success response is received on the path in one of them. No packet in the rounds makes this time longer, if nominations have
-    -- no numbers.
+    -- If so many rounds are enough and the caller is punctual (`SufficeSteadyInTime`), a check is sent on the pair's path by so many times
+    -- `pace + delay` after the first `handle_timeout` call. The exception is a success response on the path in one of the rounds. No
+    -- packet in the rounds makes this time longer, if nominations have no numbers.
     abbrev pub SteadyRoundsReachInTime : AgentRecord H P → Stream → List (Logged P) → Type 0
     SteadyRoundsReachInTime first s log =
         (most limit : ℕ) → IsLimited mac answers most first s log → FormsFew mac answers limit first s log

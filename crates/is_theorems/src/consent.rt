@@ -42,14 +42,16 @@ pub fn connected_are_answered<H: Sha1HmacProvider, P: LocalPreference>()
     ensures { ConnectedAreAnswered H.mac P.answers }
 {}
 
-/// The same as `connected_have_consent` at each entry of a log that is such a call.
+/// A log has a `handle_timeout` call that serves no early request, and a full agent is Connected or Completed after it. Then the path that
+/// it selected last is that of an eligible pair that has consent then, as in `connected_have_consent`.
 pub fn selected_have_consent<H: Sha1HmacProvider, P: LocalPreference>()
     ensures { SelectedHaveConsent H.mac P.answers }
 {
     connected_have_consent::<H, P>();
 }
 
-/// The same as `connected_are_answered` at each entry of a log that is such a call, if the agent was never lite before it.
+/// A log has a `handle_timeout` call that serves no early request, after which an agent with the profile `Modern`, which was never lite
+/// before, is Connected or Completed. Then the path that it selected last is alive, as in `connected_are_answered`.
 pub fn selected_are_alive<H: Sha1HmacProvider, P: LocalPreference>()
     ensures { SelectedAreAlive H.mac P.answers }
 {

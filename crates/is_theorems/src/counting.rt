@@ -1,7 +1,7 @@
 //! How many checks an agent sends, and how fast: what bounds the traffic that it can be made to send to any address (RFC 8445,
 //! section 19.5.1).
 
-ghost use Rattle.is_theorems.specs.CheckRate.{ChecksArePaced, SecondsHaveFewChecks, TimeoutsCheck};
+ghost use Rattle.is_theorems.specs.CheckRate.{ChecksArePaced, CreditIsFrugal, SecondsHaveFewChecks, TimeoutsCheck};
 ghost use Rattle.is_theorems.specs.SilentPairs.{AskedPairsGetFew, NumbersOfChecks, SilencesHaveFewChecks, SilentPairsGetFew};
 
 use is_candidate::LocalPreference;
@@ -19,6 +19,12 @@ pub fn timeouts_check<H: Sha1HmacProvider, P: LocalPreference>()
 pub fn checks_are_paced<H: Sha1HmacProvider, P: LocalPreference>()
     ensures paced { ChecksArePaced H.mac P.answers }
     ensures seconds { SecondsHaveFewChecks H.mac P.answers }
+{}
+
+/// A caller is frugal at a call that comes no sooner than a time which `poll_timeout`, `next_call`, or `poll_timeout_soon` and
+/// `next_call_soon` of `Modern`, returned after the last one. For that the pacing interval need be 25 ms only.
+pub fn calls_within_credit_are_frugal<H: Sha1HmacProvider, P: LocalPreference>()
+    ensures { CreditIsFrugal H.mac P.answers }
 {}
 
 /// From a newly created agent, which may share its random source, with any caller for whom time does not run back: a pair without a response

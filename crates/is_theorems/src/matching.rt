@@ -26,7 +26,8 @@ pub fn ranks_settle<H: Sha1HmacProvider, P: LocalPreference>()
     priorities_are_symmetric();
 }
 
-/// Such agents send on the same path, if each has an eligible counterpart of the pair that the other selected last.
+/// Agents whose pairs have the same candidate priorities at both ends, with no ties, send on the same path, if each has an eligible
+/// counterpart of the pair that the other selected last.
 pub fn selected_match<H: Sha1HmacProvider, P: LocalPreference>()
     ensures pairs { SelectedPairsMatch H P }
     ensures paths { SelectedPathsMatch H.mac P.answers }

@@ -38,7 +38,9 @@ pub fn limits_reach<H: Sha1HmacProvider, P: LocalPreference>()
     pairs_are_reached::<H, P>();
 }
 
-/// The same of an agent that shares its random source.
+/// From a newly created agent, which may share its random source: one of n pairs is due. Only packets and polls come between the
+/// `handle_timeout` calls of the rounds. Then a check is sent on its path in one of 2n - 1 rounds, and one more for each pair that is
+/// added in them. The exception is a success response on the path in one of them.
 pub fn executions_reach<H: Sha1HmacProvider, P: LocalPreference>()
     ensures { ExecutionsReach H.mac P.answers }
 {}
@@ -64,14 +66,16 @@ pub fn reached_from_due<H: Sha1HmacProvider, P: LocalPreference>()
     ensures { PairsAreReachedFromDue H.mac P.answers }
 {}
 
-/// The same of an agent that shares its random source. If the pair is due before the first call, 2n - 1 rounds suffice, the first
-/// included, and one more for each pair that is added in them. Here n is the number of pairs when the first call comes.
+/// From a newly created agent, which may share its random source: a pair is due by a `handle_timeout` call. Then a check is sent on its
+/// path in the rounds of `reached_from_due`, with its exceptions. If the pair is due before the first call, 2n - 1 rounds suffice, the
+/// first included, and one more for each pair that is added in them. Here n is the number of pairs when the first call comes.
 pub fn executions_reach_from_due<H: Sha1HmacProvider, P: LocalPreference>()
     ensures { ExecutionsReachFromDue H.mac P.answers }
 {}
 
-/// The same of a controlling agent without a valid pair, also if its nominations have numbers and renomination is on: unless a success
-/// response is accepted in the rounds.
+/// A controlling agent, which may share its random source, has no valid pair, and one is due by a `handle_timeout` call. Then a check is
+/// sent on its path in the rounds of `executions_reach_from_due`, also if its nominations have numbers and renomination is on, unless a
+/// success response is accepted in them. The exceptions of that theorem remain.
 pub fn executions_reach_unanswered<H: Sha1HmacProvider, P: LocalPreference>()
     ensures { ExecutionsReachUnanswered H.mac P.answers }
 {}
@@ -120,16 +124,18 @@ pub fn served_are_checked_soon<H: Sha1HmacProvider, P: LocalPreference>()
     ensures { ServedAreCheckedSoon H.mac P.answers }
 {}
 
-/// The same of an agent that may share its random source.
+/// From a newly created agent with the profile `Modern`, which may share its random source: a request was served on a pair that is due,
+/// and no pair on its path is valid. Then in 2 * m rounds a check is sent on the path, or m of the rounds check other pairs before it,
+/// with the preconditions and exceptions of `served_are_checked_soon`.
 pub fn served_executions_reach<H: Sha1HmacProvider, P: LocalPreference>()
     ensures { ServedExecutionsReach H.mac P.answers }
 {
     served_are_checked_soon::<H, P>();
 }
 
-/// Likewise for a controlling agent without a valid pair, which may share its random source: the pair is due by the first of its rounds, and
-/// 2 * m rounds follow, fewer than m of which check other pairs before it. Then its path is reached, unless a success response is accepted in
-/// the rounds.
+/// A controlling agent with the profile `Modern`, which may share its random source, has no valid pair. A request was served on a pair
+/// that is due by the first of its rounds, and 2 * m rounds follow, fewer than m of which check other pairs before it. Then its path is
+/// reached, unless a success response is accepted in the rounds.
 pub fn executions_reach_served<H: Sha1HmacProvider, P: LocalPreference>()
     ensures { ExecutionsReachServed H.mac P.answers }
 {

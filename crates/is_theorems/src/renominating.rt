@@ -61,8 +61,9 @@ pub fn greatest_are_kept<H: Sha1HmacProvider, P: LocalPreference>()
     ensures { GreatestAreKept H.mac P.answers }
 {}
 
-/// Such a pair's path is the one that a controlled agent, which may share its random source, selected last, from its next `handle_timeout` call
-/// on that serves no early request, whatever it accepted before.
+/// A controlled agent, which may share its random source, goes by numbers, and one eligible pair was nominated by a greater number than all
+/// others. Then this pair's path is the one that it selected last, from its next `handle_timeout` call on that serves no early request,
+/// whatever it accepted before.
 pub fn greatest_are_last<H: Sha1HmacProvider, P: LocalPreference>()
     ensures { GreatestAreLast H.mac P.answers }
 {}

@@ -1,7 +1,7 @@
 //! Roles: the external view of a new agent, and how a conflict of two agents ends.
 
-ghost use Rattle.is_theorems.specs.Carried.{CarriedSettle};
-ghost use Rattle.is_theorems.specs.Conflicts.{ConflictsSettle};
+ghost use Rattle.is_theorems.specs.Carried.{CarriedResolve};
+ghost use Rattle.is_theorems.specs.Conflicts.{ConflictsResolve};
 ghost use Rattle.is_theorems.specs.KeptRole.{LiteKeepsRole};
 ghost use Rattle.is_theorems.specs.RoleView.{FreshIsNew};
 
@@ -23,9 +23,9 @@ pub fn lite_agents_keep_their_role<H: Sha1HmacProvider, P: LocalPreference>()
 /// One check resolves a role conflict: it is delivered to the other agent, which has the sender's role. Either that agent has the
 /// smaller tie-breaker and takes the other role, or its 487, delivered at any time while the transaction is pending, makes the sender
 /// take it.
-pub fn conflicts_settle<H: Sha1HmacProvider, P: LocalPreference>()
-    ensures same { ConflictsSettle H.mac P.answers }
-    ensures carried { CarriedSettle H.mac P.answers }
+pub fn conflicts_resolve<H: Sha1HmacProvider, P: LocalPreference>()
+    ensures same { ConflictsResolve H.mac P.answers }
+    ensures carried { CarriedResolve H.mac P.answers }
 {
     written_is_read();
     checks_fit();

@@ -24,15 +24,15 @@ pub fn answered_rounds_select<H: Sha1HmacProvider, P: LocalPreference>()
     ensures { AnsweredRoundsSelect H.mac P.answers }
 {}
 
-/// The same of an agent that shares its random source: a controlling agent selects a path in one of n rounds in which the checks
-/// of one of n pairs are answered.
+/// From a newly created agent, which may share its random source: no pair of a controlling agent is valid, and n pairs are due. Then it
+/// selects a path in one of n rounds in which the checks of one of these pairs are answered.
 pub fn executions_select<H: Sha1HmacProvider, P: LocalPreference>()
     ensures { ExecutionsSelect H.mac P.answers }
 {}
 
-/// In such rounds the checks on the pair's path are answered, and the peer nominates the path to a controlled agent. Then a path
-/// is selected by the end of the next `handle_timeout` call that serves no early request, if only one pair uses this path's
-/// addresses and no pair that does may have been removed.
+/// The rounds suffice for a pair that is due (`pairs_are_reached`), the checks on its path are answered in them, and the peer nominates
+/// the path to a controlled agent. Then a path is selected by the end of the next `handle_timeout` call that serves no early request, if
+/// only one pair uses this path's addresses and no pair that does may have been removed.
 pub fn asked_rounds_select<H: Sha1HmacProvider, P: LocalPreference>()
     ensures { AskedRoundsSelect H.mac P.answers }
 {}
@@ -46,8 +46,10 @@ pub fn open_rounds_select<H: Sha1HmacProvider, P: LocalPreference>()
     answered_rounds_select::<H, P>();
 }
 
-/// The same for a pair that is due by the first timeout of the rounds, and maybe not before it: one round suffices for a single pair,
-/// otherwise 2m - 1 later ones for m pairs when the second timeout comes, and one more for each pair that is added in these.
+/// From a newly created agent: no pair of a controlling agent is valid, and one is due by the first timeout of the rounds, and maybe not
+/// before it. If its checks are answered, a path is selected in these rounds, with the exception of `open_rounds_select`. One round
+/// suffices for a single pair, otherwise 2m - 1 later ones for m pairs when the second timeout comes, and one more for each pair that is
+/// added in these.
 pub fn due_rounds_select<H: Sha1HmacProvider, P: LocalPreference>()
     ensures { AnsweredDueRoundsSelect H.mac P.answers }
 {}

@@ -37,22 +37,25 @@ pub fn waiting_are_selected<H: Sha1HmacProvider, P: LocalPreference>()
     ensures { WaitingAreSelected H.mac P.answers }
 {}
 
-/// If the agent was never lite, the path was answered when it was selected.
+/// From a newly created agent that was never lite: the path of each `NominatedSend` that waits was answered when it was selected.
 pub fn waiting_are_answered<H: Sha1HmacProvider, P: LocalPreference>()
     ensures { WaitingAreAnswered H.mac P.answers }
 {}
 
-/// If it is also controlled since the last ICE restart, the peer nominated the path.
+/// From a newly created agent that was never lite, and is controlled since the last ICE restart: the peer nominated the path of each
+/// `NominatedSend` that waits.
 pub fn waiting_are_nominated_by_peer<H: Sha1HmacProvider, P: LocalPreference>()
     ensures { WaitingAreNominatedByPeer H.mac P.answers }
 {}
 
-/// If the profile was `Modern` at that restart, or there was none, the peer nominated the path since then: the restart left no early request.
+/// A newly created agent was never lite, and is controlled since the last ICE restart. If the profile was `Modern` at that restart, or
+/// there was none, the peer nominated the path of each `NominatedSend` that waits since then. The restart left no early request.
 pub fn waiting_are_nominated_since<H: Sha1HmacProvider, P: LocalPreference>()
     ensures { WaitingAreNominatedSince H.mac P.answers }
 {}
 
-/// So it did of each path that a call selects while the agent was controlled since the last clear.
+/// A newly created agent was never lite. If the profile was `Modern` at the last ICE restart, or there was none, the peer nominated since
+/// then each path that a call selects while the agent was controlled since the last clear.
 pub fn selections_are_nominated_since<H: Sha1HmacProvider, P: LocalPreference>()
     ensures { SelectionsAreNominatedSince H.mac P.answers }
 {}
@@ -63,8 +66,8 @@ pub fn selected_are_answered<H: Sha1HmacProvider, P: LocalPreference>()
     ensures { SelectedAreAnswered H.mac P.answers }
 {}
 
-/// Each path that was selected while the agent was controlled since the last clear was nominated by an accepted request: by USE-CANDIDATE,
-/// or by NOMINATION if nominations have numbers.
+/// A newly created agent is never lite, and has one random source. Each path that was selected while the agent was controlled since the
+/// last clear was nominated by an accepted request: by USE-CANDIDATE, or by NOMINATION if nominations have numbers.
 pub fn selected_are_nominated_by_peer<H: Sha1HmacProvider, P: LocalPreference>()
     ensures { SelectedAreNominatedByPeer H.mac P.answers }
 {}

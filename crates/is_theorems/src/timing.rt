@@ -30,7 +30,8 @@ pub fn next_comes_in_time<H: Sha1HmacProvider, P: LocalPreference>()
     ensures { NextComesInTime H.mac P.answers }
 {}
 
-/// The same of any rounds: the kth one after the first begins at most k times that later than it, or the pair's path is reached.
+/// From a newly created agent, which may share its random source: a pair is due by the first of the rounds of a punctual caller. Then the
+/// kth one after it begins at most k times one pacing interval and δ later, or the pair's path is reached.
 pub fn rounds_come_in_time<H: Sha1HmacProvider, P: LocalPreference>()
     ensures { RoundsComeInTime H.mac P.answers }
 {}
@@ -44,7 +45,8 @@ pub fn executions_reach_in_time<H: Sha1HmacProvider, P: LocalPreference>()
     executions_reach_from_due::<H, P>();
 }
 
-/// The same of the rounds of a log.
+/// In the rounds of a log: let k rounds after the first suffice for a pair that is due by it. Then the pair's path is reached at most k
+/// times one pacing interval and δ after the first `handle_timeout` call, as in `executions_reach_in_time`.
 pub fn reached_in_time<H: Sha1HmacProvider, P: LocalPreference>()
     ensures { PairsAreReachedInTime H.mac P.answers }
 {
@@ -72,8 +74,9 @@ pub fn served_reach_in_time<H: Sha1HmacProvider, P: LocalPreference>()
     rounds_come_in_time::<H, P>();
 }
 
-/// Likewise for a controlling agent without a valid pair, for the k rounds after the first of `executions_check_from_due`: for n due pairs
-/// n - 1, or n if the pair is due at the first call and not before it.
+/// A controlling agent, which may share its random source, has no valid pair, and a pair is due. Let k rounds after the first one suffice
+/// for it as in `executions_check_from_due`: for n due pairs n - 1, or n if it is due at the first call and not before it. With a punctual
+/// caller a check is sent on its path by the time of the last of them, unless a path is selected in one of the rounds.
 pub fn executions_check_in_time<H: Sha1HmacProvider, P: LocalPreference>()
     ensures { ExecutionsCheckInTime H.mac P.answers }
 {
@@ -81,11 +84,12 @@ pub fn executions_check_in_time<H: Sha1HmacProvider, P: LocalPreference>()
     successes_select::<H, P>();
 }
 
-/// The same agent selects a path, if a success response is accepted in a round that begins at most one round trip after a check on the
-/// pair's path: in a round that begins at most k times one pacing interval and δ, and one round trip, after the first. The response may
-/// come several rounds after its check. Candidates may be added between the `handle_timeout` calls: then the k rounds suffice as in
-/// `executions_reach_unanswered`, or as in `executions_reach_served` if a request was served on the pair: 2 * m, however many pairs there are. The
-/// exception is that such a candidate may remove a pair of the path.
+/// A controlling agent, which may share its random source, has no valid pair, and one is due. A success response is accepted in a round
+/// that begins at most one round trip after a check on this pair's path; it may come several rounds after its check. Then a path is
+/// selected in a round that begins at most k times one pacing interval and δ, and one round trip, after the first. Here k is that of
+/// `executions_check_in_time`. If candidates are added between the `handle_timeout` calls, it is that of `executions_reach_unanswered`, or
+/// 2 * m as in `executions_reach_served` if a request was served on the pair. The exception is that such a candidate may remove a pair of
+/// the path.
 pub fn executions_select_in_time<H: Sha1HmacProvider, P: LocalPreference>()
     ensures { ExecutionsSelectInTime H.mac P.answers }
 {
@@ -95,7 +99,7 @@ pub fn executions_select_in_time<H: Sha1HmacProvider, P: LocalPreference>()
     successes_select::<H, P>();
 }
 
-/// The same of the rounds of a log.
+/// In the rounds of a log a controlling agent without a valid pair selects a path in time, as in `executions_select_in_time`.
 pub fn selected_in_time<H: Sha1HmacProvider, P: LocalPreference>()
     ensures { PathsAreSelectedInTime H.mac P.answers }
 {

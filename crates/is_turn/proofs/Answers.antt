@@ -1,19 +1,9 @@
 -- What bytes say, by the result of parsing them; only a response to the pending request changes a client.
-use Rattle.std.proofs.Common.{◌≡◌, ℕ, Bool, true, false, cond, List, Option, refl, sym, ap, ◌∙◌, inl, inr, ◌⊎◌}
-use Rattle.std.specs.Prelude.{is_some}
-use Rattle.std.specs.declared.net.socket_addr.SocketAddr.{SocketAddr}
-use Rattle.is_proto.specs.declared.error.StunError.{StunError}
 use Rattle.is_proto.specs.declared.error.StunError.TheVariants as errors
-use Rattle.is_proto.specs.declared.proto.Instant.{Instant}
-use Rattle.is_stun.specs.declared.trans_id.TransId.{TransId}
 use Rattle.is_stun.specs.Form.{form_fault, ReadsAny, FailsAnyBy}
-use Rattle.is_stun.specs.Message.{Message}
-use Rattle.is_turn.specs.declared.answer.Answer.{Answer}
-use Rattle.is_turn.specs.declared.answer.Answer.TheVariants.{Unparsed, Unasked, Malformed, Mapped, Failed}
-use Rattle.is_turn.specs.declared.client.StunClient.{StunClient}
-use Rattle.is_turn.specs.Answer.{is_answer, said_in, answer_by, answer_in, IsOwn, IsRead}
-use Rattle.is_turn.specs.Client.{pending_id}
-use Rattle.is_turn.specs.Response.{IsEventAfter, after_answer, IsAnswerTo}
+use Rattle.is_turn.specs.declared.answer.Answer.TheVariants.{Unparsed, Unasked}
+use Rattle.is_turn.specs.Answer.{is_answer, said_in, answer_by, answer_in}
+use Rattle.is_turn.proofs.Common.{◌∙◌, ◌≡◌, ap, Bool, cond, false, is_some, List, Message, Option, refl, StunError, sym, TransId, true, ℕ}
 
 -- ---- what bytes say
 
@@ -38,13 +28,3 @@ asked pending bytes m b h is holds = ap (λ (x : Bool). cond x (said_in m) Unask
 
 pub unasked : (pending : Option TransId) (bytes : List ℕ) (m : Message) (b : Bool) → ReadsAny bytes m → b ≡ is_answer pending m → b ≡ false → Unasked ≡ answer_in pending bytes
 unasked pending bytes m b h is fails = ap (λ (x : Bool). cond x (said_in m) Unasked) (sym (sym is ∙ fails)) ∙ parsed pending bytes m h
-
--- ---- what changes a client
-
-pub only_answers : (now : Instant) (answer : Answer) (c after : StunClient) (source : SocketAddr) (bytes : List ℕ) → source ≡ c.server → (IsOwn answer → IsRead (pending_id c) bytes)
-    → IsEventAfter answer c after.event → after ≡ after_answer now answer after.event c → (after ≡ c) ⊎ IsAnswerTo c source bytes
-only_answers now Unparsed c after source bytes server own event state = inl (state ∙ rw event refl)
-only_answers now Unasked c after source bytes server own event state = inl (state ∙ rw event refl)
-only_answers now Malformed c after source bytes server own event state = inl (state ∙ rw event refl)
-only_answers now (Mapped at) c after source bytes server own event state = inr (record { server = server; response = own tt })
-only_answers now (Failed code) c after source bytes server own event state = inr (record { server = server; response = own tt })

@@ -1,26 +1,15 @@
 -- A response that the client believes says what the server has.
-use Rattle.std.proofs.Common.{◌≡◌, ℕ, ◌+◌, ◌*◌, ◌≤◌, ◌==◌, ◌&&◌, Bool, true, false, cond, not, List, Option, Some, None, IsTrue, ◌↔◌, is_some, arith, refl, sym, ap, subst, ◌∙◌, inl, inr, ◌⊎◌}
-use Rattle.std.specs.declared.net.socket_addr.SocketAddr.{SocketAddr}
-use Rattle.is_proto.specs.Times.{SECOND, later}
-use Rattle.is_stun.specs.Message.{Message}
-use Rattle.is_turn.specs.declared.attempts.Attempt.{Attempt}
-use Rattle.is_turn.specs.declared.operation.Operation.{Operation}
-use Rattle.is_turn.specs.declared.outcome.Outcome.{Outcome}
-use Rattle.is_turn.specs.declared.outcome.Outcome.TheVariants.{Dropped, Doubted, Hinted, Challenged, Allocated, Refreshed, Lasting, Redirected, Failed}
 use Rattle.is_turn.specs.declared.outcome.Reason.TheVariants as reasons
-use Rattle.is_turn.specs.declared.requests.Request.{Request}
 use Rattle.is_turn.specs.declared.requests.Request.TheVariants as requests
-use Rattle.is_turn.specs.declared.session.Phase.{Phase}
 use Rattle.is_turn.specs.declared.session.Phase.TheVariants as phases
-use Rattle.is_turn.specs.declared.verdict.Verdict.{Verdict}
 use Rattle.is_turn.specs.declared.verdict.Verdict.TheVariants as verdicts
-use Rattle.is_turn.specs.Credentials.{Credentials}
-use Rattle.is_turn.specs.Leases.{request_for, lifetime_for}
-use Rattle.is_turn.specs.Operations.{takes_challenge}
-use Rattle.is_turn.specs.Outcome.{answered_in, answered_by, key_in, on_alternate, lasts, relays, on_success, on_code, on_challenge, code_or_success, is_unknown, is_last_sent, seconds_or_none, outcome_by, outcome_or, outcome_with}
-use Rattle.is_turn.specs.Session.{lifetime_of}
-use Rattle.is_turn.specs.Verdict.{IsSignedFor, code_of, verdict_of}
-use Rattle.is_turn.specs.Worlds.{stated_lifetime, WasAccepted, IsBelievable, IsHonest, IsHeld, IsForAllocation, IsForLease}
+use Rattle.is_turn.proofs.Common.{◌&&◌, ◌*◌, ◌+◌, ◌==◌, ◌↔◌, ◌∙◌, ◌≡◌, ◌≤◌, ◌⊎◌, Allocated, answered_by, answered_in, ap, arith, Attempt}
+use Rattle.is_turn.proofs.Common.{Bool, Challenged, code_of, code_or_success, cond, Credentials, Doubted, Dropped, Failed, false, Hinted}
+use Rattle.is_turn.proofs.Common.{inl, inr, is_last_sent, is_some, is_unknown, IsBelievable, IsForAllocation, IsForLease, IsHeld, IsHonest}
+use Rattle.is_turn.proofs.Common.{IsSignedFor, IsTrue, key_in, Lasting, lasts, later, lifetime_for, lifetime_of, List, Message, None, not}
+use Rattle.is_turn.proofs.Common.{on_alternate, on_challenge, on_code, on_success, Operation, Option, Outcome, outcome_by, outcome_or}
+use Rattle.is_turn.proofs.Common.{outcome_with, Phase, Redirected, refl, Refreshed, relays, Request, request_for, SECOND, seconds_or_none}
+use Rattle.is_turn.proofs.Common.{SocketAddr, Some, stated_lifetime, subst, sym, takes_challenge, true, Verdict, verdict_of, WasAccepted, ℕ}
 use Rattle.is_turn.proofs.Beliefs.{Log, AttemptsGood, OperationGood, answered_held}
 use Rattle.is_turn.proofs.Receiving.{Means, means}
 

@@ -1,29 +1,19 @@
 -- What the calls of a client do to its leases keeps what it believes of them within what the server has.
-use Rattle.std.proofs.Common.{◌≡◌, ℕ, ◌+◌, ◌≤◌, ◌<◌, Bool, true, false, cond, ◌||◌, List, [], Option, Some, None, is_some, is_none, length, set, map, max, position, nat_lt, arith, refl, sym, subst, inl, inr, ◌⊎◌}
-use Rattle.std.proofs.lemmas.Bool.{cases_lt}
-use Rattle.std.proofs.lemmas.List.{get_or_past, get_or-map, length-map}
-use Rattle.std.specs.declared.net.socket_addr.SocketAddr.{SocketAddr}
-use Rattle.rand_core.specs.Stream.{Stream, fill_bytes}
-use Rattle.is_proto.specs.declared.proto.Instant.{Instant}
-use Rattle.is_turn.specs.declared.attempts.Attempt.{Attempt}
-use Rattle.is_turn.specs.declared.lease.Lease.{Lease}
-use Rattle.is_turn.specs.declared.operation.Operation.{Operation}
-use Rattle.is_turn.specs.declared.relaying.Route.{Route}
 use Rattle.is_turn.specs.declared.relaying.Route.TheVariants as routes
-use Rattle.is_turn.specs.declared.requests.Request.{Request}
-use Rattle.is_turn.specs.declared.session.Phase.{Phase}
 use Rattle.is_turn.specs.declared.session.Phase.TheVariants as phases
-use Rattle.is_turn.specs.declared.session.Session.{Session}
-use Rattle.is_turn.specs.declared.session.Step.{Step}
 use Rattle.is_turn.specs.declared.session.Step.TheVariants as steps
-use Rattle.is_turn.specs.declared.timing.ClientTiming.{ClientTiming}
-use Rattle.is_turn.specs.Client.{at_time, time_after}
-use Rattle.is_turn.specs.Leases.{plain, ip_of, new_lease, unused, request_for, lifetime_for, is_permission_of, is_channel_of, is_held_back, is_free, is_open, is_reported, is_renewal_due, requested_for, renewed, lapsed, advanced, is_past, used_at, asked_again, named_at, lasts_since, later_end, barred_at, retried_at, failed_at, is_barring, with_operation, changed, lease_attempted, lease_repeated, repeated_if, lease_polled, without_report}
-use Rattle.is_turn.specs.Operations.{attempted, is_exhausted, sent_once_more, polled, doubted, hinted, another}
-use Rattle.is_turn.specs.Places.{at_place, named_in, added_at, permitted_by, permitted, channel_added_at, channel_named_by, with_channel, used_in, heard_by, heard_at, heard}
-use Rattle.is_turn.specs.Relaying.{kept_in, advanced_in, driven_by, permits_peer, routed_if, routed, reported_at, reported}
-use Rattle.is_turn.specs.Session.{is_ready, may_permit}
-use Rattle.is_turn.specs.Worlds.{Acceptance, IsNew, IsHeld, IsForLease, EndIsHeld}
+use Rattle.is_turn.proofs.Common.{[], ◌+◌, ◌<◌, ◌||◌, ◌≡◌, ◌≤◌, ◌⊎◌, Acceptance, added_at, advanced, advanced_in, another, arith}
+use Rattle.is_turn.proofs.Common.{asked_again, at_place, at_time, Attempt, attempted, barred_at, Bool, cases_lt, changed, channel_added_at}
+use Rattle.is_turn.proofs.Common.{channel_named_by, ClientTiming, cond, doubted, driven_by, EndIsHeld, failed_at, false, fill_bytes}
+use Rattle.is_turn.proofs.Common.{get_or-map, get_or_past, heard, heard_at, heard_by, hinted, inl, inr, Instant, ip_of, is_barring}
+use Rattle.is_turn.proofs.Common.{is_channel_of, is_exhausted, is_free, is_held_back, is_none, is_open, is_past, is_permission_of, is_ready}
+use Rattle.is_turn.proofs.Common.{is_renewal_due, is_reported, is_some, IsForLease, IsHeld, IsNew, kept_in, lapsed, lasts_since, later_end}
+use Rattle.is_turn.proofs.Common.{Lease, lease_attempted, lease_polled, lease_repeated, length, length-map, lifetime_for, List, map, max}
+use Rattle.is_turn.proofs.Common.{may_permit, named_at, named_in, nat_lt, new_lease, None, Operation, Option, permits_peer, permitted}
+use Rattle.is_turn.proofs.Common.{permitted_by, Phase, plain, polled, position, refl, renewed, repeated_if, reported, reported_at, Request}
+use Rattle.is_turn.proofs.Common.{request_for, requested_for, retried_at, Route, routed, routed_if, sent_once_more, Session, set}
+use Rattle.is_turn.proofs.Common.{SocketAddr, Some, Step, Stream, subst, sym, time_after, true, unused, used_at, used_in, with_channel}
+use Rattle.is_turn.proofs.Common.{with_operation, without_report, ℕ}
 use Rattle.is_turn.proofs.Beliefs.{Log, AttemptsGood, OperationGood, RequestGood, LeaseGood, LeasesGood, attempts_with}
 use Rattle.is_turn.proofs.NamedPeers.{AtSet, at_set}
 

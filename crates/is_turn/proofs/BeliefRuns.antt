@@ -1,43 +1,32 @@
 -- Each call keeps what a client believes within what the server has, so in each run it is true.
-use Rattle.std.proofs.Common.{◌≡◌, ℕ, ◌≤◌, ◌<◌, Bool, true, false, cond, List, [], ◌∷◌, Option, Some, None, is_some, position, Result, Ok, Err, refl, sym, ap, subst, inl, inr, ◌⊎◌, replicate, arith}
-use Rattle.std.proofs.lemmas.Bool.{cases_lt}
-use Rattle.std.proofs.lemmas.List.{get_or-replicate, get_or_past, length-replicate}
-use Rattle.std.specs.declared.net.socket_addr.SocketAddr.{SocketAddr}
-use Rattle.rand_core.specs.Stream.{Stream, fill_bytes}
-use Rattle.is_proto.specs.declared.error.StunError.{StunError}
-use Rattle.is_proto.specs.declared.proto.Instant.{Instant}
-use Rattle.is_stun.specs.declared.trans_id.TransId.{TransId}
-use Rattle.is_stun.specs.Message.{Message}
-use Rattle.is_turn.specs.declared.lease.Lease.{Lease}
-use Rattle.is_turn.specs.declared.operation.Operation.{Operation}
-use Rattle.is_turn.specs.declared.outcome.Outcome.{Outcome}
-use Rattle.is_turn.specs.declared.outcome.Outcome.TheVariants.{Dropped, Doubted, Hinted, Challenged, Allocated, Refreshed, Lasting, Redirected, Failed}
 use Rattle.is_turn.specs.declared.outcome.Reason.TheVariants as reasons
-use Rattle.is_turn.specs.declared.requests.Request.{Request}
-use Rattle.is_turn.specs.declared.session.Session.{Session}
-use Rattle.is_turn.specs.declared.session.Step.{Step}
-use Rattle.is_turn.specs.declared.turn.Packet.{Packet}
 use Rattle.is_turn.specs.declared.turn.Packet.TheVariants as packets
 use Rattle.is_turn.specs.Alternate.{alternate_in}
-use Rattle.is_turn.specs.Client.{at_time, time_after}
-use Rattle.is_turn.specs.Credentials.{Credentials}
-use Rattle.is_turn.specs.Incoming.{Datagram, datagram_of, channel_data, peer_data, response, malformed, unasked, unparsed}
-use Rattle.is_turn.specs.LeaseResponses.{with_changed, LeaseApplies, heard_peer, heard_data}
-use Rattle.is_turn.specs.Leases.{unused, ip_of, is_answered_by, lifetime_for, lasts_since, failed_at, changed, lease_polled}
-use Rattle.is_turn.specs.Operations.{doubted, hinted, another}
-use Rattle.is_turn.specs.Outcome.{outcome_with, outcome_for}
-use Rattle.is_turn.specs.Places.{at_place, channel_peer}
-use Rattle.is_turn.specs.Receipts.{Receipt, dropped}
-use Rattle.is_turn.specs.Receiving.{IsRespondedBy, IsReceivedAs}
-use Rattle.is_turn.specs.Relaying.{kept_leases, routed, step_at, lease_due, advanced_in, TimesOutBy, client_packet, after_poll, leases_after_poll, lease_polled_in, session_after_event, leases_after_event, reported}
-use Rattle.is_turn.specs.Session.{new_session, is_ready, is_redirected, has_failed, lease_failed, step_of, with_renewal, lifetime_of}
-use Rattle.is_turn.specs.Turn.{OutcomeApplies, Follows, challenge_taken, with_doubt, with_hint, with_another, after_step, after_event, key_now}
-use Rattle.is_turn.specs.Verdict.{code_of}
-use Rattle.is_turn.specs.Worlds.{Sent, Acceptance, World, Call, start, close, lose, permit, send, probe, handle_timeout, poll_transmit, poll_event, receive, IsHonest, IsNew, id_of, and_sent, sent_after, Becomes, Does, Happens, IsFresh, IsRun, IsHeld, IsForAllocation, IsForLease, BeliefIsTrue, BeliefIsAlwaysTrue}
-use Rattle.is_turn.proofs.Beliefs.{Log, RequestGood, LeaseGood, LeasesGood, SessionGood, session_later, leases_later, session_sent, leases_sent}
+use Rattle.is_turn.proofs.Common.{[], ◌<◌, ◌∷◌, ◌≡◌, ◌≤◌, ◌⊎◌, Acceptance, advanced_in, after_event, after_poll, after_step, Allocated}
+use Rattle.is_turn.proofs.Common.{and_sent, another, ap, arith, at_place, at_time, Becomes, BeliefIsAlwaysTrue, BeliefIsTrue, Bool, Call}
+use Rattle.is_turn.proofs.Common.{cases_lt, challenge_taken, Challenged, changed, channel_data, channel_peer, client_packet, close, code_of}
+use Rattle.is_turn.proofs.Common.{cond, Credentials, Datagram, datagram_of, Does, Doubted, doubted, Dropped, dropped, Err, Failed}
+use Rattle.is_turn.proofs.Common.{failed_at, false, fill_bytes, Follows, get_or-replicate, get_or_past, handle_timeout, Happens, has_failed}
+use Rattle.is_turn.proofs.Common.{heard_data, heard_peer, Hinted, hinted, id_of, inl, inr, Instant, ip_of, is_answered_by, is_ready}
+use Rattle.is_turn.proofs.Common.{is_redirected, is_some, IsForAllocation, IsForLease, IsFresh, IsHeld, IsHonest, IsNew, IsReceivedAs}
+use Rattle.is_turn.proofs.Common.{IsRespondedBy, IsRun, kept_leases, key_now, Lasting, lasts_since, Lease, lease_due, lease_failed}
+use Rattle.is_turn.proofs.Common.{lease_polled, lease_polled_in, LeaseApplies, leases_after_event, leases_after_poll, length-replicate}
+use Rattle.is_turn.proofs.Common.{lifetime_for, lifetime_of, List, lose, malformed, Message, new_session, None, Ok, Operation, Option}
+use Rattle.is_turn.proofs.Common.{Outcome, outcome_for, outcome_with, OutcomeApplies, Packet, peer_data, permit, poll_event, poll_transmit}
+use Rattle.is_turn.proofs.Common.{position, probe, Receipt, receive, Redirected, refl, Refreshed, replicate, reported, Request, response}
+use Rattle.is_turn.proofs.Common.{Result, routed, send, Sent, sent_after, Session, session_after_event, SocketAddr, Some, start, Step}
+use Rattle.is_turn.proofs.Common.{step_at, step_of, Stream, StunError, subst, sym, time_after, TimesOutBy, TransId, true, unasked, unparsed}
+use Rattle.is_turn.proofs.Common.{unused, with_another, with_changed, with_doubt, with_hint, with_renewal, World, ℕ}
+use Rattle.is_turn.proofs.Beliefs.{Log, RequestGood, LeaseGood, LeasesGood, SessionGood, session_later, leases_later, session_sent}
+use Rattle.is_turn.proofs.Beliefs.{leases_sent}
 use Rattle.is_turn.proofs.BeliefAnswers.{IsBacked, IsBackedFor, backed_with}
-use Rattle.is_turn.proofs.BeliefLeases.{good_set, good_list_cond, good_failed, good_doubted, good_hinted, good_another, good_polled, good_lasts, good_permits, good_routed, good_heard, good_advanced_in, good_kept, good_driven, good_reported}
-use Rattle.is_turn.proofs.BeliefSessions.{session_cond, session_started, session_closed, session_lost, session_failed, session_probed, session_lease_failed, session_allocated, session_refreshed, session_redirected, session_doubt, session_hint, session_another, session_renewal, session_step, session_sending, session_polled, session_routed, session_reported}
+use Rattle.is_turn.proofs.BeliefLeases.{good_set, good_list_cond, good_failed, good_doubted, good_hinted, good_another, good_polled}
+use Rattle.is_turn.proofs.BeliefLeases.{good_lasts, good_permits, good_routed, good_heard, good_advanced_in, good_kept, good_driven}
+use Rattle.is_turn.proofs.BeliefLeases.{good_reported}
+use Rattle.is_turn.proofs.BeliefSessions.{session_cond, session_started, session_closed, session_lost, session_failed, session_probed}
+use Rattle.is_turn.proofs.BeliefSessions.{session_lease_failed, session_allocated, session_refreshed, session_redirected, session_doubt}
+use Rattle.is_turn.proofs.BeliefSessions.{session_hint, session_another, session_renewal, session_step, session_sending, session_polled}
+use Rattle.is_turn.proofs.BeliefSessions.{session_routed, session_reported}
 
 abbrev Good : Log → Session → List Lease → Type 0
 Good log s l = SessionGood log s × LeasesGood log l

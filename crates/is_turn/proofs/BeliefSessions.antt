@@ -1,28 +1,18 @@
 -- What the calls of a client do to its session keeps what it believes of its allocation within what the server has.
-use Rattle.std.proofs.Common.{◌≡◌, ℕ, ◌==◌, ◌&&◌, ◌||◌, Bool, true, false, cond, List, Option, Some, None, is_none, refl}
-use Rattle.std.specs.declared.net.socket_addr.SocketAddr.{SocketAddr}
-use Rattle.rand_core.specs.Stream.{Stream, fill_bytes}
-use Rattle.is_proto.specs.declared.proto.Instant.{Instant}
-use Rattle.is_turn.specs.declared.attempts.Attempt.{Attempt}
-use Rattle.is_turn.specs.declared.operation.Operation.{Operation}
-use Rattle.is_turn.specs.declared.relaying.Route.{Route}
 use Rattle.is_turn.specs.declared.relaying.Route.TheVariants as routes
-use Rattle.is_turn.specs.declared.requests.Request.{Request}
-use Rattle.is_turn.specs.declared.requests.Request.TheVariants.{Refresh}
 use Rattle.is_turn.specs.declared.session.Allocation.{Allocation}
-use Rattle.is_turn.specs.declared.session.Phase.{Phase}
 use Rattle.is_turn.specs.declared.session.Phase.TheVariants as phases
-use Rattle.is_turn.specs.declared.session.Session.{Session}
-use Rattle.is_turn.specs.declared.session.Step.{Step}
 use Rattle.is_turn.specs.declared.session.Step.TheVariants as steps
-use Rattle.is_turn.specs.declared.turn.Packet.{Packet}
 use Rattle.is_turn.specs.declared.turn.Packet.TheVariants as packets
-use Rattle.is_turn.specs.Client.{at_time, time_after}
-use Rattle.is_turn.specs.Operations.{is_exhausted, sent_once_more, polled, doubted, hinted, another}
-use Rattle.is_turn.specs.Relaying.{after_route, sending_for}
-use Rattle.is_turn.specs.Session.{lifetime_of, is_new, is_ready, with_request, changed_by, request_timing, without_pace, asking, turn_started, closed, lost, freed, may_be_made, unsent, left, closed_early, closed_in, lost_in, extended, allocated_in, refreshed_in, renewed, is_redirected, is_gone, retried, not_renewed, failed_in, probed, lease_failed, is_renewal_due, with_renewal, sending, tried_by, repeated_by}
-use Rattle.is_turn.specs.Turn.{after_step, packet_polled, reported_by, with_doubt, with_hint, with_another}
-use Rattle.is_turn.specs.Worlds.{Acceptance, IsNew, IsHeld, IsForAllocation, AllocationIsHeld}
+use Rattle.is_turn.specs.Session.{renewed, is_renewal_due}
+use Rattle.is_turn.proofs.Common.{◌&&◌, ◌==◌, ◌||◌, ◌≡◌, Acceptance, after_route, after_step, allocated_in, AllocationIsHeld, another}
+use Rattle.is_turn.proofs.Common.{asking, at_time, Attempt, Bool, changed_by, closed, closed_early, closed_in, cond, doubted, extended}
+use Rattle.is_turn.proofs.Common.{failed_in, false, fill_bytes, freed, hinted, Instant, is_exhausted, is_gone, is_new, is_none, is_ready}
+use Rattle.is_turn.proofs.Common.{is_redirected, IsForAllocation, IsHeld, IsNew, lease_failed, left, lifetime_of, List, lost, lost_in}
+use Rattle.is_turn.proofs.Common.{may_be_made, None, not_renewed, Operation, Option, Packet, packet_polled, Phase, polled, probed, refl}
+use Rattle.is_turn.proofs.Common.{Refresh, refreshed_in, repeated_by, reported_by, Request, request_timing, retried, Route, sending}
+use Rattle.is_turn.proofs.Common.{sending_for, sent_once_more, Session, SocketAddr, Some, Step, Stream, time_after, tried_by, true}
+use Rattle.is_turn.proofs.Common.{turn_started, unsent, with_another, with_doubt, with_hint, with_renewal, with_request, without_pace, ℕ}
 use Rattle.is_turn.proofs.Beliefs.{Log, AttemptsGood, OperationGood, SessionGood, attempts_with}
 
 pub session_cond : (log : Log) (b : Bool) (x y : Session) → SessionGood log x → SessionGood log y → SessionGood log (cond b x y)

@@ -1,22 +1,10 @@
 -- What a client believes is true: each end is counted from a time at which no packet of its request had left.
-use Rattle.std.proofs.Common.{◌≡◌, ℕ, ◌+◌, ◌≤◌, Bool, true, false, cond, List, [], ◌∷◌, Option, Some, None, bytes_eq, arith, refl, sym, subst, inl, inr}
-use Rattle.std.specs.declared.net.socket_addr.SocketAddr.{SocketAddr}
-use Rattle.is_proto.specs.Times.{later}
-use Rattle.is_proto.specs.declared.proto.Instant.{Instant}
-use Rattle.is_stun.specs.declared.trans_id.TransId.{TransId}
-use Rattle.is_stun.specs.Message.{Message}
-use Rattle.is_turn.specs.declared.attempts.Attempt.{Attempt}
-use Rattle.is_turn.specs.declared.attempts.Attempts.{Attempts}
-use Rattle.is_turn.specs.declared.lease.Lease.{Lease}
-use Rattle.is_turn.specs.declared.operation.Operation.{Operation}
-use Rattle.is_turn.specs.declared.requests.Request.{Request}
-use Rattle.is_turn.specs.declared.session.Phase.{Phase}
 use Rattle.is_turn.specs.declared.session.Phase.TheVariants as phases
-use Rattle.is_turn.specs.declared.session.Session.{Session}
 use Rattle.is_turn.specs.Attempts.{if_id, or, attempt_with, is_of_id, with_attempt}
-use Rattle.is_turn.specs.Outcome.{answered_in, id_in, answers_request}
-use Rattle.is_turn.specs.Places.{at_place}
-use Rattle.is_turn.specs.Worlds.{Sent, Acceptance, WasSent, stated_lifetime, WasAccepted, IsNew, IsHeld, IsForAllocation, IsForLease, AllocationIsHeld, EndIsHeld}
+use Rattle.is_turn.proofs.Common.{[], ◌+◌, ◌∷◌, ◌≡◌, ◌≤◌, Acceptance, AllocationIsHeld, answered_in, answers_request, arith, at_place}
+use Rattle.is_turn.proofs.Common.{Attempt, Attempts, Bool, bytes_eq, cond, EndIsHeld, false, id_in, inl, inr, Instant, IsForAllocation}
+use Rattle.is_turn.proofs.Common.{IsForLease, IsHeld, IsNew, Lease, List, Message, None, Operation, Option, Phase, refl, Request, Sent}
+use Rattle.is_turn.proofs.Common.{Session, SocketAddr, Some, stated_lifetime, subst, sym, TransId, true, WasAccepted, WasSent, ℕ}
 
 -- ---- a log: what left, the time, and what the server accepted
 
@@ -65,9 +53,6 @@ sent_since id other since time [] same all was = absurd was
 sent_since id other since time (x ∷ sent) same all (inl h) =
     let first : since ≤ x.time = all.0 (subst (λ (y : List ℕ). bytes_eq id y ≡ true) (sym h.0) same) in omega (arith, first, h.1)
 sent_since id other since time (x ∷ sent) same all (inr h) = sent_since id other since time sent same all.1 h
-
-later_le : (since by : ℕ) → later since by ≤ since + by
-later_le since by = omega arith
 
 -- what was accepted lasts as long as what is counted from the attempt
 held_by : (IsFor : Request → Type 0) (r : Request) (m : Message) (now until : ℕ) (a : Attempt) (sent : List Sent) (accepted : List Acceptance)

@@ -1,10 +1,7 @@
 -- What a client keeps is bounded by its places.
-use Rattle.std.proofs.Common.{ℕ, ◌+◌, ◌*◌, ◌≤◌, Bool, true, false, List, [], ◌∷◌, Option, Some, None, length, arith}
-use Rattle.is_turn.specs.declared.attempts.Attempts.{Attempts}
-use Rattle.is_turn.specs.declared.lease.Lease.{Lease}
-use Rattle.is_turn.specs.declared.operation.Operation.{Operation}
-use Rattle.is_turn.specs.declared.session.Session.{Session}
 use Rattle.is_turn.specs.Bounds.{one_if, total, requests_of, ids_in, ids_by, ids_of, one_by, waits_by, packets_of, events_of}
+use Rattle.is_turn.proofs.Common.{[], ◌*◌, ◌+◌, ◌∷◌, ◌≤◌, arith, Attempts, Bool, false, Lease, length, List, None, Operation, Option}
+use Rattle.is_turn.proofs.Common.{Session, Some, true, ℕ}
 
 total_one : (count : Lease → ℕ) (l : List Lease) → ((g : Lease) → count g ≤ 1) → total count l ≤ length l
 total_one count [] h = omega arith

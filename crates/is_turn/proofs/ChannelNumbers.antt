@@ -1,33 +1,19 @@
 -- No call gives the number of a channel to another peer.
-use Rattle.std.proofs.Common.{◌≡◌, ℕ, ◌+◌, ◌<◌, ◌≤◌, Bool, true, false, cond, ◌&&◌, ◌||◌, List, [], Option, Some, None, is_some, is_none, length, set, map, position, nat_lt, refl, sym, ap, subst, ◌∙◌, inl, inr, ◌⊎◌}
-use Rattle.std.proofs.lemmas.Bool.{cases_eq, cases_lt}
-use Rattle.std.proofs.lemmas.List.{get_or-set_same, get_or-set_other, get_or_past, get_or-map}
 use Rattle.std.proofs.lemmas.List.Quantifiers.{position-Some}
-use Rattle.std.specs.declared.net.socket_addr.SocketAddr.{SocketAddr}
-use Rattle.rand_core.specs.Stream.{Stream, fill_bytes}
-use Rattle.is_proto.specs.declared.proto.Instant.{Instant}
-use Rattle.is_stun.specs.Message.{Message}
-use Rattle.is_turn.specs.declared.lease.Lease.{Lease}
-use Rattle.is_turn.specs.declared.operation.Operation.{Operation}
-use Rattle.is_turn.specs.declared.outcome.Outcome.{Outcome}
-use Rattle.is_turn.specs.declared.outcome.Outcome.TheVariants.{Dropped, Doubted, Hinted, Challenged, Allocated, Refreshed, Lasting, Redirected, Failed}
-use Rattle.is_turn.specs.declared.session.Phase.{Phase}
 use Rattle.is_turn.specs.declared.session.Phase.TheVariants as phases
-use Rattle.is_turn.specs.declared.session.Session.{Session}
-use Rattle.is_turn.specs.declared.session.Step.{Step}
 use Rattle.is_turn.specs.declared.session.Step.TheVariants as steps
-use Rattle.is_turn.specs.declared.timing.ClientTiming.{ClientTiming}
-use Rattle.is_turn.specs.Credentials.{Credentials}
-use Rattle.is_turn.specs.LeaseResponses.{with_changed, LeaseApplies}
-use Rattle.is_turn.specs.Leases.{new_lease, unused, is_permission_of, is_channel_of, is_answered_by, is_held_back, is_free, is_open, is_idle, is_past, is_reported, is_renewal_due, is_barring, used_at, asked_again, named_at, lasts_since, requested_for, renewed, lapsed, advanced, barred_at, retried_at, failed_at, with_operation, changed, lease_attempted, lease_repeated, lease_polled, without_report}
-use Rattle.is_turn.specs.Numbers.{SameChannel, KeepsChannels}
-use Rattle.is_turn.specs.Operations.{polled, doubted, hinted, another}
-use Rattle.is_turn.specs.Outcome.{outcome_with}
-use Rattle.is_turn.specs.Places.{at_place, named_in, added_at, permitted_by, permitted, channel_added_at, channel_named_by, with_channel, used_in, heard_by, heard_at, heard}
-use Rattle.is_turn.specs.Receipts.{Receipt}
-use Rattle.is_turn.specs.Receiving.{IsRespondedBy, IsResponded}
-use Rattle.is_turn.specs.Turn.{challenge_taken}
-use Rattle.is_turn.specs.Relaying.{kept_in, driven_by, driven, step_at, reported_at, reported}
+use Rattle.is_turn.proofs.Common.{[], ◌&&◌, ◌+◌, ◌<◌, ◌||◌, ◌∙◌, ◌≡◌, ◌≤◌, ◌⊎◌, added_at, advanced, Allocated, another, ap, asked_again}
+use Rattle.is_turn.proofs.Common.{at_place, barred_at, Bool, cases_eq, cases_lt, challenge_taken, Challenged, changed, channel_added_at}
+use Rattle.is_turn.proofs.Common.{channel_named_by, ClientTiming, cond, Credentials, Doubted, doubted, driven, driven_by, Dropped, Failed}
+use Rattle.is_turn.proofs.Common.{failed_at, false, fill_bytes, get_or-map, get_or-set_other, get_or-set_same, get_or_past, heard, heard_at}
+use Rattle.is_turn.proofs.Common.{heard_by, Hinted, hinted, inl, inr, Instant, is_answered_by, is_barring, is_channel_of, is_free}
+use Rattle.is_turn.proofs.Common.{is_held_back, is_idle, is_none, is_open, is_past, is_permission_of, is_renewal_due, is_reported, is_some}
+use Rattle.is_turn.proofs.Common.{IsResponded, IsRespondedBy, KeepsChannels, kept_in, lapsed, Lasting, lasts_since, Lease, lease_attempted}
+use Rattle.is_turn.proofs.Common.{lease_polled, lease_repeated, LeaseApplies, length, List, map, Message, named_at, named_in, nat_lt}
+use Rattle.is_turn.proofs.Common.{new_lease, None, Operation, Option, Outcome, outcome_with, permitted, permitted_by, Phase, polled}
+use Rattle.is_turn.proofs.Common.{position, Receipt, Redirected, refl, Refreshed, renewed, reported, reported_at, requested_for, retried_at}
+use Rattle.is_turn.proofs.Common.{SameChannel, Session, set, SocketAddr, Some, Step, step_at, Stream, subst, sym, true, unused, used_at}
+use Rattle.is_turn.proofs.Common.{used_in, with_changed, with_channel, with_operation, without_report, ℕ}
 
 -- ---- a lease in a place
 

@@ -1,3 +1,4 @@
+mod Common
 -- What a datagram says to a client, and what it changes.
 mod Answers
 mod ChannelNumbers

@@ -1,32 +1,18 @@
 -- No call but permit and send names a peer, and none changes the number of places.
-use Rattle.std.proofs.Common.{◌≡◌, ℕ, ◌+◌, ◌<◌, ◌≤◌, Bool, true, false, cond, List, [], Option, Some, None, length, set, map, position, nat_lt, refl, sym, ap, subst, ◌∙◌, inl, inr, ◌⊎◌}
-use Rattle.std.proofs.lemmas.Bool.{cases_eq, cases_lt}
-use Rattle.std.proofs.lemmas.List.{get_or-set_same, get_or-set_other, get_or_past, get_or-map, set_past, length-set, length-map}
-use Rattle.std.specs.declared.net.socket_addr.SocketAddr.{SocketAddr}
-use Rattle.rand_core.specs.Stream.{Stream, fill_bytes}
-use Rattle.is_proto.specs.declared.proto.Instant.{Instant}
-use Rattle.is_stun.specs.Message.{Message}
-use Rattle.is_turn.specs.declared.lease.Lease.{Lease}
-use Rattle.is_turn.specs.declared.outcome.Outcome.{Outcome}
-use Rattle.is_turn.specs.declared.outcome.Outcome.TheVariants.{Dropped, Doubted, Hinted, Challenged, Allocated, Refreshed, Lasting, Redirected, Failed}
-use Rattle.is_turn.specs.declared.session.Phase.{Phase}
 use Rattle.is_turn.specs.declared.session.Phase.TheVariants as phases
-use Rattle.is_turn.specs.declared.session.Session.{Session}
-use Rattle.is_turn.specs.declared.session.Step.{Step}
 use Rattle.is_turn.specs.declared.session.Step.TheVariants as steps
-use Rattle.is_turn.specs.declared.timing.ClientTiming.{ClientTiming}
-use Rattle.is_turn.specs.Credentials.{Credentials}
-use Rattle.is_turn.specs.LeaseResponses.{with_changed, LeaseApplies}
-use Rattle.is_turn.specs.Leases.{new_lease, unused, is_permission_of, is_channel_of, is_answered_by, is_held_back, is_free, is_open, is_reported, used_at, named_at, lasts_since, advanced, failed_at, changed, lease_attempted, lease_repeated, lease_polled, without_report}
-use Rattle.is_turn.specs.Numbers.{SameChannel}
-use Rattle.is_turn.specs.Operations.{polled, doubted, hinted, another}
-use Rattle.is_turn.specs.Outcome.{outcome_with}
 use Rattle.is_turn.specs.Peers.{KeepsPlaces, NamesOnly}
-use Rattle.is_turn.specs.Places.{at_place, named_in, added_at, permitted_by, permitted, channel_added_at, channel_named_by, with_channel, used_in, heard_by, heard_at, heard}
-use Rattle.is_turn.specs.Receipts.{Receipt}
-use Rattle.is_turn.specs.Receiving.{IsRespondedBy, IsResponded}
-use Rattle.is_turn.specs.Relaying.{kept_in, driven_by, driven, step_at, reported_at, reported}
-use Rattle.is_turn.specs.Turn.{challenge_taken}
+use Rattle.is_turn.proofs.Common.{[], ◌+◌, ◌<◌, ◌∙◌, ◌≡◌, ◌≤◌, ◌⊎◌, added_at, advanced, Allocated, another, ap, at_place, Bool, cases_eq}
+use Rattle.is_turn.proofs.Common.{cases_lt, challenge_taken, Challenged, changed, channel_added_at, channel_named_by, ClientTiming, cond}
+use Rattle.is_turn.proofs.Common.{Credentials, Doubted, doubted, driven, driven_by, Dropped, Failed, failed_at, false, fill_bytes}
+use Rattle.is_turn.proofs.Common.{get_or-map, get_or-set_other, get_or-set_same, get_or_past, heard, heard_at, heard_by, Hinted, hinted}
+use Rattle.is_turn.proofs.Common.{inl, inr, Instant, is_answered_by, is_channel_of, is_free, is_held_back, is_open, is_permission_of}
+use Rattle.is_turn.proofs.Common.{is_reported, IsResponded, IsRespondedBy, kept_in, Lasting, lasts_since, Lease, lease_attempted}
+use Rattle.is_turn.proofs.Common.{lease_polled, lease_repeated, LeaseApplies, length, length-map, length-set, List, map, Message, named_at}
+use Rattle.is_turn.proofs.Common.{named_in, nat_lt, new_lease, None, Option, Outcome, outcome_with, permitted, permitted_by, Phase, polled}
+use Rattle.is_turn.proofs.Common.{position, Receipt, Redirected, refl, Refreshed, reported, reported_at, SameChannel, Session, set}
+use Rattle.is_turn.proofs.Common.{set_past, SocketAddr, Some, Step, step_at, Stream, subst, sym, true, unused, used_at, used_in}
+use Rattle.is_turn.proofs.Common.{with_changed, with_channel, without_report, ℕ}
 use Rattle.is_turn.proofs.ChannelNumbers.{same_named, same_advanced, same_failed, same_changed}
 
 -- ---- a lease in a place

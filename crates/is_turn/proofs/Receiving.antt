@@ -1,34 +1,21 @@
 -- What is no response to an attempt does nothing. With credentials, a response that is not signed with the key of its attempt changes
 -- nothing that the client believes of its allocation, except a 300 to an attempt that was not signed.
-use Rattle.std.proofs.Common.{◌≡◌, ℕ, Bool, true, false, cond, not, ◌&&◌, ◌||◌, ◌==◌, List, Option, Some, None, is_some, is_none, IsSome, length, nat_lt, position, bytes_eq, arith, refl, sym, ap, subst, ◌∙◌, inl, inr, ◌⊎◌}
-use Rattle.std.specs.declared.net.socket_addr.SocketAddr.{SocketAddr}
-use Rattle.is_proto.specs.declared.proto.Instant.{Instant}
-use Rattle.is_stun.specs.Message.{Message}
-use Rattle.is_turn.specs.declared.attempts.Attempt.{Attempt}
-use Rattle.is_turn.specs.declared.lease.Lease.{Lease}
-use Rattle.is_turn.specs.declared.operation.Operation.{Operation}
-use Rattle.is_turn.specs.declared.requests.Request.TheVariants.{Refresh}
-use Rattle.is_turn.specs.declared.outcome.Outcome.{Outcome}
-use Rattle.is_turn.specs.declared.outcome.Outcome.TheVariants.{Dropped, Doubted, Hinted, Challenged, Allocated, Refreshed, Lasting, Redirected, Failed}
-use Rattle.is_turn.specs.declared.outcome.Reason.{Reason}
 use Rattle.is_turn.specs.declared.outcome.Reason.TheVariants as reasons
-use Rattle.is_turn.specs.declared.session.Phase.{Phase}
 use Rattle.is_turn.specs.declared.session.Phase.TheVariants as phases
-use Rattle.is_turn.specs.declared.session.Session.{Session}
-use Rattle.is_turn.specs.Receipts.{Receipt, dropped}
-use Rattle.is_turn.specs.declared.verdict.Verdict.{Verdict}
 use Rattle.is_turn.specs.declared.verdict.Verdict.TheVariants as verdicts
-use Rattle.is_turn.specs.Credentials.{Credentials, Challenge, challenge_by, with_challenge, challenged, forgotten, without_challenge}
-use Rattle.is_turn.specs.Incoming.{datagram_of, response}
-use Rattle.is_turn.specs.Operations.{takes_challenge, doubted, hinted, another}
-use Rattle.is_turn.specs.Outcome.{attempt_answered, answered_by, answered_in, key_in, key_answered, code_or_success, is_last_sent, is_unknown, on_alternate, on_challenge, outcome_by, outcome_or, outcome_with, outcome_for}
-use Rattle.is_turn.specs.Receiving.{IsAnswered, IsWhole, Answers, SameBelief, IsGenuine, IsRedirection, IsLeaseGenuine, IsRespondedBy, AnswersLease, OnlyByGenuine, pin_in, pin_of, KeepsPin}
-use Rattle.is_turn.specs.LeaseResponses.{LeaseApplies, IsLeaseAnswered}
-use Rattle.is_turn.specs.Leases.{is_answered_by}
-use Rattle.is_turn.specs.Places.{at_place}
-use Rattle.is_turn.specs.Turn.{with_doubt, with_hint, with_another, challenge_taken, kept_in, OutcomeApplies}
-use Rattle.is_turn.specs.Session.{changed_by, request_timing, without_pace, is_refreshed, has_failed, is_ready, with_request, probed, lease_failed}
-use Rattle.is_turn.specs.Verdict.{code_of, is_code, is_challenge, is_malformed, verdict_with, verdict_of}
+use Rattle.is_turn.specs.Turn.{kept_in}
+use Rattle.is_turn.proofs.Common.{◌&&◌, ◌==◌, ◌||◌, ◌∙◌, ◌≡◌, ◌⊎◌, Allocated, another, answered_by, answered_in, Answers, AnswersLease, ap}
+use Rattle.is_turn.proofs.Common.{arith, at_place, Attempt, attempt_answered, Bool, bytes_eq, Challenge, challenge_by, challenge_taken}
+use Rattle.is_turn.proofs.Common.{Challenged, challenged, changed_by, code_of, code_or_success, cond, Credentials, datagram_of, Doubted}
+use Rattle.is_turn.proofs.Common.{doubted, Dropped, dropped, Failed, false, forgotten, has_failed, Hinted, hinted, inl, inr, Instant}
+use Rattle.is_turn.proofs.Common.{is_answered_by, is_challenge, is_code, is_last_sent, is_malformed, is_none, is_ready, is_refreshed}
+use Rattle.is_turn.proofs.Common.{is_some, is_unknown, IsAnswered, IsGenuine, IsLeaseAnswered, IsLeaseGenuine, IsRedirection, IsRespondedBy}
+use Rattle.is_turn.proofs.Common.{IsSome, IsWhole, KeepsPin, key_answered, key_in, Lasting, Lease, lease_failed, LeaseApplies, length, List}
+use Rattle.is_turn.proofs.Common.{Message, nat_lt, None, not, on_alternate, on_challenge, OnlyByGenuine, Operation, Option, Outcome}
+use Rattle.is_turn.proofs.Common.{outcome_by, outcome_for, outcome_or, outcome_with, OutcomeApplies, Phase, pin_in, pin_of, position}
+use Rattle.is_turn.proofs.Common.{probed, Reason, Receipt, Redirected, refl, Refresh, Refreshed, request_timing, response, SameBelief}
+use Rattle.is_turn.proofs.Common.{Session, SocketAddr, Some, subst, sym, takes_challenge, true, Verdict, verdict_of, verdict_with}
+use Rattle.is_turn.proofs.Common.{with_another, with_challenge, with_doubt, with_hint, with_request, without_challenge, without_pace, ℕ}
 
 -- ---- no response to an attempt
 
@@ -364,9 +351,6 @@ pub keeps_pin : (mac : List ℕ → List ℕ → List ℕ) (now : Instant) (m : 
 keeps_pin mac now m alternate s None result new c_new step = λ confirmed. absurd confirmed
 keeps_pin mac now m alternate s (Some k) result new c_new step = λ confirmed.
     pin_after now (outcome_for step.0 s (Some k) m alternate) m.attributes.realm m.attributes.nonce s k result new c_new confirmed step.2
-
-pub same_pin : (c c_new : Option Credentials) → c_new ≡ c → KeepsPin c c_new
-same_pin c c_new h = λ confirmed. inr (ap pin_of h)
 
 pin_leased : (now : Instant) (place : ℕ) (outcome : Outcome) (realm nonce : Option (List ℕ)) (s : Session) (l : List Lease) (k : Credentials)
     (result : Receipt) (new : Session) (l_new : List Lease) (c_new : Option Credentials) → k.password ≡ None

@@ -71,7 +71,7 @@ first_sent now id t = record {
   is_waiting = true;
 }
 
--- the same request once more
+-- the pending request, sent once more
 abbrev pub sent_again : Instant → ClientTiming → Pending → Pending
 sent_again now t p =
     let wait = next_wait t (p.sent + 1) p.wait.0 in

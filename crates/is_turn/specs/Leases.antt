@@ -115,7 +115,7 @@ is_held_back now g = is_ahead g.barred now
 abbrev pub is_idle : Instant → Lease → Bool
 is_idle now g = if is_some g.barred then is_past g.barred now else not (is_in_use g)
 
--- its place may be given to another peer: never that of a channel
+-- the place of the lease may be given to another peer: never that of a channel
 abbrev pub is_free : Instant → Lease → Bool
 is_free now g = is_none g.number && is_none g.until && is_none g.operation && is_none g.report && is_idle now g
 
@@ -252,7 +252,7 @@ lease_repeated now t g = changed (repeated_if now t) g
 abbrev pub lease_polled : Lease → Lease
 lease_polled g = changed polled g
 
--- it was reported
+-- the lease after its report was polled
 abbrev pub without_report : Lease → Lease
 without_report g = record g { report = None }
 

@@ -97,7 +97,7 @@ abbrev pub is_ended : Phase → Bool
 is_ended phases.Ended = true
 is_ended _ = false
 
--- it ended, and that was reported: its place may be given to another client
+-- the client ended, and that was reported: its place may be given to another client
 abbrev pub is_over : {H : Type 0} → Relay H → Bool
 is_over r = is_ended r.client.session.phase && not (has_event r)
 
@@ -105,7 +105,7 @@ abbrev pub is_waiting : Phase → Bool
 is_waiting phases.Asking = true
 is_waiting _ = false
 
--- it waits for its first answer, or what that said was not reported yet
+-- the client waits for its first answer, or what that said was not reported yet
 abbrev pub is_asking : {H : Type 0} → Relay H → Bool
 is_asking r = is_none r.relayed && (is_waiting r.client.session.phase || has_event r)
 

@@ -135,7 +135,8 @@ abbrev pub outcome_or : Bool → Phase → Option Credentials → Message → Op
 outcome_or is_signed phase c m alternate o None = Dropped reasons.Unasked
 outcome_or is_signed phase c m alternate o (Some a) = outcome_in is_signed phase c m alternate o a
 
--- of a response to this request, given whether it is signed with the key of the attempt that it answers, and the server that it names
+-- the outcome of a response to this request, given whether it is signed with the key of the attempt that it answers, and the server that
+-- it names
 abbrev pub outcome_on : Bool → Phase → Option Credentials → Message → Option SocketAddr → Operation → Outcome
 outcome_on is_signed phase c m alternate o = outcome_or is_signed phase c m alternate o (answered_in m o)
 
@@ -143,6 +144,6 @@ abbrev pub outcome_with : Bool → Phase → Option Credentials → Message → 
 outcome_with is_signed phase c m alternate None = Dropped reasons.Unasked
 outcome_with is_signed phase c m alternate (Some o) = outcome_on is_signed phase c m alternate o
 
--- the same of the pending request
+-- the outcome of a response to the pending request, given whether it is signed, and the server that it names
 abbrev pub outcome_for : Bool → Session → Option Credentials → Message → Option SocketAddr → Outcome
 outcome_for is_signed s c m alternate = outcome_with is_signed s.phase c m alternate s.operation

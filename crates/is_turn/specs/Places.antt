@@ -12,7 +12,7 @@ at_place place l = slice_index_or l place unused
 
 -- ---- the user
 
--- it is used, unless the server barred it lately
+-- the lease at this place is named, and so used, unless the server barred it lately
 abbrev pub named_by : Instant → ℕ → Lease → List Lease → List Lease × Bool
 named_by now place g l = if is_held_back now g then (l, false) else (slice_set l place (named_at now g), true)
 

@@ -58,7 +58,7 @@ own_rows id r =
     ∷ row XOR_PEER_ADDRESS (peer_in id r)
     ∷ []
 
--- the same of values as the code has them
+-- the attributes of a request, of values as the code has them
 abbrev pub rows_in : Values → List Row
 rows_in values =
     row REQUESTED_TRANSPORT values.transport

@@ -208,7 +208,7 @@ abbrev pub EndIsHeld : Option SocketAddr → Option ℕ → Option Instant → �
 EndIsHeld peer number None now accepted = Unit {0}
 EndIsHeld peer number (Some until) now accepted = IsHeld (IsForLease peer number) now until.0 accepted
 
--- the same of the permission or the channel in a place
+-- while the client has a permission or channel, the server has it until the end that the client believes
 abbrev pub LeaseIsHeld : Lease → ℕ → List Acceptance → Type 0
 LeaseIsHeld g now accepted = EndIsHeld g.peer g.number g.until now accepted
 

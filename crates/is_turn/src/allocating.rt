@@ -10,7 +10,7 @@ use std::net::SocketAddr;
 /// How long before its end an allocation is renewed, or half of its lifetime before, if that is less.
 const LEAD: u64 = 120_000_000_000;
 
-/// After a renewal that failed.
+/// How long after a renewal that failed the next one begins.
 const RETRY: Duration = Duration(10_000_000_000);
 
 /// The longest lifetime that counts, in seconds.

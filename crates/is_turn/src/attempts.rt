@@ -13,7 +13,7 @@ pub(crate) struct Attempt {
     pub(crate) id: TransId,
     /// The key that signs it, and has to sign its response. `None`: it is not signed.
     pub(crate) key: Option<[u8; 16]>,
-    /// When it was first sent: what it requests lasts from then on, or longer.
+    /// When the attempt was first sent: what it requests lasts from then on, or longer.
     pub(crate) since: Instant,
 }
 

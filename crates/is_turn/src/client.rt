@@ -27,13 +27,13 @@ pub(crate) enum Phase {
 #[derive(Clone, Copy, Debug, PartialEq, Eq)]
 pub(crate) struct Pending {
     pub(crate) id: TransId,
-    /// How many times it was sent, the one that is to be polled included.
+    /// How many times the request was sent, the packet that is to be polled included.
     pub(crate) sent: u32,
     /// The wait after the last time.
     pub(crate) wait: Duration,
-    /// When it is sent again, or times out.
+    /// When the request is sent again, or times out.
     pub(crate) due: Instant,
-    /// Whether it is to be polled.
+    /// Whether a packet of the request is to be polled.
     pub(crate) is_waiting: bool,
 }
 

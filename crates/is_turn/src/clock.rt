@@ -11,7 +11,7 @@ use crate::session::{Ending, Phase, Session, Step, Why};
 use is_proto::{Duration, Instant};
 use is_stun::stun::TransId;
 
-/// Between two packets of a client (RFC 8445, section 14.2), unless a response came since the first one.
+/// The least time between two packets of a client (RFC 8445, section 14.2), unless a response came since the first one.
 const PACE: Duration = Duration(5_000_000);
 
 impl Session {

@@ -24,15 +24,15 @@ pub(crate) struct Lease {
     pub(crate) peer: Option<SocketAddr>,
     /// The number of a channel. `None`: a permission.
     pub(crate) number: Option<u16>,
-    /// When it was last requested by the user, sent to, or received from.
+    /// When the lease was last requested by the user, sent to, or received from.
     pub(crate) used: Instant,
-    /// When its last renewal began. `None`: it is renewed whether it was used or not.
+    /// When the last renewal of the lease began. `None`: it is renewed whether it was used or not.
     pub(crate) asked: Option<Instant>,
-    /// The server has it until then, at least. `None`: not yet.
+    /// The server has the lease until then, at least. `None`: not yet.
     pub(crate) until: Option<Instant>,
-    /// When it is renewed.
+    /// When the lease is renewed.
     pub(crate) renew: Instant,
-    /// The server barred it: it is not requested again before.
+    /// The server barred the lease: it is not requested again before this time.
     pub(crate) barred: Option<Instant>,
     /// The request that waits for its response.
     pub(crate) operation: Option<Operation>,
@@ -156,7 +156,7 @@ impl Lease {
 
     // ---- in use
 
-    /// Whether it was used since its last renewal began.
+    /// Whether the lease was used since its last renewal began.
     pub(crate) fn is_in_use(&self) -> bool
         ensures { result ≡ is_in_use self.now }
     {
@@ -166,7 +166,7 @@ impl Lease {
         }
     }
 
-    /// Whether the server barred it lately.
+    /// Whether the server barred the lease lately.
     pub(crate) fn is_held_back(&self, now: Instant) -> bool
         ensures { result ≡ is_held_back now self.now }
     {
@@ -186,7 +186,7 @@ impl Lease {
         }
     }
 
-    /// Whether its place may be given to another peer: never that of a channel.
+    /// Whether the place of the lease may be given to another peer: never that of a channel.
     pub(crate) fn is_free(&self, now: Instant) -> bool
         ensures { result ≡ is_free now self.now }
     {
@@ -232,7 +232,7 @@ impl Lease {
         }
     }
 
-    /// The user requests it again: what was barred too.
+    /// The user requests the lease again, also one that was barred.
     pub(crate) fn named_at(self, now: Instant) -> Lease
         ensures { result ≡ named_at now self }
     {

@@ -17,7 +17,7 @@ use is_stun::stun::{StunMessage, TransId};
 /// How long before its end a lease is renewed, or half of its lifetime before, if that is less.
 const LEAD: u64 = 120_000_000_000;
 
-/// After a renewal that failed.
+/// How long after a renewal that failed the next one begins.
 const RETRY: Duration = Duration(10_000_000_000);
 
 /// How long what is barred is not requested again.
@@ -69,7 +69,7 @@ fn report_for(number: Option<u16>, code: Option<u16>) -> Option<NotPermitted>
 impl Lease {
     // ---- responses
 
-    /// The server has it from the attempt on.
+    /// The server has the lease from the attempt on.
     pub(crate) fn lasts_since(self, since: Instant) -> Lease
         ensures { result ≡ lasts_since since self }
     {
@@ -120,7 +120,7 @@ impl Lease {
 
     // ---- its request
 
-    /// Whether a message answers an attempt of its request.
+    /// Whether a message answers an attempt of the request for the lease.
     pub(crate) fn is_answered_by(&self, message: &StunMessage<'_>) -> bool
         ensures { result ≡ is_answered_by (message_view message.now) self.now }
     {
@@ -140,14 +140,14 @@ impl Lease {
         }
     }
 
-    /// Whether the user is to hear of it.
+    /// Whether the user is to hear of the lease.
     pub(crate) fn is_reported(&self) -> bool
         ensures { result ≡ is_reported self.now }
     {
         self.report.is_some()
     }
 
-    /// What its request has due.
+    /// What the request for the lease has due.
     pub(crate) fn step(&self, timing: &ClientTiming) -> Step
         ensures { result ≡ lease_step timing.now self.now }
     {
@@ -208,7 +208,7 @@ impl Lease {
         }
     }
 
-    /// Its packet was polled.
+    /// The lease after its packet was polled.
     pub(crate) fn polled(self) -> Lease
         ensures { result ≡ lease_polled self }
     {
@@ -221,7 +221,7 @@ impl Lease {
         }
     }
 
-    /// It was reported.
+    /// The lease after its report was polled.
     pub(crate) fn without_report(self) -> Lease
         ensures { result ≡ without_report self }
     {
@@ -244,7 +244,7 @@ impl Lease {
         }
     }
 
-    /// A hint: its request is not sent again.
+    /// A hint: the request for the lease is not sent again.
     pub(crate) fn hinted(self, now: Instant, code: u16, timing: &ClientTiming) -> Lease
         ensures { result ≡ changed (hinted now code timing.now) self }
     {
@@ -272,7 +272,7 @@ impl Lease {
 
     // ---- when something is due
 
-    /// When its request has something due.
+    /// When the request for the lease has something due.
     pub(crate) fn due(&self) -> Instant
         ensures { result.0 ≡ due_of self.now }
     {
@@ -291,7 +291,7 @@ impl Lease {
         }
     }
 
-    /// When it ends, if the server has it.
+    /// When the lease ends, if the server has it.
     pub(crate) fn end(&self) -> Instant
         ensures { result.0 ≡ time_or_never self.now.until }
     {
@@ -301,7 +301,7 @@ impl Lease {
         }
     }
 
-    /// When it is renewed, if it is in use.
+    /// When the lease is renewed, if it is in use.
     pub(crate) fn renewal_time(&self) -> Instant
         ensures { result.0 ≡ renewal_time self.now }
     {

@@ -23,9 +23,9 @@ pub(crate) struct Operation {
     pub(crate) sent: u32,
     /// The wait after the last time.
     pub(crate) wait: Duration,
-    /// When it is sent again, or times out.
+    /// When the request is sent again, or times out.
     pub(crate) due: Instant,
-    /// Whether it is to be polled.
+    /// Whether a packet of the request is to be polled.
     pub(crate) is_waiting: bool,
     /// Whether a 401 to a signed attempt was taken as a challenge.
     pub(crate) is_denied: bool,

@@ -40,7 +40,7 @@ pub enum Reason {
 pub(crate) enum Outcome {
     /// Nothing.
     Dropped(Reason),
-    /// It counts as if it never came: its code is kept for the log.
+    /// The response counts as if it never came: its code is kept for the log.
     Doubted(u16),
     /// The request is not sent again.
     Hinted(u16),

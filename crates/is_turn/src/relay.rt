@@ -35,7 +35,7 @@ pub struct Outbound {
 /// Where a packet goes.
 #[derive(Clone, Copy, Debug, PartialEq, Eq)]
 pub enum Outgoing {
-    /// Its source is no relayed address: it goes as it is.
+    /// The packet's source is no relayed address: it goes as it is.
     AsItIs,
     /// Through a server: the buffer has what to send.
     Through(Outbound),
@@ -149,28 +149,28 @@ impl<H: Sha1HmacProvider> Relay<H> {
         self.client.next_event().is_some()
     }
 
-    /// Whether it ended, and that was reported.
+    /// Whether the client ended, and that was reported.
     pub(crate) fn is_over(&self) -> bool
         ensures { result ≡ is_over self.now }
     {
         self.client.session.phase == Phase::Ended && !self.has_event()
     }
 
-    /// Whether it has this socket and server, and is not over.
+    /// Whether the client has this socket and server, and is not over.
     pub(crate) fn is_serving(&self, local: SocketAddr, server: SocketAddr) -> bool
         ensures { result ≡ is_serving local server self.now }
     {
         self.is_at(local, server) && !self.is_over()
     }
 
-    /// Whether it waits for its first answer, or what that said was not reported yet.
+    /// Whether the client waits for its first answer, or what that said was not reported yet.
     pub(crate) fn is_asking(&self) -> bool
         ensures { result ≡ is_asking self.now }
     {
         self.relayed.is_none() && (self.client.session.phase == Phase::Asking || self.has_event())
     }
 
-    /// Whether its time has come.
+    /// Whether the client's time has come.
     pub(crate) fn is_due_at(&self, time: Instant) -> bool
         ensures { result ≡ is_due_at time self.now }
     {

@@ -47,7 +47,7 @@ const SEND_INDICATION: u16 = 0x0016;
 pub enum Request {
     /// A relayed UDP address for so many seconds, of this family (RFC 8656, section 7.1).
     Allocate(u32, Option<AddressFamily>),
-    /// So many seconds more for it; 0 frees it (section 8.1).
+    /// So many seconds more for the allocation; 0 frees it (section 8.1).
     Refresh(u32),
     /// Packets from this IP address, whatever their port, for five minutes (section 10.1).
     CreatePermission(SocketAddr),

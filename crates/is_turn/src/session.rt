@@ -19,13 +19,13 @@ const CLOSING_REQUESTS: u32 = 2;
 #[derive(Clone, Copy, Debug, PartialEq, Eq)]
 pub(crate) enum Phase {
     New,
-    /// It requests an allocation.
+    /// The client requests an allocation.
     Asking,
-    /// It was closed while it asked: an allocation that is made by now is freed.
+    /// The client was closed while it requested an allocation: one that is made by now is freed.
     Leaving,
-    /// It has an allocation.
+    /// The client has an allocation.
     Ready,
-    /// It frees its allocation.
+    /// The client frees its allocation.
     Closing,
     Ended,
 }
@@ -93,7 +93,7 @@ pub(crate) struct Session {
     pub(crate) allocation: Option<Allocation>,
     /// The server has the allocation until then, at least.
     pub(crate) until: Instant,
-    /// When it is renewed.
+    /// When the allocation is renewed.
     pub(crate) renew: Instant,
     /// When a keep-alive is due, if nothing is sent before.
     pub(crate) quiet: Instant,

@@ -24,7 +24,7 @@ pub enum Verdict {
     Hint,
     /// An error response without a code.
     Malformed,
-    /// None of these: it counts as if it never came.
+    /// None of these: the response counts as if it never came.
     Unauthentic,
 }
 

@@ -171,7 +171,7 @@ waits_keeps k taken d p now was l m b c (Some o) (Some x) lighter keeps h = λ s
     by_case (inl e) = inl e
     by_case (inr y) = still_waits k taken d p now was l m x o.due.0 y.2 lighter (cases_lt o.due.0 now) (h y.0 y.1)
 
--- the same of the lease in this place, by what becomes of it and of the others
+-- the lease in this place waits for its turn, by what becomes of it and of the others
 pub waits_become : (k : Limits) (taken d p now : ℕ) (was : Bool) (l m : List Lease) (g x : Lease) → Lighter now l m
     → Keeps now (is_given g) g.operation (is_given x) x.operation → WaitsIn k taken d p now was l (is_given g) g.operation
     → WaitsIn k taken d p now was m (is_given x) x.operation

@@ -8,6 +8,9 @@ use std::time::{Duration, Instant};
 
 /// The delay of a packet.
 pub const TRIP: Duration = Duration::from_millis(10);
+/// The addresses of [`World::hosts`].
+pub const LEFT: &str = "10.0.0.1:1000";
+pub const RIGHT: &str = "10.0.0.2:2000";
 
 pub fn at(text: &str) -> SocketAddr {
     text.parse().expect("a socket address")
@@ -117,6 +120,14 @@ impl World {
         };
         world.sides[0].agent.set_controlling(true);
         world.meet();
+        world
+    }
+
+    /// The same, with one host candidate each, which was signaled to the other.
+    pub fn hosts() -> World {
+        let mut world = World::new();
+        world.add(0, host(LEFT));
+        world.add(1, host(RIGHT));
         world
     }
 

@@ -85,28 +85,28 @@ impl Player {
         self.passes_to(ms) == Outcome::Done && self.sends()
     }
 
-    /// The same, whose packet goes from the first address to the second.
+    /// Calls `handle_timeout`, which sends a packet from the first address to the second.
     fn checks_on(&mut self, ms: u64, from: &str, to: &str) -> bool {
         self.checks(ms) && is_on(&self.sent, from, to)
     }
 
-    /// The same, whose packet goes to this address, with USE-CANDIDATE or without.
+    /// Calls `handle_timeout`, which sends a packet from 10.0.0.1:1000 to this address, with USE-CANDIDATE or without.
     fn checks_to(&mut self, ms: u64, to: At, nominates: bool) -> bool {
         self.checks(ms) && self.has_sent_from(At(1, 1000), to) && self.has_nominated(nominates)
     }
 
-    /// The same, with USE-CANDIDATE and NOMINATION of this number, or neither.
+    /// Calls `handle_timeout`, which sends a packet to this address, with USE-CANDIDATE and NOMINATION of this number or with neither.
     fn checks_by(&mut self, ms: u64, to: At, number: Option<u32>) -> bool {
         self.checks_to(ms, to, number.is_some()) && self.has_number(number)
     }
 
-    /// The same, with the first random words of the published example.
+    /// Calls `handle_timeout` with the first random words of the published example of PCG. A packet is sent.
     fn checks_under_published_id(&mut self, ms: u64) -> bool {
         let passed = self.agent.handle_timeout(later(ms), &mut generator());
         outcome_of(passed) == Outcome::Done && self.sends()
     }
 
-    /// The same, to this address, with random words of zeros.
+    /// Calls `handle_timeout` with random words of zeros. A packet is sent to this address, and its id is twelve zeros.
     fn checks_under_zeros(&mut self, ms: u64, to: At) -> bool {
         let passed = self.agent.handle_timeout(later(ms), &mut Zeros);
         outcome_of(passed) == Outcome::Done
@@ -150,7 +150,7 @@ fn add_local(agent: &mut Agent, candidate: Option<Candidate>) -> Outcome {
     }
 }
 
-/// The same; it has this priority then.
+/// Adds a local candidate, which has this priority then.
 fn add_with_prio(agent: &mut Agent, candidate: Option<Candidate>, prio: u32) -> Outcome {
     let Some(candidate) = candidate else {
         return Outcome::Other;

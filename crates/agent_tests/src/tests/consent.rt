@@ -39,7 +39,7 @@ const ELSEWHERE: At = At(3, 3000);
 // ---- when consent ends
 
 /// The second check, at 50 ms, is the last one with a response. The peer's requests still arrive. Nine checks follow, and more; the next one is
-/// due 80 ms after each.
+/// due 70 ms after each.
 const CUT_MODERN: [Step; 29] = [
     Does(Check(0)),
     Takes(Answer(10, THERE)),
@@ -48,9 +48,9 @@ const CUT_MODERN: [Step; 29] = [
     Emits(Events("RcNCD")),
     Shows(NextAt(550)),
     Does(Check(550)),
-    Shows(NextAt(630)),
+    Shows(NextAt(620)),
     Does(Check(650)),
-    Shows(NextAt(730)),
+    Shows(NextAt(720)),
     Does(Check(750)),
     Does(Check(850)),
     Does(Check(950)),
@@ -58,7 +58,7 @@ const CUT_MODERN: [Step; 29] = [
     Does(Check(1150)),
     Does(Check(1250)),
     Does(Check(1350)),
-    Shows(NextAt(1430)),
+    Shows(NextAt(1420)),
     Does(Check(1850)),
     Write(Message::Request(false, false), "nearpass"),
     Takes(Served(2000, THERE)),
@@ -72,8 +72,8 @@ const CUT_MODERN: [Step; 29] = [
     Shows(Connected),
 ];
 
-/// The same with the profile `Original`. The RTOs are 500 ms, 1 s and 2 s; after that the peer is silent, and only checks without a
-/// response count: 1 s after the third of them, and 2 s after the fourth.
+/// With the profile `Original` the second check, at 50 ms, is the last one with a response. The RTOs are 500 ms, 1 s and 2 s; after that
+/// the peer is silent, and only checks without a response count: 1 s after the third of them, and 2 s after the fourth.
 const CUT: [Step; 17] = [
     Does(Check(0)),
     Takes(Answer(10, THERE)),
@@ -107,7 +107,7 @@ const ENDS: [Story; 10] = [
     Story(
         "a_strict_consent_ends_5_s_after_the_second_check",
         &[
-            Shows(NextAt(4930)),
+            Shows(NextAt(4920)),
             Does(Check(5049)),
             Holds(HasPair(PEER, true)),
             Shows(NextAt(5099)),
@@ -130,9 +130,9 @@ const ENDS: [Story; 10] = [
     Story(
         "the_request_at_2_s_keeps_it_for_15_s",
         &[
-            Shows(NextAt(4930)),
+            Shows(NextAt(4920)),
             Does(Check(5350)),
-            Shows(NextAt(5430)),
+            Shows(NextAt(5420)),
             Does(Check(16_600)),
             // the quick checks are over; 100 ms before the next check
             Shows(NextAt(17000)),
@@ -199,10 +199,10 @@ const TWO: [Story; 1] = [Story(
         Takes(Answer(100_360, ELSEWHERE)),
         Shows(NextAt(100_550)),
         Does(CheckTo(100_550, THERE, true)),
-        Shows(NextAt(100_630)),
-        Does(CheckTo(100_630, THERE, true)),
-        Does(CheckTo(100_710, ELSEWHERE, false)),
-        Takes(Answer(100_720, ELSEWHERE)),
+        Shows(NextAt(100_620)),
+        Does(CheckTo(100_620, THERE, true)),
+        Does(CheckTo(100_690, ELSEWHERE, false)),
+        Takes(Answer(100_700, ELSEWHERE)),
         Does(CheckTo(100_760, THERE, true)),
         Write(Message::Request(false, false), "nearpass"),
         Takes(Served(100_800, THERE)),
@@ -317,7 +317,7 @@ const SESSION: [Step; 43] = [
     Takes(Answer(6560, THERE)),
     Shows(NextAt(9550)),
     Does(Check(9550)),
-    Shows(NextAt(9630)),
+    Shows(NextAt(9620)),
     Does(Check(9650)),
     Does(Check(9750)),
     Does(Check(9850)),
@@ -326,9 +326,9 @@ const SESSION: [Step; 43] = [
     Does(Check(10_150)),
     Does(Check(10_250)),
     Does(Check(10_350)),
-    Shows(NextAt(10_430)),
+    Shows(NextAt(10_420)),
     Does(Check(10_850)),
-    Shows(NextAt(10_930)),
+    Shows(NextAt(10_920)),
     Does(Check(30_600)),
     Holds(HasPair(PEER, true)),
     Shows(Connected),

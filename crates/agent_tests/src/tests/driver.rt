@@ -218,7 +218,7 @@ impl Player {
         take(&mut self.agent, ms, sent_packet(&other.sent))
     }
 
-    /// It sends a success response of 64 bytes.
+    /// The agent sends a success response of 64 bytes.
     fn replies(&mut self) -> bool {
         self.sends() && self.has_sent(Class::Success, 64)
     }

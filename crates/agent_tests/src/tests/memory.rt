@@ -14,7 +14,7 @@ fn made(alloc: Global) -> Result<Box<Agent>, IceError> {
     Ok(Box::new(alloc, agent)?)
 }
 
-/// The same; if that fails, it is made once more.
+/// The agent of the request, in a box. If making it fails, it is made once more.
 fn made_twice(alloc: Global) -> Option<Box<Agent>> {
     match made(alloc) {
         Ok(agent) => Some(agent),

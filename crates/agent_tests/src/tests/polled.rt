@@ -23,7 +23,7 @@ impl Player {
         same(actual, expected, self.alloc, &mut self.difference)
     }
 
-    /// It is so of what is polled, or of the last packet.
+    /// What is polled, or the last packet, is as expected.
     pub(super) fn emits(&mut self, emitted: Emitted) -> bool {
         match emitted {
             Emitted::Sends => self.sends(),
@@ -45,7 +45,7 @@ impl Player {
         }
     }
 
-    /// It is so of the last packet.
+    /// The last packet is as expected.
     fn has_sent_so(&mut self, emitted: Emitted) -> bool {
         match emitted {
             Emitted::Sent(class, len) => self.has_sent(class, len),
@@ -65,7 +65,7 @@ impl Player {
 // ---- packets
 
 impl Player {
-    /// It sends a packet, which is stored.
+    /// The agent sends a packet, which is stored.
     pub(super) fn sends(&mut self) -> bool {
         self.sent = self.agent.poll_transmit();
         self.sent.is_some()
@@ -145,7 +145,7 @@ impl Player {
         Some(sign_of(&self.agent.poll_event()?))
     }
 
-    /// It emits these events, and no others.
+    /// The agent emits these events, and no others.
     fn has_events(&mut self, letters: &str) -> bool {
         for expected in letters.chars() {
             let actual = self.next_sign();

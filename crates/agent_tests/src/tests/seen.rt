@@ -58,7 +58,7 @@ fn line_of(held: Held) -> Option<&'static str> {
 }
 
 impl Player {
-    /// It is so of its pairs or candidates.
+    /// The agent's pairs or candidates are as expected.
     pub(super) fn holds(&mut self, held: Held) -> bool {
         let Some(line) = line_of(held) else {
             return self.lists(held);
@@ -69,7 +69,7 @@ impl Player {
         }
     }
 
-    /// It is so of its candidates.
+    /// The agent's candidates are as expected.
     fn lists(&mut self, held: Held) -> bool {
         match held {
             Held::Locals(places) => self.has_locals(places),
@@ -191,7 +191,7 @@ fn removed_at(agent: &Agent, index: usize) -> Option<(SocketAddr, Removal, u64, 
 // ---- getters
 
 impl Player {
-    /// Its getters return this.
+    /// The agent's getters return this.
     pub(super) fn shows(&mut self, shown: Shown) -> bool {
         let agent = &self.agent;
         match shown {
@@ -218,7 +218,7 @@ impl Player {
         }
     }
 
-    /// The same; the value that is not the expected one is stored.
+    /// The agent's getters return this. The first value that is not the expected one is stored.
     fn compares_shown(&mut self, shown: Shown) -> bool {
         match shown {
             Shown::Rejects(from, to, expected) => {

@@ -81,7 +81,7 @@ pub(super) fn is_between(sent: &Option<Transmit>, source: At, destination: At) -
     }
 }
 
-/// The same, of addresses as texts.
+/// The packet goes from the first address to the second, which are texts.
 pub(super) fn is_on(sent: &Option<Transmit>, source: &str, destination: &str) -> bool {
     match sent {
         Some(sent) => is_at(sent.source, source) && is_at(sent.destination, destination),

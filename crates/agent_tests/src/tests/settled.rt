@@ -41,7 +41,7 @@ const LOST: [Step; 9] = [
     Does(Invalidate(PEER)),
 ];
 
-/// The same with the profile `Modern`, which nominates the better path before it checks the other one.
+/// With the profile `Modern` both paths are valid, and the better one is lost, which was nominated before the other one was checked.
 const LOST_MODERN: [Step; 11] = [
     Does(Peer(PEER)),
     Does(Peer(OTHER)),
@@ -150,7 +150,7 @@ const BOTH: [Step; 8] = [
     Shows(State(IceConnectionState::Connected)),
 ];
 
-/// The same with the profile `Modern`.
+/// With the profile `Modern` the path to 10.0.0.2:2000 is selected, and the one to 10.0.0.3:2000 is valid too.
 pub(super) const BOTH_MODERN: [Step; 10] = [
     Does(Peer(PEER)),
     Does(Peer(OTHER)),

@@ -52,11 +52,11 @@ pub(super) enum Start {
     New(&'static str, &'static str, u64),
     /// The agent that the request of 100 bytes is for, at 10.0.0.1:1000, without the peer's credentials.
     Early,
-    /// The same agent, with the peer's credentials.
+    /// The agent that the request of 100 bytes is for, at 10.0.0.1:1000, with the peer's credentials.
     Known,
     /// A controlling agent at 10.0.0.1:1000 that has the peer's credentials, and no remote candidate.
     Unpaired,
-    /// The same agent with one candidate of the peer: it has one pair.
+    /// A controlling agent at 10.0.0.1:1000 that has the peer's credentials and one remote candidate, so one pair.
     Paired,
     /// An agent that is made with a given HMAC provider.
     Provided,
@@ -108,9 +108,9 @@ pub(super) enum Setting {
 /// The result of a call.
 #[derive(Clone, Copy, Debug, PartialEq, Eq)]
 pub(super) enum Outcome {
-    /// It succeeded, and returned true if it returned anything.
+    /// The call succeeded, and returned true if it returned anything.
     Done,
-    /// It succeeded, and returned false or none.
+    /// The call succeeded, and returned false or none.
     Nothing,
     PairIdsExhausted,
     MtuTooSmall,
@@ -127,7 +127,7 @@ pub(super) enum Whose {
     Remote,
     /// The local ones, by a restart that keeps the local candidates.
     Restarted,
-    /// The same without them.
+    /// The local ones, by a restart that removes the local candidates.
     Emptied,
 }
 
@@ -142,7 +142,7 @@ pub(super) enum Call {
     LongAgent(usize),
     /// Adds a local host candidate over UDP.
     Host(At),
-    /// The same, which has this priority then.
+    /// Adds a local host candidate over UDP, which has this priority then.
     HostOf(At, u32),
     /// Adds a local candidate.
     Own(&'static str),
@@ -164,15 +164,15 @@ pub(super) enum Call {
     Timeout(u64),
     /// Calls `handle_timeout`, which sends a packet.
     Check(u64),
-    /// The same, whose packet goes from the first address to the second.
+    /// Calls `handle_timeout`, which sends a packet from the first address to the second.
     CheckOn(u64, &'static str, &'static str),
-    /// The same, whose packet goes from 10.0.0.1:1000 to this address, with USE-CANDIDATE or without.
+    /// Calls `handle_timeout`, which sends a packet from 10.0.0.1:1000 to this address, with USE-CANDIDATE or without.
     CheckTo(u64, At, bool),
-    /// The same, whose packet has USE-CANDIDATE and NOMINATION of this number, or neither.
+    /// Calls `handle_timeout`, which sends a packet to this address, with USE-CANDIDATE and NOMINATION of this number or with neither.
     CheckBy(u64, At, Option<u32>),
-    /// The same, with the first random words of the published example of PCG.
+    /// Calls `handle_timeout` with the first random words of the published example of PCG. A packet is sent.
     CheckPublished(u64),
-    /// The same, with random words of zeros, to this address.
+    /// Calls `handle_timeout` with random words of zeros. A packet is sent to this address, and its id is twelve zeros.
     CheckZeros(u64, At),
 }
 
@@ -181,22 +181,23 @@ pub(super) enum Call {
 pub(super) enum Message {
     /// The success response to the packet that was sent last, with this mapped address.
     Success(At),
-    /// The error response 487 to it.
+    /// The error response 487 to the packet that was sent last.
     Conflict,
-    /// An error response 400 to it.
+    /// An error response 400 to the packet that was sent last.
     BadRequest,
     /// A success response to no check.
     Stray,
     /// A request from `farr` to `near` with tie-breaker 10, which claims the controlling role or the other one, and has
     /// USE-CANDIDATE or not.
     Request(bool, bool),
-    /// The same that claims the controlling role, with USE-CANDIDATE or not, and has NOMINATION of this number.
+    /// A request from `farr` to `near` with tie-breaker 10 that claims the controlling role, with USE-CANDIDATE or not, and has NOMINATION
+    /// of this number.
     Nominates(bool, u32),
     /// A request from `farr` to `near` that claims no role.
     NoRole,
-    /// One that claims the controlled role with tie-breaker 3, and has USE-CANDIDATE.
+    /// A request from `farr` to `near` that claims the controlled role with tie-breaker 3, and has USE-CANDIDATE.
     Nomination,
-    /// One that claims the controlling role with tie-breaker 9, and the controlled role with tie-breaker 1.
+    /// A request from `farr` to `near` that claims the controlling role with tie-breaker 9, and the controlled role with tie-breaker 1.
     BothRoles,
     /// A request from `SQAt` to `p9KA`, whose id begins with this number.
     Numbered(u8),
@@ -211,7 +212,7 @@ pub(super) enum Message {
 pub(super) enum Packet {
     /// The request of 100 bytes, from 10.0.0.2:2000 to this address.
     Request(u64, At),
-    /// The same at 0, to 10.0.0.1:1000 over this protocol.
+    /// The request of 100 bytes at 0, from 10.0.0.2:2000 to 10.0.0.1:1000 over this protocol.
     Over(Protocol),
     /// The written message, from 10.0.0.2:2000 to 10.0.0.1:1000.
     Next(u64),
@@ -219,7 +220,7 @@ pub(super) enum Packet {
     Between(u64, At, At),
     /// The written message, from this address to 10.0.0.1:1000; a success response of 64 bytes is sent.
     Served(u64, At),
-    /// The same; no packet is sent.
+    /// The written message, from this address to 10.0.0.1:1000; no packet is sent.
     Unserved(u64, At),
     /// The success response to the last check, from this address to 10.0.0.1:1000, which is its mapped address too.
     Answer(u64, At),
@@ -240,17 +241,17 @@ pub(super) enum Emitted {
     Nothing,
     /// The last packet has this class and length.
     Sent(Class, usize),
-    /// It goes from the first address to the second.
+    /// The last packet goes from the first address to the second.
     SentFrom(At, At),
-    /// It is a check of this length with the PRIORITY of a peer-reflexive candidate, with USE-CANDIDATE or without.
+    /// The last packet is a check of this length with the PRIORITY of a peer-reflexive candidate, with USE-CANDIDATE or without.
     Checked(usize, bool),
-    /// It claims the controlling role with this tie-breaker, and has this USERNAME.
+    /// The last packet claims the controlling role with this tie-breaker, and has this USERNAME.
     Claimed(u64, &'static str),
-    /// It is the response to the request of 100 bytes, signed with this password.
+    /// The last packet is the response to the request of 100 bytes, signed with this password.
     Replied(&'static str),
-    /// It is signed with this password.
+    /// The last packet is signed with this password.
     Signed(&'static str),
-    /// It has this transaction id.
+    /// The last packet has this transaction ID.
     Id(TransId),
     /// So many `handle_timeout` calls at 0 send a success response each, to the requests of numbers from 1 on.
     RepliesInOrder(u8),
@@ -295,7 +296,7 @@ pub(super) enum Held {
     Remotes(&'static [At]),
     /// The username fragment of the first local candidate.
     FirstNamed(&'static str),
-    /// The same, and its priority.
+    /// The username fragment of the first local candidate, and its priority.
     FirstIs(&'static str, u32),
     /// The last local candidate is a peer-reflexive one with this base and priority.
     LastReflexive(At, u32),
@@ -324,7 +325,7 @@ pub(super) enum Shown {
     ValidPath(Option<(At, At)>),
     /// The next timeout.
     NextAt(u64),
-    /// The same, as for an agent that changed.
+    /// The next timeout of an agent that changed: `poll_timeout_soon`.
     SoonAt(u64),
     /// There is no next timeout.
     NoNext,
@@ -347,7 +348,7 @@ pub(super) enum Shown {
     IceTimeout(u64),
     /// The agent would accept the written message, without regard to addresses, or not.
     Accepts(bool),
-    /// The same between these addresses.
+    /// The agent would accept the written message between these addresses, or not.
     AcceptsFrom(At, At, bool),
     /// The agent would reject the written message between these addresses for this reason, or it would accept it.
     Rejects(At, At, Option<Rejection>),

@@ -34,7 +34,7 @@ const STORIES: [Story; 1] = [Story(
     ],
 )];
 
-/// They have this username fragment and password.
+/// The credentials have this username fragment and password.
 fn are(creds: &IceCreds, ufrag: &str, pass: &str) -> bool {
     creds.ufrag.as_str() == ufrag && creds.pass.as_str() == pass
 }

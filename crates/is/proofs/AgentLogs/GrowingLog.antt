@@ -1,15 +1,10 @@
 -- A log grows by a call and its entry.
-use Rattle.std.proofs.Common.{◌≡◌, List, [], ◌∷◌, ◌++◌, length, ◌<◌, true, false, refl, arith, ap, ◌∙◌, append_assoc, length-append, ◌+◌, ℕ, subst, sym}
-use Rattle.std.specs.Prelude.{MatchBool}
-use Rattle.rand_core.specs.Stream.{Stream}
 use Rattle.is.specs.declared.calls.AgentCall.{AgentCall}
 use Rattle.is.specs.declared.calls.Entry.{Entry}
 use Rattle.is.specs.declared.runs.RunLog.{RunLog}
-use Rattle.is_candidate.specs.Candidates.{CandidateRecord}
-use Rattle.is_rules.specs.Agent.{AgentRecord}
-use Rattle.is_theorems.specs.Logs.{Logged}
-use Rattle.is_theorems.specs.Runs.{Run, Point, EntriesArePoints}
 use Rattle.is.specs.Log.{logged_as, logged, log_of, IsRunLog, EntriesPersist}
+use Rattle.is.proofs.Common.{[], ◌++◌, ◌+◌, ◌<◌, ◌∙◌, ◌∷◌, ◌≡◌, AgentRecord, ap, append_assoc, arith, CandidateRecord, EntriesArePoints}
+use Rattle.is.proofs.Common.{false, length, length-append, List, Logged, MatchBool, Point, refl, Run, Stream, subst, sym, true, ℕ}
 
 pub logged-push : {P : Type 0} (log : List (Logged P)) (calls : List (AgentCall P)) (entries : List Entry) (c : AgentCall P) (e : Entry) → length entries ≡ length calls → logged log (calls ++ c ∷ []) (entries ++ e ∷ []) ≡ logged_as c e ∷ logged log calls entries
 logged-push log [] [] c e h = refl

@@ -1,23 +1,13 @@
 -- The headline of a plain agent, from the theorems about any agent. What mutants/specifications changes is read by tactics.
-use Rattle.std.proofs.Common.{◌≡◌, ℕ, Bool, false, List, [], ◌∷◌, ◌++◌, Some, None, inl, inr, refl, ap, ◌∙◌, subst}
-use Rattle.std.specs.Prelude.{◌&&◌, not, if◌then◌else◌}
-use Rattle.rand_core.specs.Stream.{Stream}
-use Rattle.is_stun.specs.Timing.{is_modern, is_modern_profile}
 use Rattle.is_stun.specs.declared.timing.Profile.{Profile}
-use Rattle.is_stun.specs.declared.timing.Profile.TheVariants.{Original}
-use Rattle.is_candidate.specs.Candidates.{CandidateRecord}
-use Rattle.is_rules.specs.declared.emitted.Path.{Path}
-use Rattle.is_rules.specs.Agent.{AgentRecord}
-use Rattle.is_rules.specs.Nominating.{numbers, followed, followed_by_number, selection_of, IsChosen}
-use Rattle.is_rules.specs.Points.{HasSelected}
-use Rattle.is_rules.specs.Steps.{Call, SetProfile, SetRenomination, SetIceLite}
-use Rattle.is_rules.specs.Effects.{lite_set_by}
-use Rattle.is_theorems.specs.Logs.{Logged, NeverLite, numbering_set_by, numbering_of, has_numbers, last_selected, AskedBy, NominatedByPeer}
-use Rattle.is_theorems.specs.Runs.{IsFresh, Run, Point, PathsAreAnswered, PathsAreNominatedByPeer, LastPathsAreTop, run_to}
-use Rattle.is_theorems.specs.Settings.{SettingsRecord, all_settings_of, SettingsAreSet}
 use Rattle.is_theorems.proofs.ExecutionLogs.SharedLogTheorems.{numbering-in, numbering_set}
-use Rattle.is.specs.Accepted.{PacketsAreSettled}
 use Rattle.is.specs.Headline.{LeavesPlain, StaysPlain, IsAsked, IsGreatestSelected, Headline}
+use Rattle.is.proofs.Common.{[], ◌&&◌, ◌++◌, ◌∙◌, ◌∷◌, ◌≡◌, AgentRecord, all_settings_of, ap, AskedBy, Bool, Call, CandidateRecord, false}
+use Rattle.is.proofs.Common.{followed, followed_by_number, has_numbers, HasSelected, if◌then◌else◌, inl, inr, is_modern, is_modern_profile}
+use Rattle.is.proofs.Common.{IsChosen, IsFresh, last_selected, LastPathsAreTop, List, lite_set_by, Logged, NeverLite, NominatedByPeer, None}
+use Rattle.is.proofs.Common.{not, numbering_of, numbering_set_by, numbers, Original, PacketsAreHandled, Path, PathsAreAnswered}
+use Rattle.is.proofs.Common.{PathsAreNominatedByPeer, Point, refl, Run, run_to, selection_of, SetIceLite, SetProfile, SetRenomination}
+use Rattle.is.proofs.Common.{SettingsAreSet, SettingsRecord, Some, Stream, subst, ℕ}
 
 module _ {P : Type 0} where
   -- ---- the log of a plain agent
@@ -80,7 +70,7 @@ module _ {H P : Type 0} where
         ∙ ap (λ (set : Bool × Bool). numbering_set_by x.call set) (numbering_is first mid s u before fresh led)
 
     pub headline : (first : AgentRecord H P) (s : Stream) (log : List (Logged P)) → IsFresh first → StaysPlain log
-        → PacketsAreSettled mac answers first s log
+        → PacketsAreHandled mac answers first s log
         → PathsAreAnswered mac answers first s log
         → LastPathsAreTop mac answers first s log
         → PathsAreNominatedByPeer mac answers first s log

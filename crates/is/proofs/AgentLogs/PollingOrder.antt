@@ -1,16 +1,13 @@
 -- What calls issue, and in which order it is polled.
-use Rattle.std.proofs.Common.{◌≡◌, ℕ, Bool, true, false, List, Option, None, ap, ◌∙◌}
-use Rattle.std.specs.Prelude.{◌==◌, MatchBool}
-use Rattle.rand_core.specs.Stream.{Stream}
-use Rattle.is_candidate.specs.Candidates.{CandidateRecord}
-use Rattle.is_rules.specs.Agent.{AgentRecord}
-use Rattle.is_rules.specs.Emitted.{selected_only}
-use Rattle.is_rules.specs.declared.emitted.Emitted.{Emitted}
-use Rattle.is_rules.specs.declared.emitted.Path.{Path}
-use Rattle.is_rules.specs.Steps.{Call, Answer, Entry, quiet, Step, SetMtu, SetControlTieBreaker, SetMaxCandidatePairs, SetMaxDiscovered, SetIceLite, SetRenomination, SetConsent, SetProfile, SetTimingAdvance, SetInitialStunRto, SetMaxStunRto, SetMaxStunRetransmits, SetLiteTimeout, SetLocalPreference, SetControlling, SetLocalCredentials, SetRemoteCredentials, SkipPairIds, AddLocalCandidate, AddRemoteCandidate, InvalidateCandidate, RestartIce, RecreateCandidatePairs, ReceivePacket, HandleTimeout, PollTransmit, PollTimeout, PollEvent}
-use Rattle.is_theorems.specs.Logs.{Logged}
 use Rattle.is_theorems.specs.Reporting.{QueuesTheorem}
 use Rattle.is.specs.Queues.{IssuesNone, OthersIssueNone, QueuesAreKept}
+use Rattle.is.proofs.Common.{◌==◌, ◌∙◌, ◌≡◌, AddLocalCandidate, AddRemoteCandidate, AgentRecord, Answer, ap, Bool, Call, CandidateRecord}
+use Rattle.is.proofs.Common.{Emitted, Entry, false, HandleTimeout, InvalidateCandidate, List, Logged, MatchBool, None, Option, Path}
+use Rattle.is.proofs.Common.{PollEvent, PollTimeout, PollTransmit, quiet, ReceivePacket, RecreateCandidatePairs, RestartIce, selected_only}
+use Rattle.is.proofs.Common.{SetConsent, SetControlling, SetControlTieBreaker, SetIceLite, SetInitialStunRto, SetLiteTimeout}
+use Rattle.is.proofs.Common.{SetLocalCredentials, SetLocalPreference, SetMaxCandidatePairs, SetMaxDiscovered, SetMaxStunRetransmits}
+use Rattle.is.proofs.Common.{SetMaxStunRto, SetMtu, SetProfile, SetRemoteCredentials, SetRenomination, SetTimingAdvance, SkipPairIds, Step}
+use Rattle.is.proofs.Common.{Stream, true, ℕ}
 
 -- a quiet entry records no packet
 silent : (e : Entry) (answer : Answer) → e ≡ quiet answer → e.emitted.issued ≡ None

@@ -1,25 +1,14 @@
 -- What events report along a log, and what the settings are. What mutants/specifications changes is read by tactics.
-use Rattle.std.proofs.Common.{◌≡◌, ℕ, List, [], ◌∷◌, ◌++◌, Option, Some, None, inl, refl, ap, sym, ◌∙◌, subst}
-use Rattle.rand_core.specs.Stream.{Stream}
-use Rattle.is_proto.specs.Lists.{Has}
-use Rattle.is_candidate.specs.Candidates.{CandidateRecord}
-use Rattle.is_rules.specs.declared.emitted.Path.{Path}
 use Rattle.is_rules.specs.declared.event.IceAgentEvent.{IceAgentEvent}
-use Rattle.is_rules.specs.Agent.{AgentRecord}
-use Rattle.is_rules.specs.Polls.{IsPolled}
-use Rattle.is_rules.specs.Steps.{Call, PollEvent, Answer, Happened, Entry, Step}
 use Rattle.is_theorems.specs.Logs as agent
-use Rattle.is_theorems.specs.Logs.{NeverLite}
 use Rattle.is_theorems.specs.Polled.{IsControlledSinceRestart, WaitingAreSelected, WaitingAreAnswered, WaitingAreNominatedByPeer}
 use Rattle.is_theorems.specs.Reporting.{EventsAreSelected, selecting}
-use Rattle.is_theorems.specs.Runs.{IsFresh, Point, Run, shared_run}
-use Rattle.is_theorems.specs.Settings.{SettingsRecord, all_settings_of, settings_after, settings_along, SettingsAreSet}
-use Rattle.is_theorems.specs.Shared.{SharedRun}
-use Rattle.is.specs.declared.world_events.Side.{Side}
-use Rattle.is.specs.AcceptedNominationsIn.{Occurrence}
-use Rattle.is.specs.Reported.{ReportsPath, QueuedAreSelected, PolledAreSelected, PolledAreAnswered, PolledAreNominatedByPeer, SettingsAreThoseSet, BothReportSelected, BothReportAnswered, BothKeepSettings}
-use Rattle.is.specs.Sides.{own_log}
-use Rattle.is.specs.World.{WorldRecord, Streams, LoggedEvent, at}
+use Rattle.is.specs.Reported.{ReportsPath, QueuedAreSelected, PolledAreSelected, PolledAreAnswered, PolledAreNominatedByPeer}
+use Rattle.is.specs.Reported.{SettingsAreThoseSet, BothReportSelected, BothReportAnswered, BothKeepSettings}
+use Rattle.is.proofs.Common.{[], ◌++◌, ◌∙◌, ◌∷◌, ◌≡◌, AgentRecord, all_settings_of, Answer, ap, at, Call, CandidateRecord, Entry, Happened}
+use Rattle.is.proofs.Common.{Has, inl, IsFresh, IsPolled, List, LoggedEvent, NeverLite, None, Option, own_log, Path, Point, refl}
+use Rattle.is.proofs.Common.{settings_after, settings_along, SettingsAreSet, SettingsRecord, shared_run, SharedRun, Some, Step, Stream}
+use Rattle.is.proofs.Common.{Streams, subst, sym, WorldRecord, ℕ}
 use Rattle.is.proofs.AgentLogs.StoredAndQueued.{new_first, own_run}
 
 abbrev happened-in : Answer → Option IceAgentEvent

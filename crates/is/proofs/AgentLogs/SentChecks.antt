@@ -1,18 +1,12 @@
 -- How many checks an agent sends, along its log.
-use Rattle.std.proofs.Common.{◌≡◌, ℕ, ◌≤◌, List, [], ◌∷◌, ◌++◌, refl, ap, subst}
-use Rattle.rand_core.specs.Stream.{Stream}
-use Rattle.is_candidate.specs.Candidates.{CandidateRecord}
-use Rattle.is_rules.specs.Agent.{AgentRecord}
 use Rattle.is_theorems.specs.CheckRate.{ChecksArePaced, IsFrugal, IsFrugalAt, IsLateAt, IsPacedAt, IsSlowAt, SecondsHaveFewChecks}
-use Rattle.is_theorems.specs.Logs.{Logged}
 use Rattle.is_theorems.specs.Rounds.{RunsOn}
 use Rattle.is_theorems.specs.Runs as runs
-use Rattle.is_theorems.specs.Runs.{AtEach, IsFresh, run_to, shared_run}
-use Rattle.is_theorems.specs.Shared.{BeforeEach, SharedRun}
 use Rattle.is_theorems.specs.SilentPairs.{AreInOrder, AskedPairsGetFew, IsTimedBy, SilentPairsGetFew, time_after, time_of}
 use Rattle.is_theorems.proofs.ExecutionLogs.LogSegments.{run-on}
-use Rattle.is_theorems.proofs.ExecutionLogs.PointsOfSegments.{deeper, later_point}
 use Rattle.is.specs.CheckBounds.{AskedPairsStayFew, ChecksStayPaced, SecondsStayShort, SilentPairsStayFew}
+use Rattle.is.proofs.Common.{[], ◌++◌, ◌∷◌, ◌≡◌, ◌≤◌, AgentRecord, ap, AtEach, BeforeEach, CandidateRecord, deeper, IsFresh, later_point}
+use Rattle.is.proofs.Common.{List, Logged, refl, run_to, shared_run, SharedRun, Stream, subst, ℕ}
 use Rattle.is.proofs.AgentLogs.StoredAndQueued.{new_first}
 
 module _ {H P : Type 0} (mac : H → List ℕ → List ℕ → List ℕ) (answers : P → CandidateRecord → ℕ → ℕ → Type 0) where

@@ -1,23 +1,15 @@
 -- What an agent stores, and what waits in it, along a log. The preconditions that mutants/specifications changes are read by tactics where they
 -- are used: if one of them is weaker, that goal stays unproved.
-use Rattle.std.proofs.Common.{◌≡◌, ℕ, ◌≤◌, false, List, [], ◌∷◌, ◌++◌, refl, subst}
-use Rattle.rand_core.specs.Stream.{Stream}
-use Rattle.is_proto.specs.Lists.{Has}
-use Rattle.is_candidate.specs.Candidates.{CandidateRecord}
-use Rattle.is_rules.specs.Agent.{AgentRecord}
 use Rattle.is_theorems.specs.Bounds.{IsLimited}
 use Rattle.is_theorems.specs.Logs as agent
 use Rattle.is_theorems.specs.Runs as runs
-use Rattle.is_theorems.specs.Runs.{IsFresh, run_to, shared_run}
-use Rattle.is_theorems.proofs.ExecutionLogs.PointsOfSegments.{deeper, later_point}
 use Rattle.is_theorems.specs.Limited.{DiscoveriesStayFew, FormsFewAt, IsLimitedAt, ListsStayBounded, PairsStayFew}
-use Rattle.is_theorems.specs.Shared.{IsNewlyCreated, BeforeEach}
 use Rattle.is_theorems.specs.Waiting.{IsShort, QueuesAreShort, discovery_count}
-use Rattle.is.specs.declared.world_events.Side.{Side}
-use Rattle.is.specs.Floods.{QueuesStayShort, DiscoveriesAreFew, IsLimitedFor, BothAreBounded, BothHaveFewPairs, BothAreShort, BothDiscoverFew}
-use Rattle.is.specs.AcceptedNominationsIn.{Occurrence, occurrences_in}
-use Rattle.is.specs.Sides.{own_at, own_log}
-use Rattle.is.specs.World.{WorldRecord, Streams, LoggedEvent, WorldRun, at}
+use Rattle.is.specs.Floods.{QueuesStayShort, DiscoveriesAreFew, IsLimitedFor, BothAreBounded, BothHaveFewPairs, BothAreShort}
+use Rattle.is.specs.Floods.{BothDiscoverFew}
+use Rattle.is.proofs.Common.{[], ◌++◌, ◌∷◌, ◌≡◌, ◌≤◌, AgentRecord, at, BeforeEach, CandidateRecord, deeper, false, Has, IsFresh}
+use Rattle.is.proofs.Common.{IsNewlyCreated, later_point, List, LoggedEvent, Occurrence, occurrences_in, own_at, own_log, refl, run_to}
+use Rattle.is.proofs.Common.{shared_run, Side, Stream, Streams, subst, WorldRecord, WorldRun, ℕ}
 use Rattle.is.proofs.TwoAgentEvents.EventsOfSegments.{Follow, follows, cut}
 use Rattle.is.proofs.TwoAgentEvents.OwnLogs.{Led, along, ends}
 

@@ -1,21 +1,13 @@
 -- Bytes that are not accepted change nothing, and the result for accepted bytes is `true`.
-use Rattle.std.proofs.Common.{◌≡◌, ◌↔◌, ℕ, Bool, true, false, List, Ok, Err, Result, inl, inr, ap, sym, ◌∙◌, subst}
-use Rattle.rand_core.specs.Stream.{Stream}
 use Rattle.is_proto.specs.declared.error.IceError.{IceError}
-use Rattle.is_stun.specs.Message.{Message}
-use Rattle.is_stun.specs.Reading.{Reads}
-use Rattle.is_candidate.specs.Candidates.{CandidateRecord}
-use Rattle.is_rules.specs.declared.emitted.Path.{Path}
-use Rattle.is_rules.specs.declared.emitted.Emitted.{Emitted}
-use Rattle.is_rules.specs.Agent.{AgentRecord}
 use Rattle.is_rules.specs.Accepting.{IsAcceptedOn, HandlesPacket}
-use Rattle.is_rules.specs.Steps.{Answer, Entry, Flag, answer_by, quiet, Receives, Step, ReceivePacket}
-use Rattle.is_theorems.specs.Logs.{Logged}
-use Rattle.is.specs.Accepted.{AcceptsOnPath, IsSettled, LeavesOut, PacketsAreSettled}
+use Rattle.is.proofs.Common.{◌↔◌, ◌∙◌, ◌≡◌, AcceptsOnPath, AgentRecord, Answer, answer_by, ap, Bool, CandidateRecord, Emitted, Entry, Err}
+use Rattle.is.proofs.Common.{false, Flag, inl, inr, IsHandled, LeavesOut, List, Logged, Message, Ok, PacketsAreHandled, Path, quiet, Reads}
+use Rattle.is.proofs.Common.{ReceivePacket, Receives, Result, Step, Stream, subst, sym, true, ℕ}
 
 module _ {H P : Type 0} (mac : H → List ℕ → List ℕ → List ℕ) where
   handled : (old new : AgentRecord H P) (now : ℕ) (path : Path) (bytes : List ℕ) (m : Message) (r : Result Bool IceError) (emitted : Emitted) (e : Entry)
-      → Reads bytes m → e ≡ record { answer = answer_by Flag r; emitted = emitted } → HandlesPacket mac now old path m r emitted new → IsSettled mac old path bytes e new
+      → Reads bytes m → e ≡ record { answer = answer_by Flag r; emitted = emitted } → HandlesPacket mac now old path m r emitted new → IsHandled mac old path bytes e new
   handled old new now path bytes m (Ok true) emitted e reads is did = record {
     unaccepted = λ no. absurd (no (m, reads, did.0));
     accepted = λ _. inl (ap (λ (x : Entry). x.answer) is);
@@ -42,7 +34,7 @@ module _ {H P : Type 0} (mac : H → List ℕ → List ℕ → List ℕ) where
 
 module _ {H P : Type 0} (mac : H → List ℕ → List ℕ → List ℕ) (answers : P → CandidateRecord → ℕ → ℕ → Type 0) where
   pub settled : (old new : AgentRecord H P) (now : ℕ) (path : Path) (bytes : List ℕ) (e : Entry)
-      → Receives mac answers now old path bytes e new → IsSettled mac old path bytes e new
+      → Receives mac answers now old path bytes e new → IsHandled mac old path bytes e new
   settled old new now path bytes e (inl (fault, fails, is, same)) = record {
     unaccepted = λ _. record {
       same = same;
@@ -68,7 +60,7 @@ module _ {H P : Type 0} (mac : H → List ℕ → List ℕ → List ℕ) (answer
         nothing,
       )
 
-  pub packets_are_settled : (first : AgentRecord H P) (s : Stream) (log : List (Logged P)) → PacketsAreSettled mac answers first s log
-  packets_are_settled first s log before mid after x point now path bytes is =
+  pub packets_are_handled : (first : AgentRecord H P) (s : Stream) (log : List (Logged P)) → PacketsAreHandled mac answers first s log
+  packets_are_handled first s log before mid after x point now path bytes is =
       let received : Step mac answers mid point.at (ReceivePacket now path bytes) x.entry after point.following = rw is at point.step in
       settled mid after now path bytes x.entry received.0

@@ -1,10 +1,7 @@
 -- The effect of a claimed role at its receiver.
-use Rattle.std.proofs.Common.{◌≡◌, ℕ, ◌<◌, ◌≤◌, ◌&&◌, ◌||◌, Bool, true, false, not, nat_lt, nat_le, Option, Some, None, refl, ap, sym, ◌∙◌, arith}
-use Rattle.std.specs.Prelude.{if◌then◌else◌}
-use Rattle.std.specs.Option.{option_map_or}
 use Rattle.std.proofs.lemmas.Bool.Decides.{nat_tests}
-use Rattle.is_rules.specs.Request.{RequestRecord, rival_in}
-use Rattle.is_theorems.specs.RoleState.{RoleState, Claims, sends_487, switches_role}
+use Rattle.is.proofs.Common.{◌&&◌, ◌<◌, ◌||◌, ◌∙◌, ◌≡◌, ◌≤◌, ap, arith, Bool, Claims, false, if◌then◌else◌, nat_le, nat_lt, None, not}
+use Rattle.is.proofs.Common.{Option, option_map_or, refl, RequestRecord, rival_in, RoleState, sends_487, Some, switches_role, sym, true, ℕ}
 
 -- the rival's tie-breaker is the claimed one if the claimed role is the receiver's own role, and otherwise there is
 -- none

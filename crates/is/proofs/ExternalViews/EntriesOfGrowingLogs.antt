@@ -1,13 +1,8 @@
 -- Statements about entries by their numbers stay true when the log grows.
-use Rattle.std.proofs.Common.{◌≡◌, ℕ, zero, suc, Bool, false, List, [], ◌∷◌, ◌++◌, length, Some, ◌⊎◌, inl, inr, refl, ap}
-use Rattle.std.specs.Prelude.{slice_get}
-use Rattle.is_stun.specs.declared.header.Class.{Class}
 use Rattle.is_stun.specs.declared.header.Class.TheVariants as class
-use Rattle.is_rules.specs.declared.emitted.Path.{Path}
-use Rattle.is.specs.declared.world_events.Side.{Side}
-use Rattle.is.specs.World.{other}
-use Rattle.is.proofs.ExternalViews.NetworkModel.{Emitted}
-use Rattle.is.proofs.ExternalViews.NetworkModel.{Issues, Takes, NoClear, Trace, DistinctChecks}
+use Rattle.is.proofs.Common.{[], ◌++◌, ◌∷◌, ◌≡◌, ◌⊎◌, ap, Bool, Class, false, inl, inr, length, List, other, Path, refl, Side, slice_get}
+use Rattle.is.proofs.Common.{Some, suc, zero, ℕ}
+use Rattle.is.proofs.ExternalViews.NetworkModel.{Emitted, Issues, Takes, NoClear, Trace, DistinctChecks}
 
 pub get-push : {X : Type 0} (xs : List X) (n : ℕ) (x y : X) → slice_get xs n ≡ Some x → slice_get (xs ++ y ∷ []) n ≡ Some x
 get-push [] n x y h = cc

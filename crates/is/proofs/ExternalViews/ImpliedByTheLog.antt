@@ -1,18 +1,10 @@
 -- What the log implies for two agents and the packets between them, and that each step preserves it.
-use Rattle.std.proofs.Common.{◌≡◌, ℕ, ◌<◌, ◌≤◌, Bool, true, false, List, [], ◌∷◌, ◌++◌, length, Some, ◌⊎◌, inl, inr, refl, ap, sym, ◌∙◌, subst, arith}
-use Rattle.std.specs.Prelude.{not}
-use Rattle.std.proofs.lemmas.Option.{slice_get_within}
-use Rattle.is_proto.specs.Lists.{Has}
-use Rattle.is_stun.specs.declared.header.Class.{Class}
 use Rattle.is_stun.specs.declared.header.Class.TheVariants as class
-use Rattle.is_rules.specs.declared.emitted.Path.{Path}
-use Rattle.is_rules.specs.Request.{RequestRecord}
-use Rattle.is.specs.declared.world_events.Side.{Side}
-use Rattle.is.specs.declared.world_events.Side.TheVariants.{A, B}
-use Rattle.is_theorems.specs.RoleState.{Mail, Kept, RoleState, RoleEvent, RoleEffect, Claims, Conveys, IsCarriedIn, MeetsSuccess, MeetsConflict}
-use Rattle.is.specs.World.{other}
-use Rattle.is.proofs.ExternalViews.NetworkModel.{InFlight, Seen, Emitted, at, roles_of, role_at}
-use Rattle.is.proofs.ExternalViews.NetworkModel.{Issues, Takes, NoClear, Trace, DistinctChecks}
+use Rattle.is.proofs.Common.{[], ◌++◌, ◌<◌, ◌∙◌, ◌∷◌, ◌≡◌, ◌≤◌, ◌⊎◌, A, ap, arith, B, Bool, Claims, Class, Conveys, false, Has, inl, inr}
+use Rattle.is.proofs.Common.{IsCarriedIn, Kept, length, List, Mail, MeetsConflict, MeetsSuccess, not, other, Path, refl, RequestRecord}
+use Rattle.is.proofs.Common.{RoleEffect, RoleEvent, RoleState, Side, slice_get_within, Some, subst, sym, true, ℕ}
+use Rattle.is.proofs.ExternalViews.NetworkModel.{InFlight, Seen, Emitted, at, roles_of, role_at, Issues, Takes, NoClear, Trace}
+use Rattle.is.proofs.ExternalViews.NetworkModel.{DistinctChecks}
 use Rattle.is.proofs.ExternalViews.EntriesOfGrowingLogs.{get-last, get-push_cases, issues-grow, takes-grow, no_clear-grow, trace-grow}
 use Rattle.is.proofs.ExternalViews.ClaimedRoles.{sends_487-claims, switches_role-claims, settled-claims}
 

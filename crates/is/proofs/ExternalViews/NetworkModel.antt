@@ -1,16 +1,8 @@
 -- The two-agent network model with external views of the agents, and the in-flight packets by their parsed messages.
-use Rattle.std.specs.List.{AllByRecursion}
-use Rattle.std.specs.Prelude.{◌≡◌, ◌≢◌, ℕ, ◌<◌, ◌≤◌, Bool, true, false, List, [], ◌∷◌, ◌++◌, map, Option, Some, None, ◌⊎◌, slice_get}
-use Rattle.is_proto.specs.Lists.{Has}
-use Rattle.is_stun.specs.declared.header.Class.{Class}
 use Rattle.is_stun.specs.declared.header.Class.TheVariants as class
-use Rattle.is_rules.specs.declared.emitted.Path.{Path}
-use Rattle.is_rules.specs.Request.{RequestRecord}
-use Rattle.is_theorems.specs.RoleState.{Mail, Sent, RoleState, RoleEvent, RoleEffect, IsNewRoleState}
-use Rattle.is.specs.declared.world_events.Side.{Side}
-use Rattle.is.specs.declared.world_events.Side.TheVariants.{A, B}
-use Rattle.is.specs.World.{other}
-use Rattle.is.specs.WorldRoles.{changes}
+use Rattle.is.proofs.Common.{[], ◌++◌, ◌<◌, ◌∷◌, ◌≡◌, ◌≢◌, ◌≤◌, ◌⊎◌, A, AllByRecursion, B, Bool, changes, Class, false, Has, IsNewRoleState}
+use Rattle.is.proofs.Common.{List, Mail, map, None, Option, other, Path, RequestRecord, RoleEffect, RoleEvent, RoleState, Sent, Side}
+use Rattle.is.proofs.Common.{slice_get, Some, true, ℕ}
 
 -- an in-flight packet of the multiset, by the message that its bytes encode
 pub record InFlight : Type 0 where

@@ -1,20 +1,15 @@
 -- Each event preserves what the log implies for the network model, and so does an execution.
-use Rattle.std.proofs.Common.{◌≡◌, ℕ, ◌+◌, ◌<◌, ◌≤◌, Bool, true, false, cond, List, [], ◌∷◌, ◌++◌, Some, ◌⊎◌, inl, inr, refl, ap, sym, ◌∙◌, subst, arith, append_assoc, append-nil, zero-add}
-use Rattle.std.specs.Prelude.{not, ◌≢◌}
-use Rattle.std.specs.List.{AllByRecursion}
-use Rattle.is_proto.specs.Lists.{Has, same}
 use Rattle.is_stun.specs.declared.header.Class.TheVariants as class
-use Rattle.is_rules.specs.declared.emitted.Path.{Path}
-use Rattle.is_rules.specs.Request.{RequestRecord}
-use Rattle.is.specs.declared.world_events.Side.{Side}
-use Rattle.is.specs.declared.world_events.Side.TheVariants.{A, B}
-use Rattle.is_theorems.specs.RoleState.{Mail, RoleState, RoleEvent, IsNewRoleState}
-use Rattle.is.specs.World.{other}
-use Rattle.is.specs.WorldRoles.{changes}
-use Rattle.is.proofs.ExternalViews.NetworkModel.{InFlight, Seen, Emitted, Kind, Still, Move, Moves, Persists, Happening, Happens, Roles, Run, at, put, roles_of, role_at}
-use Rattle.is.proofs.ExternalViews.NetworkModel.{emitted_of, Trace, Back, DistinctChecks, Start, Preconditions, Compares, AllCompare, StaysFull, NeverLite, roles_along, KeepsRole, SwitchesOnceIn, Meets, Point, DifferOnceMet, Traced, AnswersComeBack}
+use Rattle.is.proofs.Common.{[], ◌++◌, ◌+◌, ◌<◌, ◌∙◌, ◌∷◌, ◌≡◌, ◌≢◌, ◌≤◌, ◌⊎◌, A, AllByRecursion, ap, append-nil, append_assoc, arith, B}
+use Rattle.is.proofs.Common.{Bool, changes, cond, false, Has, inl, inr, IsNewRoleState, List, Mail, not, other, Path, refl, RequestRecord}
+use Rattle.is.proofs.Common.{RoleEvent, RoleState, same, Side, Some, subst, sym, true, zero-add, ℕ}
+use Rattle.is.proofs.ExternalViews.NetworkModel.{InFlight, Seen, Emitted, Kind, Still, Move, Moves, Persists, Happening, Happens, Roles}
+use Rattle.is.proofs.ExternalViews.NetworkModel.{Run, at, put, roles_of, role_at, emitted_of, Trace, Back, DistinctChecks, Start}
+use Rattle.is.proofs.ExternalViews.NetworkModel.{Preconditions, Compares, AllCompare, StaysFull, NeverLite, roles_along, KeepsRole}
+use Rattle.is.proofs.ExternalViews.NetworkModel.{SwitchesOnceIn, Meets, Point, DifferOnceMet, Traced, AnswersComeBack}
 use Rattle.is.proofs.ExternalViews.EntriesOfGrowingLogs.{distinct-append}
-use Rattle.is.proofs.ExternalViews.ImpliedByTheLog.{not-other, sides, role-roles, not-self, Setting, Fact, Half, Carried, Turn, fact-grow, half-grow, half_turn, selected_turn, greater_turn, lesser_turn, met_turn}
+use Rattle.is.proofs.ExternalViews.ImpliedByTheLog.{not-other, sides, role-roles, not-self, Setting, Fact, Half, Carried, Turn, fact-grow}
+use Rattle.is.proofs.ExternalViews.ImpliedByTheLog.{half-grow, half_turn, selected_turn, greater_turn, lesser_turn, met_turn}
 
 Has-append : {X : Type 0} (xs ys : List X) (x : X) → Has (xs ++ ys) x → Has xs x ⊎ Has ys x
 Has-append [] ys x h = inr h

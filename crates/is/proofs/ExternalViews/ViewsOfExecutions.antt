@@ -1,44 +1,23 @@
 -- An execution of the two-agent network model is one of the model with external views.
-use Rattle.std.proofs.Common.{◌≡◌, ℕ, zero, suc, Bool, true, false, List, [], ◌∷◌, ◌++◌, map, Option, Some, None, option_map, inl, inr, refl, ap, sym, ◌∙◌, subst, append-nil}
-use Rattle.std.specs.Prelude.{◌||◌, ◌&&◌, MatchBool, slice_get}
-use Rattle.std.specs.List.{AllByRecursion, list_any}
 use Rattle.std.proofs.lemmas.Slice.Eq.{bytes_eq-Decides}
-use Rattle.is_proto.specs.Lists.{Has}
-use Rattle.is_proto.specs.Packets.{Packet}
-use Rattle.is_proto.specs.declared.error.ParseFault.{ParseFault}
-use Rattle.is_candidate.specs.Addresses.{same_address}
-use Rattle.is_candidate.specs.Candidates.{CandidateRecord}
 use Rattle.is_pair.specs.Checks.{Check, has_id, is_kept}
-use Rattle.is_pair.specs.Pairs.{PairRecord}
-use Rattle.is_stun.specs.declared.header.Class.{Class}
 use Rattle.is_stun.specs.declared.header.Class.TheVariants as class
-use Rattle.is_stun.specs.declared.trans_id.TransId.{TransId}
-use Rattle.is_stun.specs.Message.{Message}
-use Rattle.is_stun.specs.Reading.{fault_of, message_of}
-use Rattle.is_stun.specs.Timing.{is_modern}
 use Rattle.is_theorems.proofs.BasicLemmas.EqualAddresses.{both, same_address-sound}
-use Rattle.is_rules.specs.declared.emitted.Path.{Path}
 use Rattle.is_rules.specs.Steps as agent
-use Rattle.is_rules.specs.Steps.{Answer, Flag, Entry}
-use Rattle.is_theorems.specs.RoleState.{Mail, RoleEvent, RoleEffect}
-use Rattle.is_rules.specs.Agent.{AgentRecord}
-use Rattle.is_rules.specs.Polls.{PollsTransmit}
-use Rattle.is_rules.specs.Sending.{path_of}
 use Rattle.is_rules.specs.Accepting.{IsAcceptedAs}
-use Rattle.is_rules.specs.Answers.{keeps_check_on, is_reverse}
-use Rattle.is_rules.specs.Steps.{Step}
-use Rattle.is_rules.specs.Sound.{IsSound}
-use Rattle.is_rules.specs.Brought.{Brings}
-use Rattle.is_rules.specs.Effects.{PathTheorem, keeping_set_by, lite_set_by}
-use Rattle.is_rules.specs.Roles.{keeps_role}
-use Rattle.is_theorems.specs.RoleView.{mail_of, mail_unless, mail_read, mail_in, kept_as, all_kept, role_state_of, when_accepted, sent_as, some_paths, sets_role, sets_lite, packet_path, accepted_by, role_event_of, RoleTheorem}
-use Rattle.is.specs.declared.world_events.Side.{Side}
-use Rattle.is.specs.declared.world_events.Side.TheVariants.{A, B}
 use Rattle.is.specs.World as world
-use Rattle.is.specs.World.{WorldRecord, InFlightRecord, Event, Outcome, LoggedEvent, other, in_world, plain, read_unless, moved_by, PolledInto, TakesTurn, Persists, Polls, Delivers, Happens, Streams}
-use Rattle.is.specs.WorldRoles.{Makes, StaysFull, IsNeverLite, StaysOriginal}
+use Rattle.is.proofs.Common.{[], ◌&&◌, ◌++◌, ◌||◌, ◌∙◌, ◌∷◌, ◌≡◌, A, accepted_by, AgentRecord, all_kept, AllByRecursion, Answer, ap}
+use Rattle.is.proofs.Common.{append-nil, B, Bool, Brings, CandidateRecord, Class, Delivers, Entry, Event, false, fault_of, Flag, Happens}
+use Rattle.is.proofs.Common.{Has, in_world, InFlightRecord, inl, inr, is_modern, is_reverse, IsNeverLite, IsSound, keeping_set_by}
+use Rattle.is.proofs.Common.{keeps_check_on, keeps_role, kept_as, List, list_any, lite_set_by, LoggedEvent, Mail, mail_in, mail_of}
+use Rattle.is.proofs.Common.{mail_read, mail_unless, Makes, map, MatchBool, Message, message_of, moved_by, None, Option, option_map, other}
+use Rattle.is.proofs.Common.{Outcome, Packet, packet_path, PairRecord, ParseFault, Path, path_of, PathTheorem, Persists, plain, PolledInto}
+use Rattle.is.proofs.Common.{Polls, PollsTransmit, read_unless, refl, role_event_of, role_state_of, RoleEffect, RoleEvent, RoleTheorem}
+use Rattle.is.proofs.Common.{same_address, sent_as, sets_lite, sets_role, Side, slice_get, Some, some_paths, StaysFull, StaysOriginal, Step}
+use Rattle.is.proofs.Common.{Streams, subst, suc, sym, TakesTurn, TransId, true, when_accepted, WorldRecord, zero, ℕ}
 use Rattle.is.proofs.ExternalViews.NetworkModel as seen
-use Rattle.is.proofs.ExternalViews.NetworkModel.{InFlight, Seen, Roles, Moved, Emitted, Kind, Still, Move, Moves, IsAwaited, Happening, emitted_of, NeverLite}
+use Rattle.is.proofs.ExternalViews.NetworkModel.{InFlight, Seen, Roles, Moved, Emitted, Kind, Still, Move, Moves, IsAwaited, Happening}
+use Rattle.is.proofs.ExternalViews.NetworkModel.{emitted_of, NeverLite}
 
 -- ---- lists
 

@@ -1,37 +1,23 @@
 -- Each selected path has a causal chain, and its response came back on the path. What mutants/specifications changes is read by tactics.
-use Rattle.std.proofs.Common.{◌≡◌, ℕ, zero, suc, ◌<◌, ◌≤◌, Bool, true, false, List, [], ◌∷◌, ◌++◌, map, length, Option, Some, None, option_map, ◌⊎◌, inl, inr, refl, ap, sym, ◌∙◌, subst, arith}
-use Rattle.std.specs.Prelude.{MatchBool, slice_get}
-use Rattle.std.specs.List.{AllByRecursion}
-use Rattle.std.specs.Option.{option_map_or}
-use Rattle.std.proofs.lemmas.Option.{slice_get_within}
-use Rattle.is_proto.specs.Lists.{Has}
-use Rattle.is_candidate.specs.Candidates.{CandidateRecord}
-use Rattle.is_stun.specs.declared.header.Class.{Class}
 use Rattle.is_stun.specs.declared.header.Class.TheVariants as class
-use Rattle.is_stun.specs.declared.trans_id.TransId.{TransId}
-use Rattle.is_rules.specs.declared.emitted.Issued.{Issued}
-use Rattle.is_rules.specs.declared.emitted.Path.{Path}
-use Rattle.is_rules.specs.Sound.{FreshIsSound}
-use Rattle.is_rules.specs.Emitted.{issued_as}
-use Rattle.is_rules.specs.Effects.{PathTheorem}
-use Rattle.is_theorems.specs.RoleView.{some_paths, RoleTheorem}
 use Rattle.is.specs.declared.calls.Answer as code
 use Rattle.is.specs.declared.calls.Answer.TheVariants as answer
-use Rattle.is.specs.declared.world_events.Side.{Side}
-use Rattle.is.specs.declared.traces.Trace.{Trace}
-use Rattle.is.specs.declared.world_events.WorldEntry.{WorldEntry}
-use Rattle.is.specs.declared.world_events.TwoAgentsEvent.{TwoAgentsEvent}
-use Rattle.is.specs.Views.{answer_view}
 use Rattle.is.specs.World as world
 use Rattle.is.specs.declared.world_events.WorldLog.{WorldLog}
-use Rattle.is.specs.World.{WorldRecord, Event, LoggedEvent, logged_as, logged, other, IsWorldLog, Streams}
-use Rattle.is.specs.WorldRoles.{HaveDistinctIds, IsNewWorld, IsNeverLite, Point, role_in, changes, GreaterKeeps, LesserSwitchesOnce}
-use Rattle.is.specs.Traces.{Issues, HandlesMessage, SelectsPathAt, IsAt, IsUncleared, IsTrace, ComesBack, SelectedAreTraced}
+use Rattle.is.specs.WorldRoles.{Point}
+use Rattle.is.proofs.Common.{[], ◌++◌, ◌<◌, ◌∙◌, ◌∷◌, ◌≡◌, ◌≤◌, ◌⊎◌, AllByRecursion, answer_view, ap, arith, Bool, CandidateRecord, changes}
+use Rattle.is.proofs.Common.{Class, ComesBack, Event, false, FreshIsSound, GreaterKeeps, HandlesMessage, Has, HaveDistinctIds, inl, inr}
+use Rattle.is.proofs.Common.{IsAt, IsNeverLite, IsNewWorld, Issued, issued_as, Issues, IsTrace, IsUncleared, IsWorldLog, length}
+use Rattle.is.proofs.Common.{LesserSwitchesOnce, List, logged, logged_as, LoggedEvent, map, MatchBool, None, Option, option_map}
+use Rattle.is.proofs.Common.{option_map_or, other, Path, PathTheorem, refl, role_in, RoleTheorem, SelectedAreTraced, SelectsPathAt, Side}
+use Rattle.is.proofs.Common.{slice_get, slice_get_within, Some, some_paths, Streams, subst, suc, sym, Trace, TransId, true, TwoAgentsEvent}
+use Rattle.is.proofs.Common.{WorldEntry, WorldRecord, zero, ℕ}
 use Rattle.is.proofs.ExternalViews.NetworkModel as seen
 use Rattle.is.proofs.ExternalViews.NetworkModel.{Moved, Emitted, emitted_of}
 use Rattle.is.proofs.ExternalViews.PreservedByEvents as runs
 use Rattle.is.proofs.ExternalViews.ViewsOfExecutions.{seen_of, moved_as, is_yes, via_in, emitted_at}
-use Rattle.is.proofs.RolesAndChains.RolesAndChainsOfViews.{get-map_back, issued_back, start_seen, sound_first, Sight, sight, greater_keeps, lesser_switches_once}
+use Rattle.is.proofs.RolesAndChains.RolesAndChainsOfViews.{get-map_back, issued_back, start_seen, sound_first, Sight, sight, greater_keeps}
+use Rattle.is.proofs.RolesAndChains.RolesAndChainsOfViews.{lesser_switches_once}
 
 -- ---- lists
 

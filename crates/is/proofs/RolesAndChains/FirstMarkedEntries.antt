@@ -1,21 +1,12 @@
 -- The first of marked entries, and the first of causal chains.
-use Rattle.std.proofs.Common.{◌≡◌, ℕ, zero, suc, ◌+◌, ◌<◌, ◌≤◌, Bool, true, false, List, length, Option, Some, None, ◌⊎◌, inl, inr, refl, ap, sym, ◌∙◌, subst, arith}
-use Rattle.std.specs.Prelude.{slice_get, ◌↔◌, IsTrue}
-use Rattle.std.specs.Option.{option_map_or}
-use Rattle.std.proofs.lemmas.Option.{slice_get_within}
-use Rattle.is_stun.specs.declared.header.Class.{Class}
 use Rattle.is_stun.specs.declared.header.Class.TheVariants as class
-use Rattle.is_stun.specs.declared.trans_id.TransId.{TransId}
 use Rattle.is_rules.specs.declared.emitted.Issued as emitted
-use Rattle.is_rules.specs.declared.emitted.Path.{Path}
 use Rattle.is.specs.declared.traces.Mark.{Mark}
 use Rattle.is.specs.declared.traces.Mark.TheVariants.{Taken, Issued, Cleared}
-use Rattle.is.specs.declared.traces.Trace.{Trace}
-use Rattle.is.specs.declared.world_events.Side.{Side}
-use Rattle.is.specs.declared.world_events.WorldEntry.{WorldEntry}
-use Rattle.is.specs.World.{other}
-use Rattle.is.specs.Traces.{Issues, SelectsPathAt, IsAt, HasAnswer, IsTrace, IsTraceOf, IsFirstTrace}
-use Rattle.is.specs.Marks.{IsMarked, NoneMarked, IsFirstFrom, IsFirst}
+use Rattle.is.proofs.Common.{◌+◌, ◌<◌, ◌↔◌, ◌∙◌, ◌≡◌, ◌≤◌, ◌⊎◌, ap, arith, Bool, Class, false, HasAnswer, inl, inr, IsAt, IsFirst}
+use Rattle.is.proofs.Common.{IsFirstFrom, IsFirstTrace, IsMarked, Issues, IsTrace, IsTraceOf, IsTrue, length, List, None, NoneMarked}
+use Rattle.is.proofs.Common.{Option, option_map_or, other, Path, refl, SelectsPathAt, Side, slice_get, slice_get_within, Some, subst, suc}
+use Rattle.is.proofs.Common.{sym, Trace, TransId, true, WorldEntry, zero, ℕ}
 
 compared : (m n : ℕ) → (m < n) ⊎ ((m ≡ n) ⊎ (n < m))
 compared zero zero = inr (inl refl)
@@ -45,9 +36,6 @@ issued_iff o i c id b is iff = (
 )
 
 -- ---- marked entries
-
-pub none_yet : (es : List WorldEntry) (mark : Mark) (from : ℕ) → NoneMarked es mark from from
-none_yet es mark from n low high at = (let none : ⊥ = omega (arith, low, high) in none)
 
 pub none_more : (es : List WorldEntry) (mark : Mark) (from n : ℕ) (e : WorldEntry) → NoneMarked es mark from n → slice_get es n ≡ Some e → (IsMarked mark e → ⊥) → NoneMarked es mark from (n + 1)
 none_more es mark from n e none found unmarked m low high at = elim (compared m n) [
@@ -156,12 +144,6 @@ module _ (es : List WorldEntry) (side : Side) (path : Path) (checked end : ℕ) 
   pub no_check : ((id : TransId) → ¬ IsAt es checked (Issues side path class.Request id)) → (t : Trace) → t.checked ≡ checked → ¬ IsTrace es side path end t
   no_check none t is a = none a.id (subst (λ n. IsAt es n (Issues side path class.Request a.id)) is a.check)
 
-  pub was_cleared : (n : ℕ) → checked ≤ n → n < end → IsAt es n (IsMarked (Cleared side)) → (t : Trace) → t.checked ≡ checked → ¬ IsTrace es side path end t
-  was_cleared n low high at t is a =
-      let (e, found, (side_is, clear)) = at in
-      let none : e.clear ≡ false = a.uncleared n e (omega (arith, is, low)) high found side_is in
-      (let wrong : true ≡ false = sym clear ∙ none in cc)
-
   module _ (id : TransId) (check : IsAt es checked (Issues side path class.Request id)) (none_cleared : NoneMarked es (Cleared side) checked end) where
     kept : (n : ℕ) (e : WorldEntry) → checked ≤ n → n < end → slice_get es n ≡ Some e → e.side ≡ Some side → e.clear ≡ false
     kept n e low high found side_is = elim e.clear as (λ b. e.clear ≡ b → e.clear ≡ false) [
@@ -185,16 +167,6 @@ module _ (es : List WorldEntry) (side : Side) (path : Path) (checked end : ℕ) 
     )
 
 module _ (es : List WorldEntry) (side : Side) (path : Path) (end : ℕ) where
-  pub none_before : (n : ℕ) → ((t : Trace) → t.checked < n → ¬ IsTrace es side path end t) → ((t : Trace) → t.checked ≡ n → ¬ IsTrace es side path end t)
-      → (t : Trace) → t.checked < suc n → ¬ IsTrace es side path end t
-  none_before n before here t less a = elim (compared t.checked n) [
-    | inl below ↦ before t below a
-    | inr rest ↦ elim rest [ inl same ↦ here t same a | inr more ↦ (let wrong : ⊥ = omega (arith, less, more) in wrong) ]
-  ]
-
-  pub none_at_all : (n : ℕ) → end ≤ n → ((t : Trace) → t.checked < n → ¬ IsTrace es side path end t) → (t : Trace) → ¬ IsTrace es side path end t
-  none_at_all n all before t a = (let (ab, bc, cd, de) = a.answered.in_order in before t (omega (arith, all, ab, bc, cd, de)) a)
-
   pub first_of_all : (n : ℕ) (first : Trace) → ((t : Trace) → t.checked < n → ¬ IsTrace es side path end t) → IsFirstFrom (IsTrace es side path end) n (Some first) → IsFirst (IsTrace es side path end) (Some first)
   first_of_all n first before (is, trace, earliest) = (
     trace,

@@ -1,15 +1,11 @@
 -- The headline of two agents that keep the profile `Original`, from the theorems about roles. What mutants/specifications changes is read by
 -- tactics.
-use Rattle.std.proofs.Common.{◌≡◌, ℕ, List, [], ◌∷◌, inr, ap}
-use Rattle.std.specs.List.{AllByRecursion}
-use Rattle.is_candidate.specs.Candidates.{CandidateRecord}
-use Rattle.is_stun.specs.Timing.{is_modern_profile}
-use Rattle.is_stun.specs.declared.timing.Profile.TheVariants.{Original}
 use Rattle.is_rules.specs.Steps as agent
-use Rattle.is.specs.declared.world_events.Side.{Side}
 use Rattle.is.specs.Headline.{LeavesOriginal, IsOriginalWorld, RolesHeadline}
-use Rattle.is.specs.World.{WorldRecord, Event, Call, LoggedEvent, Streams}
-use Rattle.is.specs.WorldRoles.{StaysOriginal, IsFairWorld, GreaterKeeps, LesserSwitchesOnce, RolesDifferOnceMet}
+use Rattle.is.specs.World.{Call}
+use Rattle.is.proofs.Common.{[], ◌∷◌, ◌≡◌, AllByRecursion, ap, CandidateRecord, Event, GreaterKeeps, inr, is_modern_profile, IsFairWorld}
+use Rattle.is.proofs.Common.{LesserSwitchesOnce, List, LoggedEvent, Original, RolesDifferOnceMet, Side, StaysOriginal, Streams, WorldRecord}
+use Rattle.is.proofs.Common.{ℕ}
 
 original_at : {P : Type 0} (side : Side) (event : Event P) → LeavesOriginal side event → StaysOriginal side event
 original_at side (Call s (agent.SetProfile profile)) original = λ is. (

@@ -1,42 +1,26 @@
 -- Roles of two agents, and causal chains of the paths that they select, from executions with external views. What mutants/specifications
 -- changes is read by tactics.
-use Rattle.std.proofs.Common.{◌≡◌, ℕ, zero, suc, ◌<◌, ◌≤◌, Bool, true, false, List, [], ◌∷◌, ◌++◌, map, Option, Some, None, is_some, option_map, ◌⊎◌, inl, inr, refl, ap, sym, ◌∙◌, subst, not, arith}
-use Rattle.std.specs.Prelude.{◌≢◌, ◌&&◌, slice_get}
-use Rattle.std.specs.List.{AllByRecursion}
-use Rattle.is_proto.specs.declared.error.ParseFault.{ParseFault}
-use Rattle.is_candidate.specs.Candidates.{CandidateRecord}
-use Rattle.is_stun.specs.declared.header.Class.{Class}
 use Rattle.is_stun.specs.declared.header.Class.TheVariants as class
-use Rattle.is_stun.specs.Message.{Message}
-use Rattle.is_stun.specs.Reading.{fault_of, message_of}
-use Rattle.is_stun.specs.Timing.{is_modern}
 use Rattle.is_rules.specs.declared.credentials.IceCreds.{IceCreds}
-use Rattle.is_rules.specs.declared.emitted.Issued.{Issued}
-use Rattle.is_rules.specs.declared.emitted.Path.{Path}
 use Rattle.is_rules.specs.Places.{local_place}
-use Rattle.is_rules.specs.Request.{RequestRecord, request_in}
-use Rattle.is_rules.specs.Roles.{keeps_role}
-use Rattle.is_rules.specs.Steps.{Entry}
-use Rattle.is_theorems.specs.RoleState.{Sent, IsNewRoleState}
-use Rattle.is_rules.specs.Agent.{AgentRecord}
-use Rattle.is_rules.specs.Answers.{is_role_conflict}
-use Rattle.is_rules.specs.Queue.{request_at}
 use Rattle.is_rules.specs.Steps as agent
-use Rattle.is_rules.specs.Sound.{IsSound, FreshIsSound}
-use Rattle.is_rules.specs.Brought.{Brings, IsServing, IsServedPastTests}
-use Rattle.is_rules.specs.Emitted.{issued_as}
-use Rattle.is_rules.specs.Effects.{PathTheorem}
-use Rattle.is_theorems.specs.RoleView.{mail_of, mail_unless, mail_read, role_state_of, when_accepted, when_done, request_when, sent_as, accepted_by, served_by, role_event_of, RoleTheorem}
-use Rattle.is.specs.declared.world_events.Side.{Side}
-use Rattle.is.specs.declared.world_events.Side.TheVariants.{A, B}
 use Rattle.is.specs.World as world
-use Rattle.is.specs.World.{WorldRecord, LoggedEvent, other, Streams}
-use Rattle.is.specs.WorldRoles.{IsNewAgent, HaveDistinctIds, IsNewWorld, IsFairWorld, IsNeverLite, StaysFull, ComparesTies, role_at, role_in, changes, GreaterKeeps, LesserSwitchesOnce, Makes, Point, RolesDifferOnceMet}
+use Rattle.is.specs.WorldRoles.{Point}
+use Rattle.is.proofs.Common.{[], ◌&&◌, ◌++◌, ◌<◌, ◌∙◌, ◌∷◌, ◌≡◌, ◌≢◌, ◌≤◌, ◌⊎◌, A, accepted_by, AgentRecord, AllByRecursion, ap, arith, B}
+use Rattle.is.proofs.Common.{Bool, Brings, CandidateRecord, changes, Class, ComparesTies, Entry, false, fault_of, FreshIsSound}
+use Rattle.is.proofs.Common.{GreaterKeeps, HaveDistinctIds, inl, inr, is_modern, is_role_conflict, is_some, IsFairWorld, IsNeverLite}
+use Rattle.is.proofs.Common.{IsNewAgent, IsNewRoleState, IsNewWorld, IsServedPastTests, IsServing, IsSound, Issued, issued_as, keeps_role}
+use Rattle.is.proofs.Common.{LesserSwitchesOnce, List, LoggedEvent, mail_of, mail_read, mail_unless, Makes, map, Message, message_of, None}
+use Rattle.is.proofs.Common.{not, Option, option_map, other, ParseFault, Path, PathTheorem, refl, request_at, request_in, request_when}
+use Rattle.is.proofs.Common.{RequestRecord, role_at, role_event_of, role_in, role_state_of, RolesDifferOnceMet, RoleTheorem, Sent, sent_as}
+use Rattle.is.proofs.Common.{served_by, Side, slice_get, Some, StaysFull, Streams, subst, suc, sym, true, when_accepted, when_done}
+use Rattle.is.proofs.Common.{WorldRecord, zero, ℕ}
 use Rattle.is.proofs.ExternalViews.NetworkModel as seen
-use Rattle.is.proofs.ExternalViews.NetworkModel.{Seen, Emitted, Kind, Move, Happening, Compares, AllCompare, emitted_of, roles_along, NeverLite}
+use Rattle.is.proofs.ExternalViews.NetworkModel.{Emitted, Kind, Move, Happening, Compares, AllCompare, emitted_of, roles_along, NeverLite}
 use Rattle.is.proofs.ExternalViews.PreservedByEvents as runs
 use Rattle.is.proofs.ExternalViews.ViewsOfExecutions as views
-use Rattle.is.proofs.ExternalViews.ViewsOfExecutions.{seen_of, in_flight_as, roles_as, emitted_at, AreSound, Leaves, BothCompare, follow, event, none_keeps, compares_on}
+use Rattle.is.proofs.ExternalViews.ViewsOfExecutions.{seen_of, in_flight_as, roles_as, emitted_at, AreSound, Leaves, BothCompare, follow}
+use Rattle.is.proofs.ExternalViews.ViewsOfExecutions.{event, none_keeps, compares_on}
 
 -- ---- entries, as they are seen
 

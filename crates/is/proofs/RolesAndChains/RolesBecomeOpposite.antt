@@ -1,31 +1,14 @@
 -- One delivered check, and its 487 if there is one, make roles opposite. The preconditions that mutants/specifications changes
 -- are read by tactics where they are used: if one of them is weaker, that goal stays unproved.
-use Rattle.std.proofs.Common.{◌≡◌, ◌⊎◌, ℕ, suc, ◌<◌, Bool, true, false, not, List, [], ◌∷◌, ◌++◌, map, inl, inr, refl, ap, sym, ◌∙◌, subst, arith, append_assoc, append-nil}
-use Rattle.std.specs.Prelude.{◌≢◌}
-use Rattle.is_proto.specs.Lists.{Has}
-use Rattle.is_proto.specs.Packets.{Packet}
-use Rattle.is_candidate.specs.Candidates.{CandidateRecord}
-use Rattle.is_stun.specs.declared.header.Class.TheVariants.{Failure}
-use Rattle.is_rules.specs.declared.emitted.Path.{Path}
-use Rattle.is_theorems.specs.AskedExecutions.{EndsAlong}
-use Rattle.is_rules.specs.Brought.{IsRejectedBy}
-use Rattle.is_theorems.specs.Carried.{IsConflictCarried, CarriedSettle}
 use Rattle.is_theorems.specs.Conflicts.{AreSentUnder, ServesPastTests, handing}
-use Rattle.is_theorems.specs.Delivery.{Sends}
-use Rattle.is_rules.specs.Effects.{PathTheorem}
-use Rattle.is_rules.specs.Issuing.{via_out}
-use Rattle.is_theorems.specs.RoleView.{RoleTheorem}
-use Rattle.is_rules.specs.Sound.{FreshIsSound}
 use Rattle.is_rules.specs.Steps as agent
-use Rattle.is.specs.declared.world_events.Side.{Side}
-use Rattle.is.specs.declared.world_events.Side.TheVariants.{A, B}
-use Rattle.is.specs.Deliveries.{Hands}
-use Rattle.is.specs.AcceptedNominationsIn.{Occurrence, HandedCheck, IsReturned, IsReturnedInTime, occurrences_in}
 use Rattle.is.specs.Connects.{AgreeOnRoles}
 use Rattle.is.specs.Meetings.{AreOpposite, StayOpposite, RolesMeet}
-use Rattle.is.specs.Selections.{state_after}
-use Rattle.is.specs.World.{WorldRecord, Event, LoggedEvent, Happens, WorldRun, at, other, Streams}
-use Rattle.is.specs.WorldRoles.{IsFairWorld, Makes, Meets, role_in}
+use Rattle.is.proofs.Common.{[], ◌++◌, ◌<◌, ◌∙◌, ◌∷◌, ◌≡◌, ◌≢◌, ◌⊎◌, A, ap, append-nil, append_assoc, arith, at, B, Bool, CandidateRecord}
+use Rattle.is.proofs.Common.{CarriedResolve, EndsAlong, Event, Failure, false, FreshIsSound, HandedCheck, Hands, Happens, Has, inl, inr}
+use Rattle.is.proofs.Common.{IsConflictCarried, IsFairWorld, IsRejectedBy, IsReturned, IsReturnedInTime, keeps_role, List, LoggedEvent}
+use Rattle.is.proofs.Common.{Makes, map, Meets, not, Occurrence, occurrences_in, other, Packet, Path, PathTheorem, refl, role_in}
+use Rattle.is.proofs.Common.{RoleTheorem, Sends, Side, state_after, Streams, subst, suc, sym, true, via_out, WorldRecord, WorldRun, ℕ}
 use Rattle.is.proofs.TwoAgentEvents.DeliveredPackets.{rewritten}
 use Rattle.is.proofs.TwoAgentEvents.EventsOfSegments.{Follow, follows, cut, state_is, meet, own, Checked, checked, Awaited, awaits, removed}
 use Rattle.is.proofs.TwoAgentEvents.ExchangedChecks.{sent-check, carried-check, carried-back}
@@ -35,8 +18,8 @@ use Rattle.is.proofs.ExternalViews.NetworkModel as seen
 use Rattle.is.proofs.ExternalViews.NetworkModel.{Seen, Happening, Compares, AllCompare, emitted_of}
 use Rattle.is.proofs.ExternalViews.ImpliedByTheLog.{sides}
 use Rattle.is.proofs.ExternalViews.PreservedByEvents.{reaches, event_apart}
-use Rattle.is.proofs.RolesAndChains.RolesAndChainsOfViews.{LeaveAll, how_of, leaves_all, preconditions_seen, sound_first, role_of, met_seen, map-append, compares_first}
-use Rattle.is_rules.specs.Roles.{keeps_role}
+use Rattle.is.proofs.RolesAndChains.RolesAndChainsOfViews.{LeaveAll, how_of, leaves_all, preconditions_seen, sound_first, role_of, met_seen}
+use Rattle.is.proofs.RolesAndChains.RolesAndChainsOfViews.{map-append, compares_first}
 
 run_on : (first mid last : Seen) (log : List Happening) (x : Happening) → seen.Run first log mid → seen.Happens mid x.kind x.emitted last → seen.Run first (log ++ x ∷ []) last
 run_on first mid last [] x is happens = (last, subst (λ (v : Seen). seen.Happens v x.kind x.emitted last) is happens, refl)
@@ -196,7 +179,7 @@ module _ {H P : Type 0} where
 
       -- ---- the check of a side, and its 487
 
-      module _ (resolves : CarriedSettle {H = H} {P = P} mac answers) (side : Side) (path over : Path) (part : List (Occurrence H P)) (left : List (LoggedEvent P)) (last : WorldRecord H P)
+      module _ (resolves : CarriedResolve {H = H} {P = P} mac answers) (side : Side) (path over : Path) (part : List (Occurrence H P)) (left : List (LoggedEvent P)) (last : WorldRecord H P)
           (less : (at (other greater) first).tie_breaker < (at greater first).tie_breaker) (from : Comes first (entries part ++ left)) (follow : Follow mac answers first part last)
           (k : HandedCheck mac side path over part) (c : Checked mac answers side path over part last k) where
         abbrev handed : Occurrence H P
@@ -321,7 +304,7 @@ module _ {H P : Type 0} where
               (λ k_x s t happens. apart_on start k.sent.following s t k.sent.entry (entries k.following ++ left) k_x happens (apart_if greater start apart))
 
 module _ {H P : Type 0} (mac : H → List ℕ → List ℕ → List ℕ) (answers : P → CandidateRecord → ℕ → ℕ → Type 0) (paths : PathTheorem {H = H} {P = P} mac answers) (roles : RoleTheorem {H = H} {P = P} mac answers)
-    (new_sound : FreshIsSound H P) (resolves : CarriedSettle {H = H} {P = P} mac answers) where
+    (new_sound : FreshIsSound H P) (resolves : CarriedResolve {H = H} {P = P} mac answers) where
   entries_in : (w last : WorldRecord H P) (s t : Streams) (n : ℕ) (log : List (LoggedEvent P)) → (run : WorldRun mac answers w s n log last t) → entries (occurrences_in mac answers w s n log last t run) ≡ log
   entries_in w last s t n [] run = refl
   entries_in w last s t n (x ∷ rest) (mid, u, number, happens, run) = ap (λ (l : List (LoggedEvent P)). x ∷ l) (entries_in mid last u t (suc n) rest run)

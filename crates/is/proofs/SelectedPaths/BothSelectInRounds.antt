@@ -1,48 +1,26 @@
 -- Both of two agents select a path in rounds in which the network delivers. The preconditions that mutants/specifications
 -- changes are read by tactics.
-use Rattle.std.proofs.Common.{◌≡◌, ℕ, suc, ◌+◌, ◌<◌, ◌≤◌, Bool, true, false, List, [], ◌∷◌, ◌++◌, ◌&&◌, cond, length, Option, Some, None, inl, inr, ◌⊎◌, refl, ap, sym, ◌∙◌, subst, arith, if◌then◌else◌}
-use Rattle.std.specs.Prelude.{slice_get}
-use Rattle.std.proofs.lemmas.List.Sums.{sum_by-append, sum_by-cons}
-use Rattle.is_proto.specs.Lists.{Has}
-use Rattle.is_proto.specs.Packets.{Packet}
-use Rattle.is_candidate.specs.Candidates.{CandidateRecord}
-use Rattle.is_pair.specs.Pairs.{PairRecord}
-use Rattle.is_rules.specs.declared.emitted.Path.{Path}
-use Rattle.is_rules.specs.Agent.{AgentRecord, fresh}
-use Rattle.is_theorems.specs.Asked.{IsOnlyPair}
-use Rattle.is_theorems.specs.AskedExecutions.{AcceptsSuccessOn, IsAnsweredAlong, AcceptedNominationsAreSelected}
-use Rattle.is_theorems.specs.Carried.{CarriedAsk, CarriedSucceedLater}
-use Rattle.is_candidate.specs.Addresses.{same_address}
-use Rattle.is_rules.specs.Emitted.{reversed}
-use Rattle.is_theorems.specs.Executions.{AcceptsSuccess, ExecutionRound}
-use Rattle.is_theorems.specs.Progress.{Awaits, IsUnanswered}
 use Rattle.is_theorems.proofs.BasicLemmas.EqualAddresses.{same_address-same}
-use Rattle.is_rules.specs.Effects.{PathTheorem}
-use Rattle.is_rules.specs.Queue.{request_at}
-use Rattle.is_theorems.specs.Exchange.{AreBetween, Execution}
-use Rattle.is_theorems.specs.Reached.{IsInLine, IsLasting, nominations_ahead, selects}
-use Rattle.is_theorems.specs.ReachedExecutions.{IsPassed, PassRounds, selections_among}
-use Rattle.is_rules.specs.Sending.{path_of}
-use Rattle.is_theorems.specs.FirstChecks.{times_of}
-use Rattle.is_theorems.specs.FirstTimeouts.{ExecutionsReachUnanswered, AreInRound, IsOpenRound, IsReached, EndsAmong, RoundsSuffice, Suffices, ExecutionsReachFromDue}
-use Rattle.is_theorems.specs.ServedSoon.{ExecutionsReachServed, IsOvertakenAmong, ServedExecutionsReach, SufficesForServed}
-use Rattle.is_rules.specs.Sound.{FreshIsSound}
 use Rattle.is_rules.specs.Steps as agent
-use Rattle.is_rules.specs.Steps.{Answer, Entry, Done, Rejected, quiet, Step}
-use Rattle.is.specs.declared.world_events.Side.{Side}
-use Rattle.is.specs.Connections.{AsksInRounds, HasRounds, IsAnsweredInRounds, ServedRoundsReach, SideRoundsReach, Succeeds, BothConnect, selections_of}
-use Rattle.is.specs.AcceptedNominationsIn.{is_of, Occurrence, IsAskedOver, IsExchangedOver, occurrences_in}
-use Rattle.is.specs.Deliveries.{MakesPolls}
-use Rattle.is.specs.Selections.{SideRound, all_of, begins_modern, times_in, state_after, IsKept, AreKept, MayEndInRounds, OvertakeIn, ServedRoundsSuffice, SideRoundsSuffice, AreEachPolled, RoundChecks}
-use Rattle.is.specs.Sides.{only, polled_as, received_as, acts}
-use Rattle.rand_core.specs.Stream.{Stream}
 use Rattle.is.specs.World as world
-use Rattle.is.specs.AcceptedNominations.{IsControlledSegment, MayEndIn, SelectsTop}
-use Rattle.is.specs.World.{WorldRecord, WorldRun, InFlightRecord, Event, LoggedEvent, Happens, at, other, in_world, Streams, source_of, TakesTurn}
-use Rattle.is.specs.WorldRoles.{IsNewAgent}
+use Rattle.is.proofs.Common.{[], ◌&&◌, ◌++◌, ◌+◌, ◌<◌, ◌∙◌, ◌∷◌, ◌≡◌, ◌≤◌, ◌⊎◌, AcceptedNominationsAreSelected, AcceptsSuccess}
+use Rattle.is.proofs.Common.{AcceptsSuccessOn, acts, AgentRecord, all_of, Answer, ap, AreBetween, AreEachPolled, AreInRound, AreKept, arith}
+use Rattle.is.proofs.Common.{AsksInRounds, at, Awaits, begins_modern, Bool, BothConnect, CandidateRecord, CarriedAsk, CarriedSucceedLater}
+use Rattle.is.proofs.Common.{cond, Done, EndsAmong, Entry, Event, Execution, ExecutionRound, ExecutionsReachFromDue, ExecutionsReachServed}
+use Rattle.is.proofs.Common.{ExecutionsReachUnanswered, false, fresh, FreshIsSound, Happens, Has, HasRounds, if◌then◌else◌, in_world}
+use Rattle.is.proofs.Common.{InFlightRecord, inl, inr, is_of, IsAnsweredAlong, IsAnsweredInRounds, IsAskedOver, IsControlledSegment}
+use Rattle.is.proofs.Common.{IsExchangedOver, IsInLine, IsKept, IsLasting, IsNewAgent, IsOnlyPair, IsOpenRound, IsOvertakenAmong, IsPassed}
+use Rattle.is.proofs.Common.{IsReached, IsUnanswered, length, List, LoggedEvent, MakesPolls, MayEndIn, MayEndInRounds, nominations_ahead}
+use Rattle.is.proofs.Common.{None, Occurrence, occurrences_in, only, Option, other, OvertakeIn, Packet, PairRecord, PassRounds, Path}
+use Rattle.is.proofs.Common.{path_of, PathTheorem, polled_as, quiet, received_as, refl, Rejected, request_at, reversed, RoundChecks}
+use Rattle.is.proofs.Common.{RoundsSuffice, same_address, selections_among, selections_of, selects, SelectsTop, ServedExecutionsReach}
+use Rattle.is.proofs.Common.{ServedRoundsReach, ServedRoundsSuffice, Side, SideRound, SideRoundsReach, SideRoundsSuffice, slice_get, Some}
+use Rattle.is.proofs.Common.{source_of, state_after, Step, Stream, Streams, subst, suc, Succeeds, Suffices, SufficesForServed}
+use Rattle.is.proofs.Common.{sum_by-append, sum_by-cons, sym, TakesTurn, times_in, times_of, true, WorldRecord, WorldRun, ℕ}
 use Rattle.is.proofs.ExternalViews.ViewsOfExecutions.{Has-front, Has-rear, AreSound}
 use Rattle.is.proofs.TwoAgentEvents.OwnExecutions.{only_own, execution_on, turn_step}
-use Rattle.is.proofs.TwoAgentEvents.EventsOfSegments.{Follow, follows, cut, state_is, meet, acts_at, own, own_execution, own_from, own_between, own_in_round, own_has, owned, Found}
+use Rattle.is.proofs.TwoAgentEvents.EventsOfSegments.{Follow, follows, cut, state_is, meet, acts_at, own, own_execution, own_from}
+use Rattle.is.proofs.TwoAgentEvents.EventsOfSegments.{own_between, own_in_round, own_has, owned, Found}
 use Rattle.is.proofs.TwoAgentEvents.SelectionsOfSegments.{ahead-fewer, chosen-along, is-own, one-counted, suffice-fewer}
 use Rattle.is.proofs.SelectedPaths.SelectedAfterNomination.{apart_at, answered, selected_where}
 
@@ -255,7 +233,7 @@ module _ {H P : Type 0} (mac : H → List ℕ → List ℕ → List ℕ) (answer
         both_hold true b one two = two
         both_hold false b one two = cc
 
-  -- the same if no pair is valid, unless a success response is accepted
+  -- The path of a pair is reached in the rounds while no pair is valid, unless a success response is accepted.
   pub reached_unanswered : ExecutionsReachUnanswered {H = H} {P = P} mac answers → ExecutionsReachServed {H = H} {P = P} mac answers → (side : Side) (first last : WorldRecord H P) (s : Streams) (xs : List (agent.Call P × Entry)) (r : SideRound H P) (later : List (SideRound H P)) (p : PairRecord) (by : ℕ)
       → IsNewAgent (at side first) → Execution mac answers xs (at side first) (at side r.timeout.before) → Follow mac answers r.timeout.before (all_of (r ∷ later)) last
       → (at side r.timeout.before).controlling ≡ true → Awaits r.now by (at side r.timeout.before) p → IsUnanswered (at side r.timeout.before) p → AreKept side by r later

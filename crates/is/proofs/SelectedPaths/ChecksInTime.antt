@@ -1,36 +1,19 @@
 -- A side of two agents checks a path in time, if its caller is punctual. What mutants/specifications changes is read by tactics.
-use Rattle.std.proofs.Common.{◌≡◌, ℕ, ◌+◌, ◌*◌, ◌≤◌, Bool, true, false, List, [], ◌∷◌, ◌++◌, length, Option, Some, None, inl, inr, ◌⊎◌, refl, ap, sym, ◌∙◌, subst, arith, if◌then◌else◌}
-use Rattle.std.specs.Prelude.{slice_get}
-use Rattle.is_proto.specs.Lists.{Has}
-use Rattle.is_proto.specs.Packets.{Packet}
-use Rattle.is_candidate.specs.Candidates.{CandidateRecord}
-use Rattle.is_pair.specs.Pairs.{PairRecord}
-use Rattle.is_rules.specs.declared.emitted.Path.{Path}
-use Rattle.is_rules.specs.Agent.{AgentRecord, fresh}
-use Rattle.is_rules.specs.Sending.{path_of}
 use Rattle.is_rules.specs.Steps as agent
-use Rattle.is_rules.specs.Steps.{Answer, Entry, Rejected, quiet}
-use Rattle.is_theorems.specs.AskedExecutions.{IsAnsweredAlong}
-use Rattle.is_theorems.specs.Executions.{ExecutionRound}
-use Rattle.is_theorems.specs.Exchange.{Execution}
 use Rattle.is_theorems.specs.InTime as law
 use Rattle.is_theorems.specs.InTime.{ExecutionsReachInTime}
-use Rattle.is_theorems.specs.Reached.{IsInLine, IsLasting, selects}
-use Rattle.is_theorems.specs.ReachedExecutions.{PassRounds}
-use Rattle.is_theorems.specs.ServedSoon.{ServedExecutionsReachInTime}
-use Rattle.is.specs.declared.world_events.Side.{Side}
-use Rattle.is.specs.declared.world_events.Side.TheVariants.{A, B}
-use Rattle.is.specs.AcceptedNominationsIn.{Occurrence}
-use Rattle.is.specs.Connections.{ServedRoundsReach, SideRoundsReach, Succeeds}
-use Rattle.is.specs.Punctual.{IsPrompt, IsPunctual, IsTimed, ChecksBy, ChecksComeInTime}
-use Rattle.is.specs.Selections.{SideRound, all_of, begins_modern, state_after, IsKept, AreKept, MayEndInRounds, OvertakeIn}
-use Rattle.is.specs.Sides.{only, polled_as, received_as, acts}
 use Rattle.is.specs.World as world
-use Rattle.is.specs.World.{WorldRecord, InFlightRecord, Event, LoggedEvent, at, other, in_world, Streams, source_of}
-use Rattle.is.specs.WorldRoles.{IsNewAgent}
+use Rattle.is.proofs.Common.{[], ◌*◌, ◌++◌, ◌+◌, ◌∙◌, ◌∷◌, ◌≡◌, ◌≤◌, ◌⊎◌, A, acts, AgentRecord, all_of, Answer, ap, AreKept, arith, at, B}
+use Rattle.is.proofs.Common.{begins_modern, Bool, CandidateRecord, ChecksBy, ChecksComeInTime, Entry, Event, Execution, ExecutionRound}
+use Rattle.is.proofs.Common.{false, fresh, Has, if◌then◌else◌, in_world, InFlightRecord, inl, inr, IsAnsweredAlong, IsInLine, IsKept}
+use Rattle.is.proofs.Common.{IsLasting, IsNewAgent, IsPrompt, IsPunctual, IsTimed, length, List, LoggedEvent, MayEndInRounds, None}
+use Rattle.is.proofs.Common.{Occurrence, only, Option, other, OvertakeIn, Packet, PairRecord, PassRounds, Path, path_of, polled_as, quiet}
+use Rattle.is.proofs.Common.{received_as, refl, Rejected, selects, ServedExecutionsReachInTime, ServedRoundsReach, Side, SideRound}
+use Rattle.is.proofs.Common.{SideRoundsReach, slice_get, Some, source_of, state_after, Streams, subst, Succeeds, sym, true, WorldRecord, ℕ}
 use Rattle.is.proofs.TwoAgentEvents.OwnExecutions.{only_own, execution_on}
 use Rattle.is.proofs.TwoAgentEvents.EventsOfSegments.{Follow, follows, cut, state_is, acts_at, own, own_execution, own_from, own_has, owned}
-use Rattle.is.proofs.SelectedPaths.BothSelectInRounds.{round_of, rounds_of, as_many, moved, passes, each_round, is_open, are_all_open, are_open, back, lasts_all, overtakes_all, rounds_suffice, succeeds_in}
+use Rattle.is.proofs.SelectedPaths.BothSelectInRounds.{round_of, rounds_of, as_many, moved, passes, each_round, is_open, are_all_open}
+use Rattle.is.proofs.SelectedPaths.BothSelectInRounds.{are_open, back, lasts_all, overtakes_all, rounds_suffice, succeeds_in}
 
 module _ {H P : Type 0} (mac : H → List ℕ → List ℕ → List ℕ) (answers : P → CandidateRecord → ℕ → ℕ → Type 0) where
   -- ---- what a punctual caller does

@@ -1,46 +1,26 @@
 -- Two agents with renomination: the path that the controlling one nominated last is the one that both selected last. The
 -- preconditions that mutants/specifications changes are read by tactics where they are used: if one of them is weaker, that goal stays unproved.
-use Rattle.std.proofs.Common.{◌≡◌, ℕ, Bool, true, false, List, [], ◌∷◌, ◌++◌, Option, Some, None, inl, inr, ◌⊎◌, refl, ap, sym, ◌∙◌, subst, append_assoc, if◌then◌else◌, ◌||◌, is_some}
-use Rattle.std.specs.Prelude.{MatchBool, slice_get}
-use Rattle.is_proto.specs.Lists.{Has}
-use Rattle.is_proto.specs.Packets.{Packet}
-use Rattle.is_candidate.specs.Candidates.{CandidateRecord}
-use Rattle.is_stun.specs.declared.header.Class.TheVariants.{Success}
-use Rattle.is_stun.specs.Message.{Message}
-use Rattle.is_rules.specs.declared.emitted.Issued.{Issued}
-use Rattle.is_rules.specs.declared.emitted.Path.{Path}
-use Rattle.is_rules.specs.Agent.{AgentRecord}
-use Rattle.is_theorems.specs.Asked.{IsOnlyPair}
-use Rattle.is_theorems.specs.AskedExecutions.{selected_along, EndsAlong, IsAnsweredAlong}
-use Rattle.is_theorems.specs.Asking.{AreNominatedOn, AcceptsNomination}
-use Rattle.is_rules.specs.Brought.{IsNominatedOn, IsServing}
-use Rattle.is_theorems.specs.Carried.{CarriedAsk, CarriedSucceedLater}
-use Rattle.is_rules.specs.Effects.{PathEffect, PathTheorem}
-use Rattle.is_rules.specs.Emitted.{issued_as, reversed}
-use Rattle.is_theorems.specs.Exchange.{Execution}
-use Rattle.is_rules.specs.Queue.{request_at}
-use Rattle.is_rules.specs.Request.{RequestRecord}
-use Rattle.is_rules.specs.Sound.{FreshIsSound}
 use Rattle.is_rules.specs.Steps as agent
-use Rattle.is_rules.specs.Steps.{Answer, Done, Entry, Rejected}
 use Rattle.is_theorems.specs.Numbered.{GreatestAreLast, LeadsByNumber}
-use Rattle.is_theorems.specs.RenominatingExecutions.{AcceptsNominationLastAlong, AcceptsNominationOnlyAlong, LastAcceptedNominationsAreLast, NominatedAreLast}
-use Rattle.is.specs.declared.world_events.Side.{Side}
-use Rattle.is.specs.declared.world_events.Side.TheVariants.{A, B}
-use Rattle.is.specs.AcceptedNominationsIn.{Occurrence, HandedCheck, IsControlled, IsExchangedOver}
-use Rattle.is.specs.Renominations.{IsSelectedLast, KeepsSelected, LeadingPathIsSelected, NominatesNoOther, OnePathIsSelected}
-use Rattle.is.specs.Sides.{only, polled_as, received_as, acts}
 use Rattle.is.specs.World as world
-use Rattle.is.specs.World.{WorldRecord, InFlightRecord, Event, LoggedEvent, TakesTurn, Persists, Happens, at, other, in_world, Streams, source_of}
-use Rattle.is.specs.WorldRoles.{IsNewAgent}
+use Rattle.is.proofs.Common.{[], ◌++◌, ◌||◌, ◌∙◌, ◌∷◌, ◌≡◌, ◌⊎◌, A, AcceptsNomination, AcceptsNominationLastAlong}
+use Rattle.is.proofs.Common.{AcceptsNominationOnlyAlong, acts, AgentRecord, Answer, ap, append_assoc, AreNominatedOn, at, B, Bool}
+use Rattle.is.proofs.Common.{CandidateRecord, CarriedAsk, CarriedSucceedLater, Done, EndsAlong, Entry, Event, Execution, false}
+use Rattle.is.proofs.Common.{FreshIsSound, HandedCheck, Happens, Has, if◌then◌else◌, in_world, InFlightRecord, inl, inr, is_some}
+use Rattle.is.proofs.Common.{IsAnsweredAlong, IsControlled, IsExchangedOver, IsNewAgent, IsNominatedOn, IsOnlyPair, IsSelectedLast}
+use Rattle.is.proofs.Common.{IsServing, Issued, issued_as, KeepsSelected, LastAcceptedNominationsAreLast, LeadingPathIsSelected, List}
+use Rattle.is.proofs.Common.{LoggedEvent, MatchBool, Message, NominatedAreLast, NominatesNoOther, None, numbers, Occurrence}
+use Rattle.is.proofs.Common.{OnePathIsSelected, only, Option, other, Packet, Path, PathEffect, PathTheorem, Persists, polled_as}
+use Rattle.is.proofs.Common.{received_as, refl, Rejected, request_at, RequestRecord, reversed, selected_along, Side, slice_get, Some}
+use Rattle.is.proofs.Common.{source_of, Streams, subst, Success, sym, TakesTurn, true, WorldRecord, ℕ}
 use Rattle.is.proofs.ExternalViews.ViewsOfExecutions.{Has-front, AreSound}
 use Rattle.is.proofs.RolesAndChains.RolesAndChainsOfViews.{sound_new}
 use Rattle.is.proofs.TwoAgentEvents.OwnExecutions.{only_own, sound_on, turn_step, twice}
-use Rattle.is.proofs.TwoAgentEvents.EventsOfSegments.{middle, Follow, follows, cut, meet, sound_along, acts_at, own, own_execution, handed_is, checked, sent_in, following_in, Found, Owned, act_owned}
+use Rattle.is.proofs.TwoAgentEvents.EventsOfSegments.{middle, Follow, follows, cut, meet, sound_along, acts_at, own, own_execution}
+use Rattle.is.proofs.TwoAgentEvents.EventsOfSegments.{handed_is, checked, sent_in, following_in, Found, Owned, act_owned}
 use Rattle.is.proofs.SelectedPaths.SelectedAfterNomination.{answered, apart_at, accepts_nomination, role_next}
 use Rattle.is.proofs.TwoAgentEvents.OwnLogs.{AtMostOne, acts_once}
 use Rattle.is.proofs.SelectedPaths.LastSelected.{called_not, nominated_selected, selected_call, selected_parts}
-use Rattle.is_rules.specs.Nominating.{numbers}
 use Rattle.is_rules.specs.Serving.{nominates as asks_of}
 use Rattle.is_theorems.proofs.BasicLemmas.ServedPairs.{taken-asks}
 

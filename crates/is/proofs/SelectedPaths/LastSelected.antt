@@ -1,29 +1,14 @@
 -- What a side selected last, by its own log: that of the controlling side is what it nominated last. The preconditions that
 -- mutants/specifications changes are read by tactics where they are used: if one of them is weaker, that goal stays unproved.
-use Rattle.std.proofs.Common.{◌≡◌, ℕ, Bool, true, false, List, [], ◌∷◌, ◌++◌, Option, Some, None, inl, inr, map, refl, ap, sym, ◌∙◌, subst, append_assoc, if◌then◌else◌}
-use Rattle.std.specs.Prelude.{MatchBool, slice_get}
-use Rattle.std.specs.Option.{option_or}
-use Rattle.is_proto.specs.Lists.{Has}
-use Rattle.is_proto.specs.Packets.{Packet}
-use Rattle.is_candidate.specs.Candidates.{CandidateRecord}
-use Rattle.is_rules.specs.declared.emitted.Path.{Path}
-use Rattle.is_theorems.specs.AskedExecutions.{selected_along}
-use Rattle.is_theorems.specs.Asking.{AreNominatedOn}
-use Rattle.is_rules.specs.Effects.{PathTheorem, clears, last_of}
-use Rattle.is_rules.specs.Issuing.{via_out}
 use Rattle.is_theorems.specs.Logs as agent_log
-use Rattle.is_theorems.specs.Logs.{last_selected}
 use Rattle.is_rules.specs.Steps as agent
-use Rattle.is_rules.specs.Steps.{Answer, Entry, Rejected}
-use Rattle.is_theorems.specs.RenominatingExecutions.{NominatedAreLast}
-use Rattle.is.specs.declared.world_events.Side.{Side}
-use Rattle.is.specs.declared.world_events.Side.TheVariants.{A, B}
-use Rattle.is.specs.AcceptedNominationsIn.{Occurrence, HandedCheck}
-use Rattle.is.specs.Renominations.{KeepsSelected}
-use Rattle.is.specs.Sides.{only, own_at, own_log, polled_as, received_as, acts}
 use Rattle.is.specs.World as world
-use Rattle.is.specs.World.{WorldRecord, InFlightRecord, Event, Outcome, TakesTurn, Persists, Happens, at, other, in_world, Streams}
-use Rattle.is.specs.WorldRoles.{IsNewAgent}
+use Rattle.is.proofs.Common.{[], ◌++◌, ◌∙◌, ◌∷◌, ◌≡◌, A, acts, Answer, ap, append_assoc, AreNominatedOn, at, B, Bool, CandidateRecord}
+use Rattle.is.proofs.Common.{clears, Entry, Event, false, HandedCheck, Happens, Has, if◌then◌else◌, in_world, InFlightRecord, inl, inr}
+use Rattle.is.proofs.Common.{IsNewAgent, KeepsSelected, last_of, last_selected, List, map, MatchBool, NominatedAreLast, None, Occurrence}
+use Rattle.is.proofs.Common.{only, Option, option_or, other, Outcome, own_at, own_log, Packet, Path, PathTheorem, Persists, polled_as}
+use Rattle.is.proofs.Common.{received_as, refl, Rejected, selected_along, Side, slice_get, Some, Streams, subst, sym, TakesTurn, true}
+use Rattle.is.proofs.Common.{via_out, WorldRecord, ℕ}
 use Rattle.is.proofs.ExternalViews.ViewsOfExecutions.{AreSound}
 use Rattle.is.proofs.TwoAgentEvents.OwnExecutions.{execution_on, only_none}
 use Rattle.is.proofs.TwoAgentEvents.EventsOfSegments.{Follow, meet, acts_at, own, own_execution, checked}

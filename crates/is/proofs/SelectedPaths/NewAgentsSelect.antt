@@ -1,27 +1,14 @@
 -- Both of two new agents select a path. The preconditions that mutants/specifications changes are read by tactics.
-use Rattle.std.proofs.Common.{◌≡◌, ℕ, true, false, List, [], ◌∷◌, ◌++◌, inl, inr, ◌⊎◌, refl, ap, sym, ◌∙◌, subst, append_assoc}
-use Rattle.is_proto.specs.Lists.{Has}
-use Rattle.is_candidate.specs.Candidates.{CandidateRecord}
-use Rattle.is_stun.specs.declared.header.Class.TheVariants.{Success}
-use Rattle.is_rules.specs.declared.emitted.Path.{Path}
-use Rattle.is_theorems.specs.Asking.{AreNominatedOn}
-use Rattle.is_theorems.specs.AskedExecutions.{AcceptedNominationsAreSelected, SuccessesSelect}
-use Rattle.is_theorems.specs.Carried.{CarriedAsk, CarriedSucceedLater, CarriedSettle}
-use Rattle.is_rules.specs.Effects.{PathTheorem}
-use Rattle.is_rules.specs.Emitted.{reversed}
-use Rattle.is_theorems.specs.RoleView.{RoleTheorem}
-use Rattle.is_theorems.specs.ServedSoon.{ExecutionsReachServed, ServedExecutionsReach}
-use Rattle.is_rules.specs.Sending.{path_of}
-use Rattle.is_rules.specs.Sound.{FreshIsSound}
-use Rattle.is_theorems.specs.FirstChecks.{ExecutionsCheckFromDue}
-use Rattle.is_theorems.specs.FirstTimeouts.{ExecutionsReachFromDue, ExecutionsReachUnanswered}
-use Rattle.is.specs.declared.world_events.Side.{Side}
-use Rattle.is.specs.Connections.{Asks, AsksInRounds, IsAnsweredInRounds, RoundIsAnswered}
-use Rattle.is.specs.Connects.{ByDelivery, ByRounds, ChecksAreDelivered, ComesToCheck, IsDelivered, rounds_needed, StartsToSelect, InRounds, Already, SelectsByOpening, BothSelect}
-use Rattle.is.specs.AcceptedNominationsIn.{Occurrence, HandedCheck, IsControlled, IsPlainTimeout, IsAskedOver, IsExchangedOver, occurrences_in}
-use Rattle.is.specs.AcceptedNominations.{MayEndIn, SelectsTop}
-use Rattle.is.specs.Selections.{SideRound, IsControlling, IsControllingSegment, IsAnsweredInTime, RoundChecks, MayEndInRounds}
-use Rattle.is.specs.World.{WorldRecord, LoggedEvent, at, other, Streams}
+use Rattle.is.specs.Connects.{ByDelivery, ByRounds, ChecksAreDelivered, ComesToCheck, IsDelivered, rounds_needed, StartsToSelect, InRounds}
+use Rattle.is.specs.Connects.{Already, SelectsByOpening, BothSelect}
+use Rattle.is.proofs.Common.{[], ◌++◌, ◌∙◌, ◌∷◌, ◌≡◌, ◌⊎◌, AcceptedNominationsAreSelected, ap, append_assoc, AreNominatedOn, Asks}
+use Rattle.is.proofs.Common.{AsksInRounds, at, CandidateRecord, CarriedAsk, CarriedResolve, CarriedSucceedLater, ExecutionsCheckFromDue}
+use Rattle.is.proofs.Common.{ExecutionsReachFromDue, ExecutionsReachServed, ExecutionsReachUnanswered, false, FreshIsSound, HandedCheck}
+use Rattle.is.proofs.Common.{Has, inl, inr, IsAnsweredInRounds, IsAnsweredInTime, IsAskedOver, IsControlled, IsControlling}
+use Rattle.is.proofs.Common.{IsControllingSegment, IsExchangedOver, IsPlainTimeout, List, LoggedEvent, MayEndIn, MayEndInRounds, Occurrence}
+use Rattle.is.proofs.Common.{occurrences_in, other, Path, path_of, PathTheorem, refl, reversed, RoleTheorem, RoundChecks, RoundIsAnswered}
+use Rattle.is.proofs.Common.{SelectsTop, ServedExecutionsReach, Side, SideRound, Streams, subst, Success, SuccessesSelect, sym, true}
+use Rattle.is.proofs.Common.{WorldRecord, ℕ}
 use Rattle.is.proofs.SelectedPaths.BothSelectInRounds.{both_connect_by, rounds_asked}
 use Rattle.is.proofs.ExternalViews.ViewsOfExecutions.{Has-front, Has-rear}
 use Rattle.is.proofs.RolesAndChains.RolesBecomeOpposite.{roles_stay}
@@ -53,7 +40,7 @@ module _ {H P : Type 0} (mac : H → List ℕ → List ℕ → List ℕ) (answer
 
   -- ---- both
 
-  pub both_select : PathTheorem {H = H} {P = P} mac answers → RoleTheorem {H = H} {P = P} mac answers → FreshIsSound H P → CarriedSettle {H = H} {P = P} mac answers
+  pub both_select : PathTheorem {H = H} {P = P} mac answers → RoleTheorem {H = H} {P = P} mac answers → FreshIsSound H P → CarriedResolve {H = H} {P = P} mac answers
       → CarriedAsk {H = H} {P = P} mac answers → CarriedSucceedLater {H = H} {P = P} mac answers → AcceptedNominationsAreSelected {H = H} {P = P} mac answers → ExecutionsCheckFromDue {H = H} {P = P} mac answers
       → ExecutionsReachFromDue {H = H} {P = P} mac answers → ServedExecutionsReach {H = H} {P = P} mac answers → ExecutionsReachUnanswered {H = H} {P = P} mac answers → ExecutionsReachServed {H = H} {P = P} mac answers → SuccessesSelect {H = H} {P = P} mac answers → (first : WorldRecord H P) (s : Streams) (log : List (LoggedEvent P)) → BothSelect mac answers first s log
   both_select paths roles new_sound resolves asks succeeds announce checks reach served unanswered serves selects first s log last t run meeting opening part rest timeout side path its is = (opened is.starts, connected) where

@@ -1,24 +1,12 @@
 -- The paths that two agents select, if all their pairs are on one path. The preconditions that mutants/specifications changes
 -- are read by tactics where they are used: if one of them is weaker, that goal stays unproved.
-use Rattle.std.proofs.Common.{◌≡◌, ℕ, Bool, true, false, List, [], ◌∷◌, Option, Some, None, inl, inr, ◌⊎◌, sym, ◌∙◌, subst}
-use Rattle.std.specs.Prelude.{MatchBool, slice_get}
-use Rattle.is_proto.specs.Lists.{Has}
-use Rattle.is_candidate.specs.Candidates.{CandidateRecord}
-use Rattle.is_pair.specs.Pairs.{PairRecord}
-use Rattle.is_rules.specs.declared.emitted.Path.{Path}
-use Rattle.is_rules.specs.Agent.{AgentRecord}
-use Rattle.is_rules.specs.Brought.{IsValidOn, IsAnswered}
-use Rattle.is_rules.specs.Effects.{PathTheorem}
-use Rattle.is_rules.specs.Sending.{path_of}
-use Rattle.is_rules.specs.Sound.{FreshIsSound}
 use Rattle.is_rules.specs.Steps as agent
-use Rattle.is_rules.specs.Steps.{Answer, Entry}
-use Rattle.is_rules.specs.Emitted.{reversed}
-use Rattle.is.specs.declared.world_events.Side.{Side}
-use Rattle.is.specs.AcceptedNominationsIn.{Occurrence, occurrences_in}
 use Rattle.is.specs.Mirrors.{SelectsThePath, KeepsTo, LonePathsMirror}
 use Rattle.is.specs.World as world
-use Rattle.is.specs.World.{WorldRecord, InFlightRecord, Event, Outcome, LoggedEvent, TakesTurn, Persists, Happens, WorldRun, at, other, in_world, plain, Streams, source_of}
+use Rattle.is.proofs.Common.{[], ◌∙◌, ◌∷◌, ◌≡◌, ◌⊎◌, AgentRecord, Answer, at, Bool, CandidateRecord, Entry, Event, false, FreshIsSound}
+use Rattle.is.proofs.Common.{Happens, Has, in_world, InFlightRecord, inl, inr, IsAnswered, IsValidOn, List, LoggedEvent, MatchBool, None}
+use Rattle.is.proofs.Common.{Occurrence, occurrences_in, Option, other, Outcome, PairRecord, Path, path_of, PathTheorem, Persists, plain}
+use Rattle.is.proofs.Common.{reversed, Side, slice_get, Some, source_of, Streams, subst, sym, TakesTurn, true, WorldRecord, ℕ}
 use Rattle.is.proofs.ExternalViews.ViewsOfExecutions.{AreSound}
 use Rattle.is.proofs.RolesAndChains.RolesAndChainsOfViews.{sound_new}
 use Rattle.is.proofs.TwoAgentEvents.OwnExecutions.{turn_step, sound_on}

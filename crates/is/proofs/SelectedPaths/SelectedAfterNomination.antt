@@ -1,41 +1,23 @@
 -- A path of the controlled one of two agents that was nominated by the peer and answered is selected by its next
 -- `handle_timeout` call. The preconditions that mutants/specifications changes are read by tactics where they are used: if one
 -- of them is weaker, that goal stays unproved.
-use Rattle.std.proofs.Common.{◌≡◌, ℕ, true, false, not, List, [], ◌∷◌, ◌++◌, Option, Some, None, is_some, inl, inr, ◌⊎◌, refl, ap, sym, ◌∙◌, subst, append_assoc}
-use Rattle.is_proto.specs.Lists.{Has}
-use Rattle.is_proto.specs.Packets.{Packet}
-use Rattle.is_candidate.specs.Candidates.{CandidateRecord}
-use Rattle.is_stun.specs.declared.header.Class.TheVariants.{Success}
-use Rattle.is_rules.specs.declared.emitted.Path.{Path}
-use Rattle.is_rules.specs.Agent.{AgentRecord, fresh}
-use Rattle.is_theorems.specs.Asked.{IsOnlyPair}
-use Rattle.is_theorems.specs.AskedExecutions.{IsAnsweredAlong, SelectsAlong, EndsAlong, AcceptsNominationAlong, AcceptedNominationsAreSelected}
-use Rattle.is_theorems.specs.Asking.{AreNominatedOn, AcceptsNomination}
-use Rattle.is_theorems.specs.Carried.{CarriedAsk, CarriedSucceedLater}
-use Rattle.is_theorems.specs.Delivery.{IsTaken}
-use Rattle.is_rules.specs.Effects.{PathTheorem, last_of}
-use Rattle.is_theorems.specs.Exchange.{Execution}
-use Rattle.is_rules.specs.Issuing.{via_out}
-use Rattle.is_theorems.specs.Pending.{IsValidBy}
-use Rattle.is_rules.specs.Points.{HasSelected}
-use Rattle.is_rules.specs.Queue.{request_at}
-use Rattle.is_rules.specs.Sound.{FreshIsSound}
 use Rattle.is_rules.specs.Steps as agent
-use Rattle.is_rules.specs.Steps.{Entry, Done, quiet}
-use Rattle.is_rules.specs.Emitted.{reversed}
-use Rattle.is.specs.declared.world_events.Side.{Side}
-use Rattle.is.specs.declared.world_events.Side.TheVariants.{A, B}
-use Rattle.is.specs.Deliveries.{SelectsPath}
-use Rattle.is.specs.AcceptedNominationsIn.{Occurrence, IsControlled, HandedCheck, IsAskedOver, IsReturned, IsExchangedOver}
-use Rattle.is.specs.AcceptedNominations.{AcceptedNominationsSelect, MayEndIn, SelectsTop}
 use Rattle.is.specs.World as world
-use Rattle.is.specs.World.{WorldRecord, Event, LoggedEvent, TakesTurn, Happens, at, other, Streams, source_of}
-use Rattle.is.specs.WorldRoles.{IsNewAgent}
+use Rattle.is.proofs.Common.{[], ◌++◌, ◌∙◌, ◌∷◌, ◌≡◌, ◌⊎◌, A, AcceptedNominationsAreSelected, AcceptedNominationsSelect, AcceptsNomination}
+use Rattle.is.proofs.Common.{AcceptsNominationAlong, AgentRecord, ap, append_assoc, AreNominatedOn, at, B, CandidateRecord, CarriedAsk}
+use Rattle.is.proofs.Common.{CarriedSucceedLater, Done, EndsAlong, Entry, Event, Execution, false, fresh, FreshIsSound, HandedCheck}
+use Rattle.is.proofs.Common.{Happens, Has, HasSelected, inl, inr, is_some, IsAnsweredAlong, IsAskedOver, IsControlled, IsExchangedOver}
+use Rattle.is.proofs.Common.{IsNewAgent, IsOnlyPair, IsReturned, IsTaken, IsValidBy, last_of, List, LoggedEvent, MayEndIn, None, not}
+use Rattle.is.proofs.Common.{Occurrence, Option, other, Packet, Path, PathTheorem, quiet, refl, request_at, reversed, SelectsAlong}
+use Rattle.is.proofs.Common.{SelectsPath, SelectsTop, Side, Some, source_of, Streams, subst, Success, sym, TakesTurn, true, via_out}
+use Rattle.is.proofs.Common.{WorldRecord, ℕ}
 use Rattle.is.proofs.ExternalViews.ViewsOfExecutions.{Has-front, Has-rear, AreSound}
 use Rattle.is.proofs.RolesAndChains.RolesAndChainsOfViews.{sound_new}
 use Rattle.is.proofs.TwoAgentEvents.OwnExecutions.{either_has, turn_step, acts_emitted}
 use Rattle.is.proofs.TwoAgentEvents.DeliveredPackets.{rewritten, handed_has}
-use Rattle.is.proofs.TwoAgentEvents.EventsOfSegments.{middle, Follow, follows, cut, meet, sound_along, acts_at, own, own_execution, own_has, handed_is, Checked, checked, sent_in, following_in, Found, Owned, act_owned, owned, awaited, Awaited, awaits, removed, awaited_in}
+use Rattle.is.proofs.TwoAgentEvents.EventsOfSegments.{middle, Follow, follows, cut, meet, sound_along, acts_at, own, own_execution, own_has}
+use Rattle.is.proofs.TwoAgentEvents.EventsOfSegments.{handed_is, Checked, checked, sent_in, following_in, Found, Owned, act_owned, owned}
+use Rattle.is.proofs.TwoAgentEvents.EventsOfSegments.{awaited, Awaited, awaits, removed, awaited_in}
 use Rattle.is.proofs.TwoAgentEvents.ExchangedChecks.{sent-check, carried-check, carried-back}
 use Rattle.is.proofs.SelectedPaths.LastSelected.{selected_call}
 

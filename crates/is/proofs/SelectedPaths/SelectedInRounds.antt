@@ -1,45 +1,27 @@
 -- In rounds that suffice for one of its pairs, a controlling side sends a check on the pair's path, or selects a path, unless a
 -- candidate that it adds may remove the pair. If a check is answered while it is pending, it selects one. The preconditions that mutants/specifications changes are read by tactics where they are used:
 -- if one of them is weaker, that goal stays unproved.
-use Rattle.std.proofs.Common.{◌≡◌, ℕ, ◌⊎◌, Bool, true, false, not, List, [], ◌∷◌, ◌++◌, is_some, inl, inr, refl, ap, sym, ◌∙◌, subst, arith, append_assoc}
-use Rattle.is_proto.specs.Lists.{Has}
-use Rattle.is_proto.specs.Packets.{Packet}
-use Rattle.is_candidate.specs.Candidates.{CandidateRecord}
-use Rattle.is_pair.specs.Pairs.{PairRecord, is_valid}
-use Rattle.is_stun.specs.declared.header.Class.TheVariants.{Success}
-use Rattle.is_rules.specs.declared.emitted.Path.{Path}
-use Rattle.is_rules.specs.Agent.{fresh}
-use Rattle.is_theorems.specs.AskedExecutions.{EndsAlong, IsAnsweredAlong, SuccessesSelect}
-use Rattle.is_theorems.specs.FirstTimeouts.{ExecutionsReachUnanswered}
-use Rattle.is_theorems.specs.Carried.{CarriedSucceedLater}
-use Rattle.is_theorems.specs.Executions.{ExecutionRound, SelectsAmong, ExecutionRounds}
-use Rattle.is_theorems.specs.Delivery.{IsTaken}
-use Rattle.is_rules.specs.Effects.{PathTheorem, last_of}
-use Rattle.is_rules.specs.Issuing.{via_out}
-use Rattle.is_theorems.specs.Pending.{IsValidBy}
-use Rattle.is_theorems.specs.Progress.{Awaits, IsUnanswered}
-use Rattle.is_theorems.specs.ServedSoon.{ExecutionsReachServed}
-use Rattle.is_rules.specs.Sending.{path_of}
-use Rattle.is_rules.specs.Sound.{FreshIsSound}
 use Rattle.is_rules.specs.Steps as agent
-use Rattle.is_rules.specs.Steps.{Entry, Done, quiet}
-use Rattle.is_theorems.specs.FirstChecks.{SufficeForDue, ExecutionsCheckFromDue, times_of}
-use Rattle.is.specs.declared.world_events.Side.{Side}
-use Rattle.is.specs.Connections.{Succeeds}
-use Rattle.is.specs.Deliveries.{Hands, SelectsPath}
-use Rattle.is.specs.AcceptedNominationsIn.{Occurrence, HandedCheck, IsReturned, IsReturnedInTime, MayEndAt}
-use Rattle.is.specs.Selections.{SideRound, all_of, begins_modern, times_in, state_after, IsKept, AreKept, SideRoundsSuffice, AreEachPolled, IsControlling, IsAnsweredInTime, DeliveredRoundsSelect}
 use Rattle.is.specs.World as world
-use Rattle.is.specs.World.{WorldRecord, Event, LoggedEvent, TakesTurn, Happens, at, other, Streams, source_of}
-use Rattle.is.specs.WorldRoles.{IsNewAgent}
+use Rattle.is.proofs.Common.{[], ◌++◌, ◌∙◌, ◌∷◌, ◌≡◌, ◌⊎◌, all_of, ap, append_assoc, AreEachPolled, AreKept, arith, at, Awaits}
+use Rattle.is.proofs.Common.{begins_modern, Bool, CandidateRecord, CarriedSucceedLater, DeliveredRoundsSelect, Done, EndsAlong, Entry}
+use Rattle.is.proofs.Common.{Event, ExecutionRound, ExecutionRounds, ExecutionsCheckFromDue, ExecutionsReachServed}
+use Rattle.is.proofs.Common.{ExecutionsReachUnanswered, false, fresh, FreshIsSound, HandedCheck, Hands, Happens, Has, inl, inr, is_some}
+use Rattle.is.proofs.Common.{is_valid, IsAnsweredAlong, IsAnsweredInTime, IsControlling, IsKept, IsNewAgent, IsReturned, IsReturnedInTime}
+use Rattle.is.proofs.Common.{IsTaken, IsUnanswered, IsValidBy, last_of, List, LoggedEvent, MayEndAt, not, Occurrence, other, Packet}
+use Rattle.is.proofs.Common.{PairRecord, Path, path_of, PathTheorem, quiet, refl, SelectsAmong, SelectsPath, Side, SideRound}
+use Rattle.is.proofs.Common.{SideRoundsSuffice, source_of, state_after, Streams, subst, Succeeds, Success, SuccessesSelect, SufficeForDue}
+use Rattle.is.proofs.Common.{sym, TakesTurn, times_in, times_of, true, via_out, WorldRecord, ℕ}
 use Rattle.is.proofs.ExternalViews.ViewsOfExecutions.{Has-front, Has-rear, AreSound}
 use Rattle.is.proofs.RolesAndChains.RolesAndChainsOfViews.{sound_new}
 use Rattle.is.proofs.TwoAgentEvents.OwnExecutions.{either_has, turn_step, Steered, steered_on, acts_steered}
 use Rattle.is.proofs.TwoAgentEvents.DeliveredPackets.{rewritten, handed}
-use Rattle.is.proofs.TwoAgentEvents.EventsOfSegments.{middle, Follow, follows, following_in, cut, state_is, meet, sound_along, acts_at, own, own_execution, checked, Awaited, awaits, removed}
+use Rattle.is.proofs.TwoAgentEvents.EventsOfSegments.{middle, Follow, follows, following_in, cut, state_is, meet, sound_along, acts_at, own}
+use Rattle.is.proofs.TwoAgentEvents.EventsOfSegments.{own_execution, checked, Awaited, awaits, removed}
 use Rattle.is.proofs.TwoAgentEvents.ExchangedChecks.{sent-check, carried-check, carried-back}
 use Rattle.is.proofs.SelectedPaths.SelectedAfterNomination.{own_emitted}
-use Rattle.is.proofs.SelectedPaths.BothSelectInRounds.{round_of, rounds_of, Moves, moved, are_passed, only_polls, same_times, back, SomeChecks, reached_unanswered, in_rounds, succeeds_in}
+use Rattle.is.proofs.SelectedPaths.BothSelectInRounds.{round_of, rounds_of, Moves, moved, are_passed, only_polls, same_times, back}
+use Rattle.is.proofs.SelectedPaths.BothSelectInRounds.{SomeChecks, reached_unanswered, in_rounds, succeeds_in}
 
 module _ {H P : Type 0} (mac : H → List ℕ → List ℕ → List ℕ) (answers : P → CandidateRecord → ℕ → ℕ → Type 0) where
   module _ (side : Side) where

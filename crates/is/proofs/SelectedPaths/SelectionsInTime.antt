@@ -1,40 +1,27 @@
 -- A controlling side of two agents selects its first path in time, if its caller is punctual and a check is answered within a round trip.
 -- What mutants/specifications changes is read by tactics.
-use Rattle.std.proofs.Common.{◌≡◌, ℕ, ◌+◌, ◌*◌, ◌≤◌, ◌⊎◌, true, List, [], ◌∷◌, ◌++◌, length, inl, inr, refl, ap, sym, ◌∙◌, subst, arith, append_assoc}
-use Rattle.is_proto.specs.Lists.{Has}
-use Rattle.is_candidate.specs.Candidates.{CandidateRecord}
-use Rattle.is_rules.specs.declared.emitted.Path.{Path}
-use Rattle.is_rules.specs.Agent.{AgentRecord, fresh}
-use Rattle.is_rules.specs.Effects.{PathTheorem}
-use Rattle.is_rules.specs.Sending.{path_of}
-use Rattle.is_rules.specs.Sound.{FreshIsSound}
 use Rattle.is_rules.specs.Steps as agent
-use Rattle.is_rules.specs.Steps.{Entry, quiet}
-use Rattle.is_theorems.specs.AskedExecutions.{EndsAlong, SuccessesSelect}
-use Rattle.is_theorems.specs.Carried.{CarriedSucceedLater}
-use Rattle.is_theorems.specs.Executions.{AcceptsSuccess, ControlsAlong, ExecutionRound, ExecutionRounds}
-use Rattle.is_theorems.specs.Exchange.{AreBetween, Execution}
-use Rattle.is_theorems.specs.FirstChecks.{SufficeForDue, times_of}
-use Rattle.is_theorems.specs.FirstTimeouts.{AreInRound, EndsAmong, Suffices}
-use Rattle.is_theorems.specs.Progress.{Awaits, IsUnanswered}
 use Rattle.is_theorems.specs.SelectedInTime as law
-use Rattle.is_theorems.specs.ServedSoon.{IsOvertakenAmong}
 use Rattle.is_theorems.specs.SelectedInTime.{ExecutionsSelectInTime, in_any_role}
-use Rattle.is.specs.declared.world_events.Side.{Side}
-use Rattle.is.specs.AcceptedNominationsIn.{Occurrence}
-use Rattle.is.specs.Punctual.{IsTimed}
 use Rattle.is.specs.PunctualSelections.{IsAnsweredBy, rounds_in, SelectsBy, SelectionsComeInTime}
-use Rattle.is.specs.Selections.{SideRound, all_of, begins_modern, times_in, state_after, MayEndInRounds, OvertakeIn, RoundChecks, SideRoundsSuffice}
 use Rattle.is.specs.World as world
-use Rattle.is.specs.World.{WorldRecord, LoggedEvent, at, Streams, source_of}
+use Rattle.is.proofs.Common.{[], ◌*◌, ◌++◌, ◌+◌, ◌∙◌, ◌∷◌, ◌≡◌, ◌≤◌, ◌⊎◌, AcceptsSuccess, AgentRecord, all_of, ap, append_assoc, AreBetween}
+use Rattle.is.proofs.Common.{AreInRound, arith, at, Awaits, begins_modern, CandidateRecord, CarriedSucceedLater, ControlsAlong, EndsAlong}
+use Rattle.is.proofs.Common.{EndsAmong, Entry, Execution, ExecutionRound, ExecutionRounds, fresh, FreshIsSound, Has, inl, inr}
+use Rattle.is.proofs.Common.{IsOvertakenAmong, IsTimed, IsUnanswered, length, List, LoggedEvent, MayEndInRounds, Occurrence, OvertakeIn}
+use Rattle.is.proofs.Common.{Path, path_of, PathTheorem, quiet, refl, RoundChecks, Side, SideRound, SideRoundsSuffice, source_of}
+use Rattle.is.proofs.Common.{state_after, Streams, subst, SuccessesSelect, SufficeForDue, Suffices, sym, times_in, times_of, true}
+use Rattle.is.proofs.Common.{WorldRecord, ℕ}
 use Rattle.is.proofs.ExternalViews.ViewsOfExecutions.{Has-front, Has-rear, AreSound}
 use Rattle.is.proofs.RolesAndChains.RolesAndChainsOfViews.{sound_new}
-use Rattle.is.proofs.SelectedPaths.BothSelectInRounds.{round_of, rounds_of, as_many, Moves, moved, each_round, is_open, are_open, same_times, back, suffices_served}
+use Rattle.is.proofs.SelectedPaths.BothSelectInRounds.{round_of, rounds_of, as_many, Moves, moved, each_round, is_open, are_open}
+use Rattle.is.proofs.SelectedPaths.BothSelectInRounds.{same_times, back, suffices_served}
 use Rattle.is.proofs.SelectedPaths.ChecksInTime.{timed}
 use Rattle.is.proofs.SelectedPaths.SelectedAfterNomination.{own_emitted}
 use Rattle.is.proofs.SelectedPaths.SelectedInRounds.{returned}
 use Rattle.is.proofs.TwoAgentEvents.DeliveredPackets.{handed_has}
-use Rattle.is.proofs.TwoAgentEvents.EventsOfSegments.{middle, ends_at, Follow, follows, Found, cut, state_is, sound_along, acts_at, own, own_execution, own_between, own_in_round, own_has}
+use Rattle.is.proofs.TwoAgentEvents.EventsOfSegments.{middle, ends_at, Follow, follows, Found, cut, state_is, sound_along, acts_at, own}
+use Rattle.is.proofs.TwoAgentEvents.EventsOfSegments.{own_execution, own_between, own_in_round, own_has}
 use Rattle.is.proofs.TwoAgentEvents.OwnExecutions.{acts_steered, either_has}
 
 module _ {H P : Type 0} (mac : H → List ℕ → List ℕ → List ℕ) (answers : P → CandidateRecord → ℕ → ℕ → Type 0) where

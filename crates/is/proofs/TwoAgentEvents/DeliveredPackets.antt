@@ -1,17 +1,8 @@
 -- A packet that is delivered to a side is a call of it.
-use Rattle.std.proofs.Common.{ℕ, List, [], ◌∷◌, inl, refl, sym, subst}
-use Rattle.is_proto.specs.Lists.{Has}
-use Rattle.is_proto.specs.Packets.{Packet}
-use Rattle.is_candidate.specs.Candidates.{CandidateRecord}
-use Rattle.is_rules.specs.declared.emitted.Path.{Path}
-use Rattle.is_theorems.specs.Delivery.{Delivered}
 use Rattle.is_rules.specs.Steps as agent
-use Rattle.is.specs.declared.world_events.Side.{Side}
-use Rattle.is.specs.declared.world_events.Side.TheVariants.{A, B}
-use Rattle.is.specs.Deliveries.{Hands}
-use Rattle.is.specs.Sides.{only, received_as, acts}
 use Rattle.is.specs.World as world
-use Rattle.is.specs.World.{WorldRecord, Event, LoggedEvent, TakesTurn, Happens, at, other, Streams, source_of}
+use Rattle.is.proofs.Common.{[], ◌∷◌, A, acts, at, B, CandidateRecord, Delivered, Event, Hands, Happens, Has, inl, List, LoggedEvent, only}
+use Rattle.is.proofs.Common.{other, Packet, Path, received_as, refl, Side, source_of, Streams, subst, sym, TakesTurn, WorldRecord, ℕ}
 use Rattle.is.proofs.TwoAgentEvents.OwnExecutions.{twice, turn_step}
 
 only_self : {X : Type 0} (side : Side) (x : X) → Has (only side (other (other side)) (x ∷ [])) x

@@ -1,34 +1,19 @@
 -- The events of a segment of a log, with the states before and after each: what one side does in them, and which of its calls may
 -- remove a pair. The preconditions that mutants/specifications changes are read by tactics where they are used: if one of them is weaker, that
 -- goal stays unproved.
-use Rattle.std.proofs.Common.{◌≡◌, ℕ, suc, ◌+◌, ◌<◌, ◌≤◌, ◌&&◌, Bool, true, false, List, [], ◌∷◌, ◌++◌, Option, Some, None, inl, inr, ◌⊎◌, refl, ap, sym, ◌∙◌, subst, arith, if◌then◌else◌, append_assoc}
-use Rattle.std.specs.Prelude.{MatchBool, slice_get}
-use Rattle.is_proto.specs.Lists.{Has}
-use Rattle.is_proto.specs.Packets.{Packet}
-use Rattle.is_candidate.specs.Candidates.{CandidateRecord}
-use Rattle.is_rules.specs.declared.emitted.Path.{Path}
-use Rattle.is_rules.specs.Agent.{AgentRecord}
-use Rattle.is_rules.specs.Answers.{is_reverse}
-use Rattle.is_theorems.specs.AskedExecutions.{Ends, EndsAlong}
-use Rattle.is_theorems.specs.Delivery.{KnowEachOther, IsReachedBy, Delivered}
-use Rattle.is_rules.specs.Effects.{PathTheorem}
-use Rattle.is_theorems.specs.Exchange.{AreBetween, Execution}
-use Rattle.is_rules.specs.Issuing.{via_out}
-use Rattle.is_theorems.specs.Pending.{is_check_on, checks_on, KeepsAlong}
-use Rattle.is_theorems.specs.Reached.{is_in_round}
 use Rattle.is_rules.specs.Steps as agent
-use Rattle.is_rules.specs.Steps.{Answer, Entry, Rejected, Step}
-use Rattle.is.specs.declared.world_events.Side.{Side}
-use Rattle.is.specs.declared.world_events.Side.TheVariants.{A, B}
-use Rattle.is.specs.Deliveries.{MakesPolls, MakesInRound, Hands}
-use Rattle.is.specs.AcceptedNominationsIn.{is_of, check_count, Occurrence, HandedCheck, checks_of, IsReturned, MayEndAt, occurrences_in}
-use Rattle.is.specs.Selections.{state_after}
-use Rattle.is.specs.Sides.{only, polled_as, received_as, acts}
-use Rattle.rand_core.specs.Stream.{Stream}
 use Rattle.is.specs.World as world
-use Rattle.is.specs.World.{WorldRecord, InFlightRecord, Event, Outcome, LoggedEvent, TakesTurn, Persists, Happens, WorldRun, at, other, in_world, Streams, source_of}
+use Rattle.is.proofs.Common.{[], ◌&&◌, ◌++◌, ◌+◌, ◌<◌, ◌∙◌, ◌∷◌, ◌≡◌, ◌≤◌, ◌⊎◌, A, acts, AgentRecord, Answer, ap, append_assoc, AreBetween}
+use Rattle.is.proofs.Common.{arith, at, B, Bool, CandidateRecord, check_count, checks_of, checks_on, Delivered, Ends, EndsAlong, Entry}
+use Rattle.is.proofs.Common.{Event, Execution, false, HandedCheck, Hands, Happens, Has, if◌then◌else◌, in_world, InFlightRecord, inl, inr}
+use Rattle.is.proofs.Common.{is_check_on, is_in_round, is_of, is_reverse, IsReachedBy, IsReturned, KeepsAlong, KnowEachOther, List}
+use Rattle.is.proofs.Common.{LoggedEvent, MakesInRound, MakesPolls, MatchBool, MayEndAt, None, Occurrence, occurrences_in, only, Option}
+use Rattle.is.proofs.Common.{other, Outcome, Packet, Path, PathTheorem, Persists, polled_as, received_as, refl, Rejected, Side, slice_get}
+use Rattle.is.proofs.Common.{Some, source_of, state_after, Step, Stream, Streams, subst, suc, sym, TakesTurn, true, via_out, WorldRecord}
+use Rattle.is.proofs.Common.{WorldRun, ℕ}
 use Rattle.is.proofs.ExternalViews.ViewsOfExecutions.{Has-front, Has-rear, AreSound}
-use Rattle.is.proofs.TwoAgentEvents.OwnExecutions.{either_has, only_none, acts_between, acts_in_round, execution_on, turn_step, acts_execution, sound_on}
+use Rattle.is.proofs.TwoAgentEvents.OwnExecutions.{either_has, only_none, acts_between, acts_in_round, execution_on, turn_step}
+use Rattle.is.proofs.TwoAgentEvents.OwnExecutions.{acts_execution, sound_on}
 use Rattle.is.proofs.TwoAgentEvents.DeliveredPackets.{rewritten, delivered}
 
 pub middle : {X : Type 0} (xs ys : List X) (x : X) → Has (xs ++ x ∷ ys) x
@@ -287,7 +272,7 @@ module _ {H P : Type 0} (mac : H → List ℕ → List ℕ → List ℕ) (answer
         (owned_on (acts_at side x) (own side rest) (at side x.before) (at side x.following) (at side last) (act_owned x s t happens (among x (inl refl)))
         (owned rest x.following last more (λ y has. among y (inr has))))
 
-    -- the same, while the side stores so many checks of a pair
+    -- an execution of the side in which it stores so many checks of a pair; a call in it that may remove a pair of the path is found
     abbrev pub Kept : ℕ → List (agent.Call P × Entry) → AgentRecord H P → AgentRecord H P → Type 0
     Kept limit xs a b =
         (execution : Execution mac answers xs a b) × (EndsAlong mac answers xs a b execution path → Found) × KeepsAlong mac answers limit xs a b execution

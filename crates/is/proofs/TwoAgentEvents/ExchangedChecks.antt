@@ -1,14 +1,7 @@
 -- A check of a side that is delivered in a log, and a response that is returned to it, in the words of the theorems about two agents
 -- without a network.
-use Rattle.std.proofs.Common.{ℕ, List, refl}
-use Rattle.is_proto.specs.Packets.{Packet}
-use Rattle.is_candidate.specs.Candidates.{CandidateRecord}
-use Rattle.is_rules.specs.declared.emitted.Path.{Path}
-use Rattle.is_theorems.specs.Carried.{CarriedCheck, CarriedBack}
-use Rattle.is_theorems.specs.Delivery.{SentCheck}
-use Rattle.is.specs.declared.world_events.Side.{Side}
-use Rattle.is.specs.AcceptedNominationsIn.{Occurrence, HandedCheck, IsReturned}
-use Rattle.is.specs.World.{WorldRecord, at, other}
+use Rattle.is.proofs.Common.{at, CandidateRecord, CarriedBack, CarriedCheck, HandedCheck, IsReturned, List, Occurrence, other, Packet, Path}
+use Rattle.is.proofs.Common.{refl, SentCheck, Side, WorldRecord, ℕ}
 use Rattle.is.proofs.TwoAgentEvents.DeliveredPackets.{rewritten, delivered}
 use Rattle.is.proofs.TwoAgentEvents.EventsOfSegments.{own, Checked, Awaited, awaited}
 

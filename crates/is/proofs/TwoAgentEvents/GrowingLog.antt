@@ -1,9 +1,6 @@
 -- The log of a two-agent network model grows by an event and its entry.
-use Rattle.std.proofs.Common.{◌≡◌, ℕ, suc, List, [], ◌∷◌, ◌++◌, length, ◌+◌, refl, ap, ◌∙◌, subst, arith}
-use Rattle.is_candidate.specs.Candidates.{CandidateRecord}
-use Rattle.is.specs.declared.world_events.TwoAgentsEvent.{TwoAgentsEvent}
-use Rattle.is.specs.declared.world_events.WorldEntry.{WorldEntry}
-use Rattle.is.specs.World.{WorldRecord, LoggedEvent, logged_as, logged, WorldRun, Happens, Streams}
+use Rattle.is.proofs.Common.{[], ◌++◌, ◌+◌, ◌∙◌, ◌∷◌, ◌≡◌, ap, arith, CandidateRecord, Happens, length, List, logged, logged_as}
+use Rattle.is.proofs.Common.{LoggedEvent, refl, Streams, subst, suc, TwoAgentsEvent, WorldEntry, WorldRecord, WorldRun, ℕ}
 
 pub logged-push : {P : Type 0} (events : List (TwoAgentsEvent P)) (entries : List WorldEntry) (v : TwoAgentsEvent P) (e : WorldEntry) → length entries ≡ length events → logged (events ++ v ∷ []) (entries ++ e ∷ []) ≡ logged events entries ++ logged_as v e ∷ []
 logged-push [] [] v e h = refl

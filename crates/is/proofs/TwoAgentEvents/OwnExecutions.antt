@@ -1,28 +1,14 @@
 -- What one agent of a two-agent network model does is a per-agent execution.
-use Rattle.std.proofs.Common.{◌≡◌, ℕ, Bool, true, false, List, [], ◌∷◌, ◌++◌, Option, Some, None, is_some, inl, inr, ◌⊎◌, refl, ap, sym, ◌∙◌, subst, if◌then◌else◌}
-use Rattle.std.specs.Prelude.{MatchBool, slice_get}
-use Rattle.rand_core.specs.Stream.{Stream}
-use Rattle.is_proto.specs.Lists.{Has}
-use Rattle.is_proto.specs.Packets.{Packet}
-use Rattle.is_candidate.specs.Candidates.{CandidateRecord}
-use Rattle.is_rules.specs.declared.emitted.Path.{Path}
-use Rattle.is_rules.specs.Agent.{AgentRecord}
-use Rattle.is_theorems.specs.Executions.{ControlsAlong}
-use Rattle.is_rules.specs.Effects.{PathTheorem, last_of}
-use Rattle.is_theorems.specs.Exchange.{AreBetween, Execution}
-use Rattle.is_rules.specs.Polls.{PollsTransmit, IsPolled}
-use Rattle.is_theorems.specs.Reached.{is_in_round}
 use Rattle.is_theorems.specs.Rounds.{is_between, is_poll}
-use Rattle.is_rules.specs.Sound.{IsSound}
 use Rattle.is_rules.specs.Steps as agent
-use Rattle.is_rules.specs.Steps.{Answer, Entry, Polled, Rejected, quiet, Step}
-use Rattle.is.specs.declared.world_events.Side.{Side}
-use Rattle.is.specs.declared.world_events.Side.TheVariants.{A, B}
-use Rattle.is.specs.Deliveries.{MakesPolls, MakesInRound, SelectsPath}
-use Rattle.is.specs.Sides.{only, first_packet, polled_as, received_as, acts}
 use Rattle.is.specs.World as world
-use Rattle.is.specs.World.{WorldRecord, InFlightRecord, Event, Outcome, LoggedEvent, PolledInto, TakesTurn, Persists, Happens, at, other, in_world, roles_of, Streams, source_of, drawn_by}
-use Rattle.is.specs.WorldRoles.{role_at, role_in}
+use Rattle.is.proofs.Common.{[], ◌++◌, ◌∙◌, ◌∷◌, ◌≡◌, ◌⊎◌, A, acts, AgentRecord, Answer, ap, AreBetween, at, B, Bool, CandidateRecord}
+use Rattle.is.proofs.Common.{ControlsAlong, Entry, Event, Execution, false, first_packet, Happens, Has, if◌then◌else◌, in_world}
+use Rattle.is.proofs.Common.{InFlightRecord, inl, inr, is_in_round, is_some, IsPolled, IsSound, last_of, List, LoggedEvent, MakesInRound}
+use Rattle.is.proofs.Common.{MakesPolls, MatchBool, None, only, Option, other, Outcome, Packet, Path, PathTheorem, Persists, Polled}
+use Rattle.is.proofs.Common.{polled_as, PolledInto, PollsTransmit, quiet, received_as, refl, Rejected, role_at, role_in, roles_of}
+use Rattle.is.proofs.Common.{SelectsPath, Side, slice_get, Some, source_of, Step, Stream, Streams, subst, sym, TakesTurn, true, WorldRecord}
+use Rattle.is.proofs.Common.{ℕ}
 use Rattle.is.proofs.ExternalViews.ViewsOfExecutions.{AreSound}
 
 -- ---- lists

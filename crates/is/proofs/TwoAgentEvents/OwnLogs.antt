@@ -1,22 +1,11 @@
 -- What one of two agents does is an execution of its own, whose log is its own log.
-use Rattle.std.proofs.Common.{◌≡◌, ℕ, Bool, true, false, List, [], ◌∷◌, ◌++◌, Option, Some, None, inl, inr, map, refl, sym, subst, if◌then◌else◌}
-use Rattle.std.specs.Prelude.{slice_get}
-use Rattle.is_proto.specs.Lists.{Has}
-use Rattle.is_proto.specs.Packets.{Packet}
-use Rattle.is_candidate.specs.Candidates.{CandidateRecord}
-use Rattle.is_rules.specs.declared.emitted.Path.{Path}
-use Rattle.is_rules.specs.Agent.{AgentRecord}
-use Rattle.is_theorems.specs.Exchange.{Execution}
 use Rattle.is_theorems.specs.Logs as agent_log
 use Rattle.is_rules.specs.Steps as agent
-use Rattle.is_rules.specs.Steps.{Answer, Entry, Rejected}
-use Rattle.is_theorems.specs.Shared.{SharedRun, BeforeEach}
-use Rattle.is.specs.declared.world_events.Side.{Side}
-use Rattle.is.specs.declared.world_events.Side.TheVariants.{A, B}
-use Rattle.is.specs.AcceptedNominationsIn.{Occurrence}
-use Rattle.is.specs.Sides.{only, polled_as, received_as, acts, own_at, own_log}
 use Rattle.is.specs.World as world
-use Rattle.is.specs.World.{WorldRecord, InFlightRecord, Event, at, other, in_world}
+use Rattle.is.proofs.Common.{[], ◌++◌, ◌∷◌, ◌≡◌, A, acts, AgentRecord, Answer, at, B, BeforeEach, Bool, CandidateRecord, Entry, Event}
+use Rattle.is.proofs.Common.{Execution, false, Has, if◌then◌else◌, in_world, InFlightRecord, inl, inr, List, map, None, Occurrence, only}
+use Rattle.is.proofs.Common.{Option, other, own_at, own_log, Packet, Path, polled_as, received_as, refl, Rejected, SharedRun, Side}
+use Rattle.is.proofs.Common.{slice_get, Some, subst, sym, true, WorldRecord, ℕ}
 use Rattle.is.proofs.TwoAgentEvents.EventsOfSegments.{Follow}
 use Rattle.is.proofs.TwoAgentEvents.OwnExecutions.{acts_execution}
 

@@ -1,25 +1,13 @@
 -- The calls of a side that select a path: in a segment of the log of two agents there are as many as in its own log, or more.
-use Rattle.std.proofs.Common.{◌≡◌, ℕ, ◌+◌, ◌*◌, ◌≤◌, ◌&&◌, Bool, true, false, List, [], ◌∷◌, length, count_by, cond, Option, Some, None, inl, inr, refl, sym, subst, arith, if◌then◌else◌}
-use Rattle.std.specs.Prelude.{MatchBool, slice_get}
-use Rattle.std.proofs.lemmas.List.Sums.{sum_by-append, sum_by-cons}
-use Rattle.is_proto.specs.Packets.{Packet}
-use Rattle.is_stun.specs.Timing.{is_modern}
-use Rattle.is_candidate.specs.Candidates.{CandidateRecord}
-use Rattle.is_rules.specs.Agent.{AgentRecord}
-use Rattle.is_rules.specs.Nominating.{numbers}
 use Rattle.is_rules.specs.Owed.{one_if}
 use Rattle.is_rules.specs.Steps as agent
-use Rattle.is_rules.specs.Steps.{Answer, Entry, Polled, Rejected, quiet}
-use Rattle.is_theorems.specs.FirstTimeouts.{Suffices}
-use Rattle.is_theorems.specs.Progress.{checks_for}
-use Rattle.is_theorems.specs.Reached.{nominations_ahead, selects}
-use Rattle.is.specs.declared.world_events.Side.{Side}
-use Rattle.is.specs.declared.world_events.Side.TheVariants.{A, B}
-use Rattle.is.specs.AcceptedNominationsIn.{is_of, Occurrence}
-use Rattle.is.specs.Connections.{selections_of}
-use Rattle.is.specs.Sides.{only, polled_as, first_packet, received_as, acts}
 use Rattle.is.specs.World as world
-use Rattle.is.specs.World.{WorldRecord, InFlightRecord, Event, Outcome, TakesTurn, Persists, Happens, at, other, in_world, Streams}
+use Rattle.is.proofs.Common.{[], ◌&&◌, ◌*◌, ◌+◌, ◌∷◌, ◌≡◌, ◌≤◌, A, acts, AgentRecord, Answer, arith, at, B, Bool, CandidateRecord}
+use Rattle.is.proofs.Common.{checks_for, cond, count_by, Entry, Event, false, first_packet, Happens, if◌then◌else◌, in_world}
+use Rattle.is.proofs.Common.{InFlightRecord, inl, inr, is_modern, is_of, length, List, MatchBool, nominations_ahead, None, numbers}
+use Rattle.is.proofs.Common.{Occurrence, only, Option, other, Outcome, Packet, Persists, Polled, polled_as, quiet, received_as, refl}
+use Rattle.is.proofs.Common.{Rejected, selections_of, selects, Side, slice_get, Some, Streams, subst, Suffices, sum_by-append, sum_by-cons}
+use Rattle.is.proofs.Common.{sym, TakesTurn, true, WorldRecord, ℕ}
 use Rattle.is.proofs.TwoAgentEvents.EventsOfSegments.{Follow, acts_at, own}
 use Rattle.is.proofs.TwoAgentEvents.OwnExecutions.{only_none}
 

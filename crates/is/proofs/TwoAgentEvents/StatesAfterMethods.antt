@@ -1,21 +1,10 @@
 -- The state after a method is the one that its event describes.
-use Rattle.std.proofs.Common.{◌≡◌, ℕ, zero, suc, Bool, true, false, List, [], ◌∷◌, map, Option, Some, None, refl, ap, sym, ◌∙◌, subst}
-use Rattle.std.specs.Prelude.{slice_get, option_map}
-use Rattle.rand_core.specs.Stream.{Stream}
-use Rattle.is_candidate.specs.Candidates.{CandidateRecord}
-use Rattle.is_rules.specs.declared.emitted.Path.{Path}
-use Rattle.is_rules.specs.Agent.{AgentRecord}
 use Rattle.is_rules.specs.Steps as agent
-use Rattle.is_rules.specs.Steps.{quiet, Step, Receives, Answer, NoSuchPacket}
-use Rattle.is.specs.declared.world_events.Side.{Side}
-use Rattle.is.specs.declared.world_events.Side.TheVariants.{A, B}
-use Rattle.is_rules.specs.Sound.{GivesBased}
-use Rattle.is_stun.specs.declared.header.Class.{Class}
-use Rattle.is_stun.specs.declared.trans_id.TransId.{TransId}
-use Rattle.is_stun.specs.Reading.{fault_of, message_of}
-use Rattle.is_rules.specs.Effects.{clears}
-use Rattle.is.specs.Accepted.{LeavesOut}
-use Rattle.is.specs.World.{WorldRecord, InFlightRecord, Outcome, plain, in_world, moved_by, read_unless, Poll, Deliver, Stray, PolledInto, TakesTurn, Delivers, Happens, at, put, other, roles_of, Streams, source_of, drawn_by}
+use Rattle.is.proofs.Common.{[], ◌∙◌, ◌∷◌, ◌≡◌, A, AgentRecord, Answer, ap, at, B, Bool, CandidateRecord, Class, clears, Deliver, Delivers}
+use Rattle.is.proofs.Common.{drawn_by, false, fault_of, GivesBased, Happens, in_world, InFlightRecord, LeavesOut, List, map, message_of}
+use Rattle.is.proofs.Common.{moved_by, None, NoSuchPacket, Option, option_map, other, Outcome, Path, plain, Poll, PolledInto, put, quiet}
+use Rattle.is.proofs.Common.{read_unless, Receives, refl, roles_of, Side, slice_get, Some, source_of, Step, Stray, Stream, Streams, subst}
+use Rattle.is.proofs.Common.{suc, sym, TakesTurn, TransId, true, WorldRecord, zero, ℕ}
 
 pub get-map : {X Y : Type 0} (f : X → Y) (xs : List X) (n : ℕ) (o : Option X) → slice_get xs n ≡ o → slice_get (map f xs) n ≡ option_map f o
 get-map f [] n o is = ap (option_map f) is

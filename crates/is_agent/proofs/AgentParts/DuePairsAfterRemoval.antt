@@ -8,14 +8,14 @@ use Rattle.is_proto.specs.Lists.{Has}
 use Rattle.is_stun.specs.declared.timing.StunTiming.{StunTiming}
 use Rattle.is_pair.specs.declared.pair.silence.Span.{Span}
 use Rattle.is_pair.specs.Pairs.{PairRecord}
-use Rattle.is_pair.specs.Due.{asked, is_due, moved_up, IsNextDue}
+use Rattle.is_pair.specs.Due.{scheduled, is_due, moved_up, IsNextDue}
 use Rattle.is_pair.specs.Silence.{silence_until}
 use Rattle.is_pair.specs.Multiset.{without, has_number, is_numbered, pair_numbered, rises}
 use Rattle.rand_core.specs.Stream.{Stream}
 use Rattle.is_rules.specs.declared.credentials.IceCreds.{IceCreds}
 use Rattle.is_rules.specs.declared.emitted.Issued.{Issued}
 use Rattle.is_rules.specs.Agent.{AgentRecord}
-use Rattle.is_rules.specs.Checking.{all_asked, all_heard, is_ahead_turn, GoesAhead, IsNextInTurn, IsNextToCheck, ChecksNext, MayCheck}
+use Rattle.is_rules.specs.Checking.{all_scheduled, all_heard, is_ahead_turn, GoesAhead, IsNextInTurn, IsNextToCheck, ChecksNext, MayCheck}
 use Rattle.is_rules.specs.Connecting.{is_connected}
 use Rattle.is_rules.specs.Due.{awaits_nomination, falls_due, may_nominate}
 use Rattle.is_rules.specs.Leaving.{has_urgent, hastened, late_since, IsAskedAlong, IsAskedNext}
@@ -38,14 +38,14 @@ falls-left test gone (p ∷ ps) h =
       ] k
     ] h
 
-pub falls-asked : (controlling : Bool) (now : ℕ) (t : StunTiming) (ps : List PairRecord) → list_any (is_due now t) (map (asked now t) ps) ≡ true
+pub falls-scheduled : (controlling : Bool) (now : ℕ) (t : StunTiming) (ps : List PairRecord) → list_any (is_due now t) (map (scheduled now t) ps) ≡ true
     → list_any (falls_due controlling now t) ps ≡ true
-falls-asked controlling now t [] none = none
-falls-asked controlling now t (p ∷ ps) h =
-    elim (is_due now t p) as (λ b. (b || list_any (is_due now t) (map (asked now t) ps)) ≡ true
+falls-scheduled controlling now t [] none = none
+falls-scheduled controlling now t (p ∷ ps) h =
+    elim (is_due now t p) as (λ b. (b || list_any (is_due now t) (map (scheduled now t) ps)) ≡ true
     → ((b || (not (is_some p.due) && awaits_nomination controlling p)) || list_any (falls_due controlling now t) ps) ≡ true) [
       | true ↦ λ _. refl
-      | false ↦ λ k. or-right (not (is_some p.due) && awaits_nomination controlling p) (list_any (falls_due controlling now t) ps) (falls-asked controlling now t ps k)
+      | false ↦ λ k. or-right (not (is_some p.due) && awaits_nomination controlling p) (list_any (falls_due controlling now t) ps) (falls-scheduled controlling now t ps k)
     ] h
 
 -- the facts are replaced by weaker ones
@@ -172,9 +172,9 @@ next-has a now p is = has-any (is_numbered p.number) a.pairs p (next-is-there a 
 -- with the peer's credentials, and if the agent is not ICE-lite, the next pair is checked once all due times are
 -- fixed
 pub may-check : {H P : Type 0} (mac : H → List ℕ → List ℕ → List ℕ) (now : ℕ) (creds : Option IceCreds) (peer : IceCreds) (old all new : AgentRecord H P)
-    (s : Stream) (issued : Option Issued) (t : Stream) → creds ≡ Some peer → old.lite ≡ false → all ≡ all_asked now old
+    (s : Stream) (issued : Option Issued) (t : Stream) → creds ≡ Some peer → old.lite ≡ false → all ≡ all_scheduled now old
     → ChecksNext mac now peer all s issued new t → MayCheck mac now creds old s issued new t
 may-check mac now creds peer old all new s issued t known full same checked =
     subst (λ c. MayCheck mac now c old s issued new t) (sym known)
-    (subst (λ b. MatchBool b ((issued ≡ None) × (new ≡ all_heard now old) × (t ≡ s)) (ChecksNext mac now peer (all_asked now old) s issued new t)) (sym full)
+    (subst (λ b. MatchBool b ((issued ≡ None) × (new ≡ all_heard now old) × (t ≡ s)) (ChecksNext mac now peer (all_scheduled now old) s issued new t)) (sym full)
     (subst (λ a. ChecksNext mac now peer a s issued new t) same checked))

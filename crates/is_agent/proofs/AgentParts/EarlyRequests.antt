@@ -11,11 +11,11 @@ use Rattle.is_rules.specs.RequestView.{waiting_view}
 use Rattle.is_rules.specs.Agent.{AgentRecord}
 use Rattle.is_rules.specs.Queue.{is_outdated, queue_left, next_request, first_taken, request_at}
 use Rattle.is_rules.specs.States.{same_state}
-use Rattle.is_rules.specs.Settling as settling
+use Rattle.is_rules.specs.StateUpdates as updates
 use Rattle.is_rules.specs.declared.event.IceAgentEvent.TheVariants.{IceRestart}
 use Rattle.is_rules.specs.declared.event.IceConnectionState.TheVariants.{New}
 use Rattle.is_rules.specs.TimeoutStart.{with_start, start_event, outdated}
-use Rattle.is_rules.specs.Timeouts.{timeout_begun, start_emitted, MayFailAtTimeout}
+use Rattle.is_rules.specs.Timeouts.{at_request, timeout_begun, start_emitted, MayFailAtTimeout}
 use Rattle.is_rules.specs.declared.serving.Places.{Places}
 use Rattle.is_rules.specs.declared.serving.Supplies.{Supplies}
 use Rattle.is_agent.specs.Ready.{IsPlan}
@@ -91,7 +91,7 @@ module _ {H P : Type 0} where
   started a following = rw (following) refl
 
   -- the state after the start of a call
-  pub begun : (now : ℕ) (a mid : AgentRecord H P) (queue : List RequestRecord) (many : ℕ) → mid ≡ settling.started now (start_emitted a) → queue ≡ drop many a.queue
+  pub begun : (now : ℕ) (a mid : AgentRecord H P) (queue : List RequestRecord) (many : ℕ) → mid ≡ updates.started now (start_emitted a) → queue ≡ drop many a.queue
       → many ≡ outdated now a.timing a.remote_creds a → record mid { queue = queue } ≡ timeout_begun now a
   begun now a mid queue many m q is = rw (m, q, is, outdated-left now a.timing a.remote_creds a) refl
 
@@ -125,6 +125,12 @@ module _ {H P : Type 0} where
   rejected-timeout_begun now a q CredentialsTooLong may = may
   rejected-timeout_begun now a q PriorityTooHigh may = may
   rejected-timeout_begun now a q LiteStaysControlled may = may
+
+  -- nor anything that a plan depends on
+  pub planned-still : (now : ℕ) (a : AgentRecord H P) (q : RequestRecord) (plan : Option (Places × Supplies)) → IsPlan a q plan
+      → IsPlan (first_taken (at_request now (timeout_begun now a))) q plan
+  planned-still now a q None is = is
+  planned-still now a q (Some plan) is = is
 
   -- why the call that serves this request fails
   pub rejected-late : (now : ℕ) (a : AgentRecord H P) (o : Option RequestRecord) (error : IceError) → o ≡ request_at now a

@@ -7,7 +7,7 @@ use Rattle.std.specs.List.{list_any, list_all}
 use Rattle.is_stun.specs.declared.timing.StunTiming.{StunTiming}
 use Rattle.is_candidate.specs.Candidates.{CandidateRecord}
 use Rattle.is_pair.specs.Multiset.{change_at, is_numbered, has_number, pair_numbered, put_pair, KeepsKeys, RecordsAnswer}
-use Rattle.is_pair.specs.Due.{asked, moved_up}
+use Rattle.is_pair.specs.Due.{scheduled, moved_up}
 use Rattle.is_pair.specs.Pairs.{PairRecord, checked, heard, heard_at, undue}
 use Rattle.is_rules.specs.declared.places.RemotePlace.TheVariants.{Known, Barred, Unknown, Vacant, Full}
 use Rattle.is_rules.specs.Answers.{joined_by}
@@ -74,9 +74,9 @@ pub placed-heard : (local remote : List CandidateRecord) (now : ℕ) (ps : List 
 placed-heard local remote now ps all =
     placed-mapped local remote (heard now) ps (record { local = λ p. (heard-places now p.last_request p).0; remote = λ p. (heard-places now p.last_request p).1 }) all
 
-pub placed-asked : (local remote : List CandidateRecord) (now : ℕ) (t : StunTiming) (ps : List PairRecord) → are_placed local remote ps ≡ true
-    → are_placed local remote (map (asked now t) ps) ≡ true
-placed-asked local remote now t ps all = placed-mapped local remote (asked now t) ps (record { local = λ p. refl; remote = λ p. refl }) all
+pub placed-scheduled : (local remote : List CandidateRecord) (now : ℕ) (t : StunTiming) (ps : List PairRecord) → are_placed local remote ps ≡ true
+    → are_placed local remote (map (scheduled now t) ps) ≡ true
+placed-scheduled local remote now t ps all = placed-mapped local remote (scheduled now t) ps (record { local = λ p. refl; remote = λ p. refl }) all
 
 pub placed-undue : (local remote : List CandidateRecord) (ps : List PairRecord) → are_placed local remote ps ≡ true → are_placed local remote (map undue ps) ≡ true
 placed-undue local remote ps all = placed-mapped local remote undue ps (record { local = λ p. refl; remote = λ p. refl }) all

@@ -15,7 +15,7 @@ use Rattle.is_rules.specs.Discarding.{local_discarded}
 use Rattle.is_rules.specs.Local.{comes_again, enabled, enabled_again, as_own, appended, is_too_high, is_unwanted, preferred, Enters, IsNotAdded, EnrolsAt, AddsLocal}
 use Rattle.is_rules.specs.Remote.{as_remote, is_ignored, AddsRemote, JoinsRemote}
 use Rattle.is_rules.proofs.PollsAndResponses.NextTimeout.{either}
-use Rattle.is_rules.specs.Settling.{settles, has_selected, loses_selected, Reselects, ReselectsAfter}
+use Rattle.is_rules.specs.StateUpdates.{updates_late, has_selected, loses_selected, Reselects, ReselectsAfter}
 
 -- a local candidate that gets no index
 abbrev HasNoIndex : Result (Option ℕ) IceError → Type 0
@@ -28,7 +28,7 @@ is-err (Err e) error h = ap Err h
 
 module _ {H P : Type 0} where
   loses-none : (a : AgentRecord H P) → loses_selected a a ≡ false
-  loses-none a = by (settles a) (has_selected a) where
+  loses-none a = by (updates_late a) (has_selected a) where
     by : (s h : Bool) → s && h && not h ≡ false
     by true true = refl
     by true false = refl
@@ -43,7 +43,7 @@ module _ {H P : Type 0} where
       (None, new, does, subst (λ (b : Bool). Reselects b new None new) (sym none) (refl, refl), nothing)
 
   -- what was known before the call decides, with what is there after it
-  pub selects-again : (Does : AgentRecord H P → Type 0) (old mid new : AgentRecord H P) (kept : Bool) (path : Option Path) (emitted : Emitted) → kept ≡ (settles old && has_selected old)
+  pub selects-again : (Does : AgentRecord H P → Type 0) (old mid new : AgentRecord H P) (kept : Bool) (path : Option Path) (emitted : Emitted) → kept ≡ (updates_late old && has_selected old)
       → Does mid → Reselects (kept && not (has_selected mid)) mid path new → emitted ≡ selected_only path → ReselectsAfter Does old emitted new
   selects-again Does old mid new kept path emitted is does made emits =
       let loses : (kept && not (has_selected mid)) ≡ loses_selected old mid = ap (λ (k : Bool). k && not (has_selected mid)) is in
@@ -117,7 +117,7 @@ module _ {H P : Type 0} where
 
     -- whether it was added or not, its index says if pairs may be gone
     pub adds-and-selects : (old mid new : AgentRecord H P) (c : CandidateRecord) (kept : Bool) (place : Option ℕ) (path : Option Path) (emitted : Emitted)
-        → kept ≡ (settles old && has_selected old) → AddsLocal answers old c (Ok place) mid
+        → kept ≡ (updates_late old && has_selected old) → AddsLocal answers old c (Ok place) mid
         → Reselects ((kept && is_some place) && not (has_selected mid)) mid path new → emitted ≡ selected_only path
         → ReselectsAfter (AddsLocal answers old c (Ok place)) old emitted new
     adds-and-selects old mid new c kept None path emitted is adds made emits =

@@ -6,7 +6,7 @@ ghost use Rattle.is_c.specs.ServersAdding.{AddsNew, AddsSigned, AddsStunAt, Adds
 
 use crate::codes;
 use crate::servers::ends::{Ends, ends_of};
-use crate::servers::home::ServersHome;
+use crate::servers::held::HeldServers;
 use crate::servers::slot::ServersSlot;
 use is_c_calls::Address;
 use is_proto::{DefaultSha1HmacProvider, Instant};
@@ -18,13 +18,13 @@ use std::alloc::{AllocError, Global};
 /// The number of UDP.
 const UDP: u8 = 0;
 
-fn add_stun(home: &mut ServersHome, now: u64, ends: Option<Ends>) -> i32
-    ensures { With ends (AddsStunAt now) (clients_of home.old) result (clients_of home.new) }
+fn add_stun(held: &mut HeldServers, now: u64, ends: Option<Ends>) -> i32
+    ensures { With ends (AddsStunAt now) (clients_of held.old) result (clients_of held.new) }
 {
     let Some(ends) = ends else {
         return codes::BAD_ADDRESS;
     };
-    match home.servers.add_stun(Instant(now), ends.local, ends.remote) {
+    match held.servers.add_stun(Instant(now), ends.local, ends.remote) {
         Ok(()) => codes::OK,
         Err(_) => codes::OUT_OF_MEMORY,
     }
@@ -41,10 +41,10 @@ pub extern "C" fn is_ice_servers_add_stun(
 ) -> i32
     ensures { AtClients (With (ends_of 0 local.now server.now) (AddsStunAt now)) (clients_held slot.old) result (clients_held slot.new) }
 {
-    let Some(home) = slot.home() else {
+    let Some(held) = slot.held() else {
         return codes::NO_SERVERS;
     };
-    add_stun(home, now, ends_of(UDP, local, server))
+    add_stun(held, now, ends_of(UDP, local, server))
 }
 
 // ---- a TURN client
@@ -114,19 +114,19 @@ fn new_client(
 /// Makes a client, and adds it.
 fn add_new(
     alloc: Global,
-    home: &mut ServersHome,
+    held: &mut HeldServers,
     now: u64,
     ends: Ends,
     family: Option<AddressFamily>,
     places: usize,
     credentials: Option<Credentials>,
 ) -> i32
-    ensures { SucceedsOr (AddsNew now ends family places credentials) (clients_of home.old) result (clients_of home.new) }
+    ensures { SucceedsOr (AddsNew now ends family places credentials) (clients_of held.old) result (clients_of held.new) }
 {
     let Ok(client) = new_client(alloc, ends, family, places, credentials) else {
         return codes::OUT_OF_MEMORY;
     };
-    match home
+    match held
         .servers
         .add_turn(Instant(now), ends.transport, ends.local, client)
     {
@@ -137,7 +137,7 @@ fn add_new(
 
 fn add_signed(
     alloc: Global,
-    home: &mut ServersHome,
+    held: &mut HeldServers,
     now: u64,
     ends: Ends,
     family: Option<AddressFamily>,
@@ -145,17 +145,17 @@ fn add_signed(
     username: &[u8],
     password: &[u8],
 ) -> i32
-    ensures { AddsSigned now ends family places username.now password.now (clients_of home.old) result (clients_of home.new) }
+    ensures { AddsSigned now ends family places username.now password.now (clients_of held.old) result (clients_of held.new) }
 {
     match credentials_of(username, password) {
-        Ok(credentials) => add_new(alloc, home, now, ends, family, places, credentials),
+        Ok(credentials) => add_new(alloc, held, now, ends, family, places, credentials),
         Err(code) => code,
     }
 }
 
 fn add_turn(
     alloc: Global,
-    home: &mut ServersHome,
+    held: &mut HeldServers,
     now: u64,
     ends: Option<Ends>,
     family: u8,
@@ -163,11 +163,11 @@ fn add_turn(
     username: &[u8],
     password: &[u8],
 ) -> i32
-    ensures { AddsTurnAt now ends family places username.now password.now (clients_of home.old) result (clients_of home.new) }
+    ensures { AddsTurnAt now ends family places username.now password.now (clients_of held.old) result (clients_of held.new) }
 {
     match (ends, family_of(family)) {
         (Some(ends), Some(family)) => add_signed(
-            alloc, home, now, ends, family, places, username, password,
+            alloc, held, now, ends, family, places, username, password,
         ),
         _ => codes::BAD_ADDRESS,
     }
@@ -190,12 +190,12 @@ pub extern "C" fn is_ice_servers_add_turn(
     ensures { AtClients (AddsTurnAt now (ends_of protocol local.now server.now) family places username.now password.now) (clients_held slot.old)
         result (clients_held slot.new) }
 {
-    let Some(home) = slot.home() else {
+    let Some(held) = slot.held() else {
         return codes::NO_SERVERS;
     };
     add_turn(
         alloc,
-        home,
+        held,
         now,
         ends_of(protocol, local, server),
         family,

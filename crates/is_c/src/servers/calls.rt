@@ -9,7 +9,7 @@ use crate::address::socket_of;
 use crate::codes;
 use crate::random::Given;
 use crate::servers::ends::end_of;
-use crate::servers::home::ServersHome;
+use crate::servers::held::HeldServers;
 use crate::servers::packets::NEEDED;
 use crate::servers::slot::ServersSlot;
 use is_c_calls::Address;
@@ -18,13 +18,13 @@ use is_servers::Transport;
 use std::alloc::Global;
 use std::net::SocketAddr;
 
-fn permit(home: &mut ServersHome, now: u64, peer: Option<SocketAddr>) -> i32
-    ensures { With peer (PermitsAt now) (clients_of home.old) result (clients_of home.new) }
+fn permit(held: &mut HeldServers, now: u64, peer: Option<SocketAddr>) -> i32
+    ensures { With peer (PermitsAt now) (clients_of held.old) result (clients_of held.new) }
 {
     let Some(peer) = peer else {
         return codes::BAD_ADDRESS;
     };
-    home.servers.permit(Instant(now), peer);
+    held.servers.permit(Instant(now), peer);
     codes::OK
 }
 
@@ -38,16 +38,16 @@ pub extern "C" fn is_ice_servers_permit(
 ) -> i32
     ensures { AtClients (With (socket_of peer.now) (PermitsAt now)) (clients_held slot.old) result (clients_held slot.new) }
 {
-    let Some(home) = slot.home() else {
+    let Some(held) = slot.held() else {
         return codes::NO_SERVERS;
     };
-    permit(home, now, socket_of(peer))
+    permit(held, now, socket_of(peer))
 }
 
-fn probe(home: &mut ServersHome, now: u64) -> i32
-    ensures { ProbesAt now (clients_of home.old) result (clients_of home.new) }
+fn probe(held: &mut HeldServers, now: u64) -> i32
+    ensures { ProbesAt now (clients_of held.old) result (clients_of held.new) }
 {
-    home.servers.probe(Instant(now));
+    held.servers.probe(Instant(now));
     codes::OK
 }
 
@@ -56,16 +56,16 @@ fn probe(home: &mut ServersHome, now: u64) -> i32
 pub extern "C" fn is_ice_servers_probe(alloc: Global, slot: &mut ServersSlot, now: u64) -> i32
     ensures { AtClients (ProbesAt now) (clients_held slot.old) result (clients_held slot.new) }
 {
-    let Some(home) = slot.home() else {
+    let Some(held) = slot.held() else {
         return codes::NO_SERVERS;
     };
-    probe(home, now)
+    probe(held, now)
 }
 
-fn close(home: &mut ServersHome, now: u64) -> i32
-    ensures { ClosesAt now (clients_of home.old) result (clients_of home.new) }
+fn close(held: &mut HeldServers, now: u64) -> i32
+    ensures { ClosesAt now (clients_of held.old) result (clients_of held.new) }
 {
-    home.servers.close(Instant(now));
+    held.servers.close(Instant(now));
     codes::OK
 }
 
@@ -74,19 +74,19 @@ fn close(home: &mut ServersHome, now: u64) -> i32
 pub extern "C" fn is_ice_servers_close(alloc: Global, slot: &mut ServersSlot, now: u64) -> i32
     ensures { AtClients (ClosesAt now) (clients_held slot.old) result (clients_held slot.new) }
 {
-    let Some(home) = slot.home() else {
+    let Some(held) = slot.held() else {
         return codes::NO_SERVERS;
     };
-    close(home, now)
+    close(held, now)
 }
 
-fn lose(home: &mut ServersHome, end: Option<(Transport, SocketAddr)>) -> i32
-    ensures { With end LosesEnd (clients_of home.old) result (clients_of home.new) }
+fn lose(held: &mut HeldServers, end: Option<(Transport, SocketAddr)>) -> i32
+    ensures { With end LosesEnd (clients_of held.old) result (clients_of held.new) }
 {
     let Some((transport, local)) = end else {
         return codes::BAD_ADDRESS;
     };
-    home.servers.lose(transport, local);
+    held.servers.lose(transport, local);
     codes::OK
 }
 
@@ -100,22 +100,22 @@ pub extern "C" fn is_ice_servers_lose(
 ) -> i32
     ensures { AtClients (With (end_of protocol local.now) LosesEnd) (clients_held slot.old) result (clients_held slot.new) }
 {
-    let Some(home) = slot.home() else {
+    let Some(held) = slot.held() else {
         return codes::NO_SERVERS;
     };
-    lose(home, end_of(protocol, local))
+    lose(held, end_of(protocol, local))
 }
 
 // ---- the clock
 
-fn time_out(home: &mut ServersHome, now: u64, random: &[u8]) -> i32
-    ensures { TimesOutAt now random.now (clients_of home.old) result (clients_of home.new) }
+fn time_out(held: &mut HeldServers, now: u64, random: &[u8]) -> i32
+    ensures { TimesOutAt now random.now (clients_of held.old) result (clients_of held.new) }
 {
     if random.len() < NEEDED {
         return codes::TOO_FEW_RANDOM_BYTES;
     }
     let mut given = Given { rest: random };
-    home.servers.handle_timeout(Instant(now), &mut given);
+    held.servers.handle_timeout(Instant(now), &mut given);
     codes::OK
 }
 
@@ -129,18 +129,18 @@ pub extern "C" fn is_ice_servers_handle_timeout(
 ) -> i32
     ensures { AtClients (TimesOutAt now random.now) (clients_held slot.old) result (clients_held slot.new) }
 {
-    let Some(home) = slot.home() else {
+    let Some(held) = slot.held() else {
         return codes::NO_SERVERS;
     };
-    time_out(home, now, random)
+    time_out(held, now, random)
 }
 
 // ---- questions
 
-fn put_next_time(home: &mut ServersHome, at: &mut u64) -> i32
-    ensures { ReturnsNextTime at.old at.new (clients_of home.old) result (clients_of home.new) }
+fn put_next_time(held: &mut HeldServers, at: &mut u64) -> i32
+    ensures { ReturnsNextTime at.old at.new (clients_of held.old) result (clients_of held.new) }
 {
-    match home.servers.poll_timeout() {
+    match held.servers.poll_timeout() {
         Some(time) => {
             *at = time.0;
             codes::OK
@@ -159,16 +159,16 @@ pub extern "C" fn is_ice_servers_poll_timeout(
     ensures polled { AtClients (ReturnsNextTime at.old at.new) (clients_held slot.old) result (clients_held slot.new) }
     ensures without { clients_held slot.old ≡ None → at.new ≡ at.old }
 {
-    let Some(home) = slot.home() else {
+    let Some(held) = slot.held() else {
         return codes::NO_SERVERS;
     };
-    put_next_time(home, at)
+    put_next_time(held, at)
 }
 
-fn gathering(home: &mut ServersHome) -> i32
-    ensures { ReturnsGathering (clients_of home.old) result (clients_of home.new) }
+fn gathering(held: &mut HeldServers) -> i32
+    ensures { ReturnsGathering (clients_of held.old) result (clients_of held.new) }
 {
-    codes::found_code(home.servers.is_gathering())
+    codes::found_code(held.servers.is_gathering())
 }
 
 /// Whether a client waits for its first answer.
@@ -176,8 +176,8 @@ fn gathering(home: &mut ServersHome) -> i32
 pub extern "C" fn is_ice_servers_gathering(alloc: Global, slot: &mut ServersSlot) -> i32
     ensures { AtClients ReturnsGathering (clients_held slot.old) result (clients_held slot.new) }
 {
-    let Some(home) = slot.home() else {
+    let Some(held) = slot.held() else {
         return codes::NO_SERVERS;
     };
-    gathering(home)
+    gathering(held)
 }

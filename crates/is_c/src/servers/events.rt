@@ -7,7 +7,7 @@ ghost use Rattle.is_c.specs.ServersEvents.{why_number, code_number, portless, ma
 use crate::address::address_of;
 use crate::codes;
 use crate::servers::ends::number_of;
-use crate::servers::home::ServersHome;
+use crate::servers::held::HeldServers;
 use crate::servers::slot::ServersSlot;
 use is_c_calls::Address;
 use is_servers::{Happened, ServerEvent, Transport};
@@ -22,21 +22,21 @@ pub struct Event {
     /// The client's socket or connection.
     pub local: Address,
     pub server: Address,
-    /// Of kind 2.
+    /// The relayed address, of kind 2.
     pub relayed: Address,
-    /// Of kind 1, and of kind 2 if `has_mapped` is set.
+    /// The mapped address, of kind 1, and of kind 2 if `has_mapped` is set.
     pub mapped: Address,
-    /// Of kind 3: its IP address.
+    /// The IP address of the peer that is not permitted, of kind 3.
     pub peer: Address,
     pub kind: i32,
-    /// Of kind 4: 0 failed, 1 lost, 2 closed.
+    /// Why the client ended, of kind 4: 0 failed, 1 lost, 2 closed.
     pub why: i32,
-    /// Of kinds 3 and 4: of the server's error response, or 0.
+    /// The code of the server's error response, of kinds 3 and 4, or 0.
     pub code: u16,
-    /// Of kind 4: of a response that nobody signed, or 0.
+    /// The code of a response that nobody signed, of kind 4, or 0.
     pub unverified: u16,
     pub protocol: u8,
-    /// Of kind 2.
+    /// Whether there is a mapped address, of kind 2.
     pub has_mapped: bool,
 }
 
@@ -50,7 +50,7 @@ fn why_number(why: Why) -> i32
     }
 }
 
-/// 0: there was no response.
+/// The code of a response as a number. 0: there was no response.
 fn code_number(code: Option<u16>) -> u16
     ensures { result ≡ code_number code }
 {
@@ -118,7 +118,7 @@ fn put_what(transport: Transport, what: Happened, event: &mut Event)
     }
 }
 
-/// Writes whose event it is.
+/// Writes of which client the event is.
 fn put_client(given: &ServerEvent, event: &mut Event)
     ensures { IsOf given.now event.old event.new }
 {
@@ -147,10 +147,10 @@ fn put_next(given: Option<ServerEvent>, event: &mut Event) -> i32
     }
 }
 
-fn next_event(home: &mut ServersHome, event: &mut Event) -> i32
-    ensures { ReturnsNext event.old event.new (clients_of home.old) result (clients_of home.new) }
+fn next_event(held: &mut HeldServers, event: &mut Event) -> i32
+    ensures { ReturnsNext event.old event.new (clients_of held.old) result (clients_of held.new) }
 {
-    put_next(home.servers.poll_event(), event)
+    put_next(held.servers.poll_event(), event)
 }
 
 /// The next event of a client. What its kind does not have is left as it was.
@@ -163,8 +163,8 @@ pub extern "C" fn is_ice_servers_poll_event(
     ensures polled { AtClients (ReturnsNext event.old event.new) (clients_held slot.old) result (clients_held slot.new) }
     ensures without { clients_held slot.old ≡ None → event.new ≡ event.old }
 {
-    let Some(home) = slot.home() else {
+    let Some(held) = slot.held() else {
         return codes::NO_SERVERS;
     };
-    next_event(home, event)
+    next_event(held, event)
 }

@@ -9,7 +9,7 @@ ghost use Rattle.is_c.specs.ServersHeld.{clients_held, MakesClients};
 ghost use Rattle.is_c.specs.contracts.servers.slot.ServersSlot.{the_row as slot_row};
 
 use crate::codes;
-use crate::servers::home::ServersHome;
+use crate::servers::held::HeldServers;
 use crate::servers::slot::ServersSlot;
 use is_servers::Servers;
 use std::alloc::Global;
@@ -22,12 +22,12 @@ pub extern "C" fn is_ice_servers_new(alloc: Global, slot: &mut ServersSlot) -> i
     if slot.is_held() {
         return codes::HAS_SERVERS;
     }
-    let home = ServersHome {
+    let held = HeldServers {
         servers: Servers::new(alloc),
     };
-    match Box::new(alloc, home) {
-        Ok(home) => {
-            *slot = ServersSlot::of(home);
+    match Box::new(alloc, held) {
+        Ok(held) => {
+            *slot = ServersSlot::of(held);
             codes::OK
         }
         Err(_) => codes::OUT_OF_MEMORY,
@@ -44,9 +44,9 @@ pub(crate) fn free(alloc: Global, slot: &mut ServersSlot)
 /// Frees the clients of a slot, if it holds any. At a null pointer it does nothing, as `free` of C does.
 #[unsafe(no_mangle)]
 pub unsafe extern "C" fn is_ice_servers_free(alloc: Global, slot: *mut ServersSlot)
-    ghost held: { ServersSlot }
+    ghost before: { ServersSlot }
     requires testable { Testable slot }
-    requires* memory { sem 𝓛 (if_non_null slot (lies_at slot_row full_share slot held)) }
+    requires* memory { sem 𝓛 (if_non_null slot (lies_at slot_row full_share slot before)) }
     ensures* freed { sem 𝓛 (if_non_null slot (freed_at slot)) }
 {
     if slot.is_null() {

@@ -9,7 +9,7 @@ ghost use Rattle.is_c.specs.ServersPackets.{IsArrival, PutsArrival, TakesArrival
 use crate::address::address_of;
 use crate::codes;
 use crate::servers::ends::{Ends, ends_of, number_of, pair_of};
-use crate::servers::home::ServersHome;
+use crate::servers::held::HeldServers;
 use crate::servers::places::offset_of;
 use crate::servers::slot::ServersSlot;
 use crate::stun_write::write_code;
@@ -28,7 +28,7 @@ use std::net::SocketAddr;
 pub struct Arrival {
     pub source: Address,
     pub destination: Address,
-    /// Its first byte.
+    /// The index of the datagram's first byte in the bytes that the caller passed.
     pub offset: usize,
     pub length: usize,
 }
@@ -61,16 +61,16 @@ fn put_arrival(bytes: &[u8], arrived: Option<Datagram<'_>>, arrival: &mut Arriva
 }
 
 fn take_arrival(
-    home: &mut ServersHome,
+    held: &mut HeldServers,
     now: u64,
     ends: Ends,
     bytes: &[u8],
     arrival: &mut Arrival,
 ) -> i32
-    ensures { TakesArrival ⟦<DefaultSha1HmacProvider as Sha1HmacProvider>⟧.mac now bytes.now arrival.old arrival.new ends (clients_of home.old)
-        result (clients_of home.new) }
+    ensures { TakesArrival ⟦<DefaultSha1HmacProvider as Sha1HmacProvider>⟧.mac now bytes.now arrival.old arrival.new ends (clients_of held.old)
+        result (clients_of held.new) }
 {
-    let arrived = home.servers.receive(
+    let arrived = held.servers.receive(
         Instant(now),
         ends.transport,
         ends.local,
@@ -81,17 +81,17 @@ fn take_arrival(
 }
 
 fn take_with(
-    home: &mut ServersHome,
+    held: &mut HeldServers,
     now: u64,
     ends: Option<Ends>,
     bytes: &[u8],
     arrival: &mut Arrival,
 ) -> i32
-    ensures { TakesWith ⟦<DefaultSha1HmacProvider as Sha1HmacProvider>⟧.mac now ends bytes.now arrival.old arrival.new (clients_of home.old)
-        result (clients_of home.new) }
+    ensures { TakesWith ⟦<DefaultSha1HmacProvider as Sha1HmacProvider>⟧.mac now ends bytes.now arrival.old arrival.new (clients_of held.old)
+        result (clients_of held.new) }
 {
     match ends {
-        Some(ends) => take_arrival(home, now, ends, bytes, arrival),
+        Some(ends) => take_arrival(held, now, ends, bytes, arrival),
         None => codes::BAD_ADDRESS,
     }
 }
@@ -112,11 +112,11 @@ pub extern "C" fn is_ice_servers_receive(
         bytes.now arrival.old arrival.new) (clients_held slot.old) result (clients_held slot.new) }
     ensures without { clients_held slot.old ≡ None → arrival.new ≡ arrival.old }
 {
-    let Some(home) = slot.home() else {
+    let Some(held) = slot.held() else {
         return codes::NO_SERVERS;
     };
     take_with(
-        home,
+        held,
         now,
         ends_of(protocol, destination, source),
         bytes,
@@ -165,7 +165,7 @@ fn put_outgoing(outcome: Result<ServerOutgoing, StunError>, packet: &mut Packet)
 }
 
 fn go_out(
-    home: &mut ServersHome,
+    held: &mut HeldServers,
     now: u64,
     pair: (SocketAddr, SocketAddr),
     bytes: &[u8],
@@ -174,17 +174,17 @@ fn go_out(
     packet: &mut Packet,
 ) -> i32
     requires { 12 ≤ length random.now }
-    ensures { GoesOut now bytes.now random.now buffer.old buffer.new packet.old packet.new pair (clients_of home.old) result (clients_of home.new) }
+    ensures { GoesOut now bytes.now random.now buffer.old buffer.new packet.old packet.new pair (clients_of held.old) result (clients_of held.new) }
 {
     let id = id_in(random);
-    let outcome = home
+    let outcome = held
         .servers
         .outgoing(Instant(now), pair.0, pair.1, bytes, &id, buffer);
     put_outgoing(outcome, packet)
 }
 
 fn go_out_with(
-    home: &mut ServersHome,
+    held: &mut HeldServers,
     now: u64,
     pair: Option<(SocketAddr, SocketAddr)>,
     bytes: &[u8],
@@ -192,13 +192,13 @@ fn go_out_with(
     buffer: &mut [u8],
     packet: &mut Packet,
 ) -> i32
-    ensures { GoesOutAt now pair bytes.now random.now buffer.old buffer.new packet.old packet.new (clients_of home.old) result (clients_of home.new) }
+    ensures { GoesOutAt now pair bytes.now random.now buffer.old buffer.new packet.old packet.new (clients_of held.old) result (clients_of held.new) }
 {
     if random.len() < NEEDED {
         return codes::TOO_FEW_RANDOM_BYTES;
     }
     match pair {
-        Some(pair) => go_out(home, now, pair, bytes, random, buffer, packet),
+        Some(pair) => go_out(held, now, pair, bytes, random, buffer, packet),
         None => codes::BAD_ADDRESS,
     }
 }
@@ -220,11 +220,11 @@ pub extern "C" fn is_ice_servers_outgoing(
         (clients_held slot.old) result (clients_held slot.new) }
     ensures without { clients_held slot.old ≡ None → (buffer.new ≡ buffer.old) × (packet.new ≡ packet.old) }
 {
-    let Some(home) = slot.home() else {
+    let Some(held) = slot.held() else {
         return codes::NO_SERVERS;
     };
     go_out_with(
-        home,
+        held,
         now,
         pair_of(source, destination),
         bytes,
@@ -247,11 +247,11 @@ fn put_polled(outcome: Result<Option<ServerPacket>, StunError>, packet: &mut Pac
     }
 }
 
-fn give_next(home: &mut ServersHome, buffer: &mut [u8], packet: &mut Packet) -> i32
-    ensures { GivesNext ⟦<DefaultSha1HmacProvider as Sha1HmacProvider>⟧.mac buffer.old buffer.new packet.old packet.new (clients_of home.old) result
-        (clients_of home.new) }
+fn give_next(held: &mut HeldServers, buffer: &mut [u8], packet: &mut Packet) -> i32
+    ensures { GivesNext ⟦<DefaultSha1HmacProvider as Sha1HmacProvider>⟧.mac buffer.old buffer.new packet.old packet.new (clients_of held.old) result
+        (clients_of held.new) }
 {
-    put_polled(home.servers.poll_transmit(buffer), packet)
+    put_polled(held.servers.poll_transmit(buffer), packet)
 }
 
 /// The next packet of a client: its bytes are written to the front of the buffer. One that is longer than the buffer stays.
@@ -266,8 +266,8 @@ pub extern "C" fn is_ice_servers_poll_transmit(
         (clients_held slot.old) result (clients_held slot.new) }
     ensures without { clients_held slot.old ≡ None → (buffer.new ≡ buffer.old) × (packet.new ≡ packet.old) }
 {
-    let Some(home) = slot.home() else {
+    let Some(held) = slot.held() else {
         return codes::NO_SERVERS;
     };
-    give_next(home, buffer, packet)
+    give_next(held, buffer, packet)
 }

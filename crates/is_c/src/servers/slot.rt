@@ -4,7 +4,7 @@ ghost use Rattle.std.specs.Prelude.{◌≡◌, None, Some, is_some, option_map};
 use crate::handle::Opaque;
 use crate::parts::Parts;
 use crate::servers::handle::ServersHandle;
-use crate::servers::home::ServersHome;
+use crate::servers::held::HeldServers;
 use std::alloc::Global;
 
 fn nowhere() -> *mut Opaque {
@@ -16,7 +16,7 @@ fn nowhere() -> *mut Opaque {
 pub struct ServersSlot {
     is_held: bool,
     handle: ServersHandle,
-    ghost agrees: { is_held ≡ is_some handle.home },
+    ghost agrees: { is_held ≡ is_some handle.held },
 }
 
 impl ServersSlot {
@@ -25,7 +25,7 @@ impl ServersSlot {
 
     /// Holds nothing.
     pub(crate) fn empty(alloc: Global) -> ServersSlot
-        ensures { result.handle.home ≡ None }
+        ensures { result.handle.held ≡ None }
     {
         ServersSlot {
             is_held: false,
@@ -34,18 +34,18 @@ impl ServersSlot {
     }
 
     /// Holds these clients.
-    pub(crate) fn of(home: Box<ServersHome>) -> ServersSlot
-        ensures { result.handle.home ≡ Some home.value }
+    pub(crate) fn of(held: Box<HeldServers>) -> ServersSlot
+        ensures { result.handle.held ≡ Some held.value }
     {
         ServersSlot {
             is_held: true,
-            handle: ServersHandle::of_parts(Parts::of(home)),
+            handle: ServersHandle::of_parts(Parts::of(held)),
         }
     }
 
     /// What is held.
-    pub(crate) fn into_home(self) -> Option<Box<ServersHome>>
-        ensures { option_map (λ home. home.value) result ≡ self.handle.home }
+    pub(crate) fn into_held(self) -> Option<Box<HeldServers>>
+        ensures { option_map (λ held. held.value) result ≡ self.handle.held }
     {
         let ServersSlot { is_held, handle } = self;
         if is_held {
@@ -57,15 +57,15 @@ impl ServersSlot {
 
     /// Whether it holds clients, which may be none yet.
     pub(crate) fn is_held(&self) -> bool
-        ensures { result ≡ is_some self.now.handle.home }
+        ensures { result ≡ is_some self.now.handle.held }
     {
         self.is_held
     }
 
     /// What is held, in its place: what the caller does to it is done to what the slot holds.
-    pub(crate) fn home(&mut self) -> Option<&mut ServersHome>
+    pub(crate) fn held(&mut self) -> Option<&mut HeldServers>
         ensures* writes_back { sem 𝓛 (BorrowsHeld self.entry result) }
-        ensures value { option_map (λ home. home.now) result ≡ self.old.handle.home }
+        ensures value { option_map (λ held. held.now) result ≡ self.old.handle.held }
     {
         if self.is_held {
             Some(self.handle.as_mut())
@@ -75,16 +75,16 @@ impl ServersSlot {
     }
 
     /// Takes what is held, and leaves nothing.
-    pub(crate) fn take(&mut self, alloc: Global) -> Option<Box<ServersHome>>
-        ensures taken { option_map (λ home. home.value) result ≡ self.old.handle.home }
-        ensures left { self.new.handle.home ≡ None }
+    pub(crate) fn take(&mut self, alloc: Global) -> Option<Box<HeldServers>>
+        ensures taken { option_map (λ held. held.value) result ≡ self.old.handle.held }
+        ensures left { self.new.handle.held ≡ None }
     {
-        std::mem::replace(self, ServersSlot::empty(alloc)).into_home()
+        std::mem::replace(self, ServersSlot::empty(alloc)).into_held()
     }
 }
 
 impl Drop for ServersSlot {
     fn drop(self) {
-        drop(self.into_home());
+        drop(self.into_held());
     }
 }

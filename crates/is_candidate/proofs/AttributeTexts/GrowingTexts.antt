@@ -1,7 +1,5 @@
 -- The texts of words, as a list of them grows at its end.
-use Rattle.std.proofs.Common.{◌≡◌, ℕ, List, [], ◌∷◌, ◌++◌, refl, ap}
-use Rattle.std.specs.Borrow.{Bor}
-use Rattle.is_candidate.specs.Scanned.{texts}
+use Rattle.is_candidate.proofs.Common.{[], ◌++◌, ◌∷◌, ◌≡◌, ap, Bor, List, refl, texts, ℕ}
 
 pub texts-push : (xs : List (Bor (List ℕ))) (w : Bor (List ℕ)) (ws : List (List ℕ)) → texts xs ++ (w.now ∷ ws) ≡ texts (xs ++ w ∷ []) ++ ws
 texts-push [] w ws = refl

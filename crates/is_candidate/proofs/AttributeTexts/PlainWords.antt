@@ -1,29 +1,17 @@
 -- What is printed of numbers, foundations, addresses and names is one word each.
-use Rattle.std.proofs.Common.{◌≡◌, ℕ, zero, suc, ◌+◌, ◌-◌, ◌/◌, ◌%◌, ◌^◌, ◌<◌, ◌≤◌, ◌==◌, Bool, true, false, List, [], ◌∷◌, ◌++◌, length, replicate, decimal, codes, rules, All, refl, sym, ap, ◌∙◌, arith, inl, inr, length-append}
 use Rattle.std.proofs.lemmas.Bool.{agree_below_at, cond_both}
-use Rattle.std.proofs.lemmas.Bool.Decides.{nat_tests}
 use Rattle.std.proofs.lemmas.List.Elements.{All-nil, All-cons, All-head, All-tail, All-same, All-append, All-replicate, All-from_recursion}
-use Rattle.std.proofs.lemmas.Fmt.{decimal_is_IsNumeral}
 use Rattle.std.proofs.lemmas.Str.{encodes-IsAscii}
-use Rattle.std.specs.Char.{is_whitespace, digit_value}
 use Rattle.std.specs.Fmt.{digits, digits_onto, digit_glyph}
 use Rattle.std.specs.List.{AllByRecursion}
-use Rattle.std.specs.Str.{NonePass, IsAscii}
 use Rattle.std.specs.Str.Parse.{AllDigits}
-use Rattle.std.specs.declared.net.ip_addr.IpAddr.{IpAddr}
 use Rattle.std.specs.declared.net.ip_addr.IpAddr.TheVariants as Ip
-use Rattle.std.specs.Net.Grammar.{IsDotted, IsGroupsAfter, IsGroups, IsColonHex, IsIpText}
-use Rattle.is_proto.specs.declared.proto.Protocol.{Protocol}
-use Rattle.is_proto.specs.declared.proto.Protocol.TheVariants.{Udp, Tcp, SslTcp, Tls}
-use Rattle.is_proto.specs.declared.proto.TcpType.{TcpType}
-use Rattle.is_proto.specs.declared.proto.TcpType.TheVariants.{Active, Passive, So}
-use Rattle.is_proto.specs.Words.{protocol_word, tcp_type_word}
-use Rattle.is_candidate.specs.declared.candidate.kind.CandidateKind.{CandidateKind}
-use Rattle.is_candidate.specs.declared.candidate.kind.CandidateKind.TheVariants.{Host, PeerReflexive, ServerReflexive, Relayed}
-use Rattle.is_candidate.specs.Candidates.{CandidateRecord}
-use Rattle.is_candidate.specs.Foundations.{computed_foundation}
-use Rattle.is_candidate.specs.Kinds.{kind_word}
-use Rattle.is_candidate.specs.Words.{IsVisible, IsWord}
+use Rattle.is_candidate.proofs.Common.{[], ◌%◌, ◌++◌, ◌+◌, ◌-◌, ◌/◌, ◌<◌, ◌==◌, ◌^◌, ◌∙◌, ◌∷◌, ◌≡◌, ◌≤◌, Active, All, ap, arith, Bool}
+use Rattle.is_candidate.proofs.Common.{CandidateKind, CandidateRecord, codes, computed_foundation, decimal, decimal_is_IsNumeral}
+use Rattle.is_candidate.proofs.Common.{digit_value, false, Host, inl, inr, IpAddr, is_whitespace, IsAscii, IsColonHex, IsDotted, IsGroups}
+use Rattle.is_candidate.proofs.Common.{IsGroupsAfter, IsIpText, IsVisible, IsWord, kind_word, length, length-append, List, nat_tests}
+use Rattle.is_candidate.proofs.Common.{NonePass, Passive, PeerReflexive, Protocol, protocol_word, refl, Relayed, replicate, rules}
+use Rattle.is_candidate.proofs.Common.{ServerReflexive, So, SslTcp, suc, sym, Tcp, tcp_type_word, TcpType, Tls, true, Udp, zero, ℕ}
 
 not_space : (c : ℕ) → IsVisible c → is_whitespace c ≡ false
 not_space c visible =
@@ -42,7 +30,7 @@ all_ascii (c ∷ cs) seen (suc i) = all_ascii cs (All-tail IsVisible c cs seen) 
 pub visible_word : (text : List ℕ) → 0 < length text → All IsVisible text → IsWord text
 visible_word text some seen = (some, (text, encodes-IsAscii text (all_ascii text seen), none_space text seen))
 
--- the same of a text that is written out here
+-- a text of visible characters that is written out here is a word
 spelled_word : (text : List ℕ) → 0 < length text → AllByRecursion IsVisible text → IsWord text
 spelled_word text some seen = visible_word text some (All-from_recursion IsVisible text seen)
 

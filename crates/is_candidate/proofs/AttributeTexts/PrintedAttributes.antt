@@ -1,33 +1,24 @@
 -- A printed candidate attribute reads as the candidate that it describes.
-use Rattle.std.proofs.Common.{◌≡◌, ℕ, ◌^◌, ◌<◌, cond, List, [], ◌∷◌, ◌++◌, get_or, drop, codes, decimal, Option, unwrap_or, IfSome, Some, None, Ok, refl, sym, ap, ◌∙◌, arith, inl, inr, ne_eqb, append_assoc}
-use Rattle.std.proofs.lemmas.List.{append-nil}
-use Rattle.std.proofs.lemmas.Fmt.{decimal_is_IsNumeral}
 use Rattle.std.proofs.lemmas.Str.Parse.{digit_at}
 use Rattle.std.proofs.NetLemmas.Texts.{IsDotted-ipv4_text, IsColonHex-ipv6_text}
 use Rattle.std.specs.Str.Parse.{without_leading_plus}
-use Rattle.std.specs.declared.net.ip_addr.IpAddr.{IpAddr}
 use Rattle.std.specs.declared.net.ip_addr.IpAddr.TheVariants as Ip
-use Rattle.std.specs.declared.net.socket_addr.SocketAddr.{SocketAddr}
 use Rattle.std.specs.declared.net.socket_addr.SocketAddr.TheVariants.{V4, V6}
 use Rattle.std.specs.Net.Addr.{IsIpv4Addr, IsIpv6Addr, MatchIp}
-use Rattle.std.specs.Net.Grammar.{IsIpText}
 use Rattle.std.specs.Net.Socket.{socket_ip, socket_port}
 use Rattle.std.specs.Net.Text.{ip_text}
-use Rattle.is_proto.specs.declared.proto.Protocol.{Protocol}
-use Rattle.is_proto.specs.declared.proto.Protocol.TheVariants.{Udp, Tcp, SslTcp, Tls}
-use Rattle.is_proto.specs.declared.proto.TcpType.{TcpType}
-use Rattle.is_proto.specs.declared.proto.TcpType.TheVariants.{Active, Passive, So}
-use Rattle.is_proto.specs.Words.{protocol_word, tcp_type_word, Spells}
-use Rattle.is_candidate.specs.Candidates.{CandidateRecord}
-use Rattle.is_candidate.specs.Foundations.{foundation_of, computed_foundation}
-use Rattle.is_candidate.specs.Kinds.{kind_word}
 use Rattle.is_candidate.specs.Making.{signalled_candidate}
-use Rattle.is_candidate.specs.Lines.{Answer, IsNumberBelow, Keys, ReadsHead, ReadsPlace, ReadsKeys, no_keys, related_address, ReadsWords}
-use Rattle.is_candidate.specs.Priorities.{candidate_priority}
-use Rattle.is_candidate.specs.RoundTrips.{reported_address, reported_related, PartsFit, as_signalled, HasPlainTexts, LineRoundTrips}
 use Rattle.is_candidate.specs.Sdp.{front_text, place_text, related_text, role_text, fragment_text, sdp_text}
-use Rattle.is_candidate.specs.Words.{IsWord}
-use Rattle.is_candidate.proofs.AttributeTexts.PlainWords.{decimal_word, foundation_word, ip_word, protocol_is_word, role_is_word, kind_is_word, typ_is_word, raddr_is_word, rport_is_word, tcptype_is_word, ufrag_is_word}
+use Rattle.is_candidate.proofs.Common.{[], ◌++◌, ◌<◌, ◌^◌, ◌∙◌, ◌∷◌, ◌≡◌, Active, Answer, ap, append-nil, append_assoc, arith, as_signalled}
+use Rattle.is_candidate.proofs.Common.{candidate_priority, CandidateRecord, codes, computed_foundation, cond, decimal, decimal_is_IsNumeral}
+use Rattle.is_candidate.proofs.Common.{drop, foundation_of, get_or, HasPlainTexts, IfSome, inl, inr, IpAddr, IsIpText, IsNumberBelow}
+use Rattle.is_candidate.proofs.Common.{IsWord, Keys, kind_word, LineRoundTrips, List, ne_eqb, no_keys, None, Ok, Option, PartsFit, Passive}
+use Rattle.is_candidate.proofs.Common.{Protocol, protocol_word, ReadsHead, ReadsKeys, ReadsPlace, ReadsWords, refl, related_address}
+use Rattle.is_candidate.proofs.Common.{reported_address, reported_related, So, SocketAddr, Some, Spells, SslTcp, sym, Tcp, tcp_type_word}
+use Rattle.is_candidate.proofs.Common.{TcpType, Tls, Udp, unwrap_or, ℕ}
+use Rattle.is_candidate.proofs.AttributeTexts.PlainWords.{decimal_word, foundation_word, ip_word, protocol_is_word, role_is_word}
+use Rattle.is_candidate.proofs.AttributeTexts.PlainWords.{kind_is_word, typ_is_word, raddr_is_word, rport_is_word, tcptype_is_word}
+use Rattle.is_candidate.proofs.AttributeTexts.PlainWords.{ufrag_is_word}
 use Rattle.is_candidate.proofs.AttributeTexts.SpacedWords.{AllWords, spaced, all_words-append, spaced-append, line_words}
 
 -- ---- each word reads

@@ -1,9 +1,6 @@
 -- One step of the loop over the keys reads one more key and its value.
-use Rattle.std.proofs.Common.{◌≡◌, ℕ, zero, suc, ◌+◌, ◌<◌, List, [], ◌∷◌, length, drop, get_or, slice_get, None, Ok, Err, sym, subst, arith}
-use Rattle.std.specs.Borrow.{Bor}
-use Rattle.std.specs.Option.{option_copied}
-use Rattle.is_candidate.specs.Lines.{Answer, Keys, ReadsKey, Then, ReadsKeys}
-use Rattle.is_candidate.specs.Scanned.{texts}
+use Rattle.is_candidate.proofs.Common.{[], ◌+◌, ◌<◌, ◌∷◌, ◌≡◌, Answer, arith, Bor, drop, Err, get_or, Keys, length, List, None, Ok}
+use Rattle.is_candidate.proofs.Common.{option_copied, ReadsKey, ReadsKeys, slice_get, subst, suc, sym, texts, Then, zero, ℕ}
 
 last-key : (key : List ℕ) (k : Keys) (s r : Answer Keys) → ReadsKey key None k s → Then s r (λ next. ReadsKeys next [] r) → ReadsKey key None k r
 last-key key k (Ok n) r h e = let P : Answer Keys → Type 0 = ReadsKey key None k in subst P (sym e) h

@@ -1,9 +1,8 @@
 -- Words with a space before each.
-use Rattle.std.proofs.Common.{◌≡◌, ℕ, ◌+◌, ◌<◌, ◌≤◌, ◌⊎◌, inl, inr, List, [], ◌∷◌, ◌++◌, length, take, drop, get_or, All, refl, ap, ◌∙◌, arith, sym, append_assoc}
-use Rattle.std.proofs.lemmas.List.{drop_more, length-drop, length-take-le, take-append-drop}
 use Rattle.std.proofs.lemmas.Str.{encode_ascii, NoCharPasses-nil}
-use Rattle.std.specs.Char.{is_not_whitespace}
-use Rattle.is_candidate.specs.Words.{IsGap, IsWord, IsVisible, EndsWord, BeginsWithWord, HasWords}
+use Rattle.is_candidate.proofs.Common.{[], ◌++◌, ◌+◌, ◌<◌, ◌∙◌, ◌∷◌, ◌≡◌, ◌≤◌, ◌⊎◌, All, ap, append_assoc, arith, BeginsWithWord, drop}
+use Rattle.is_candidate.proofs.Common.{drop_more, EndsWord, get_or, HasWords, inl, inr, is_not_whitespace, IsGap, IsVisible, IsWord, length}
+use Rattle.is_candidate.proofs.Common.{length-drop, length-take-le, List, refl, sym, take, take-append-drop, ℕ}
 use Rattle.is_candidate.proofs.AttributeTexts.PlainWords.{visible_word}
 
 abbrev pub AllWords : List (List ℕ) → Type 0

@@ -1,21 +1,12 @@
 -- A text has one reading: one candidate, or one first fault.
-use Rattle.std.proofs.Common.{◌≡◌, ℕ, ◌^◌, Bool, true, false, List, [], ◌∷◌, drop, codes, bytes_eq, Option, Some, None, Ok, Err, refl, sym, ap, subst, ◌∙◌, inl, inr, if◌then◌else◌}
-use Rattle.std.specs.Bool.{MatchBool}
-use Rattle.std.specs.Option.{MatchOption}
-use Rattle.std.specs.declared.net.ip_addr.IpAddr.{IpAddr}
-use Rattle.std.specs.Net.Grammar.{IsIpText}
 use Rattle.std.proofs.NetLemmas.Theorems.{IsIpText_unique}
-use Rattle.is_proto.specs.declared.proto.Protocol.{Protocol}
-use Rattle.is_proto.specs.declared.proto.Protocol.TheVariants.{Udp, Tcp, SslTcp, Tls}
-use Rattle.is_proto.specs.declared.proto.TcpType.{TcpType}
-use Rattle.is_proto.specs.declared.proto.TcpType.TheVariants.{Active, Passive, So}
-use Rattle.is_proto.specs.Words.{protocol_word, tcp_type_word, Spells}
-use Rattle.is_candidate.specs.declared.candidate.kind.CandidateKind.{CandidateKind}
-use Rattle.is_candidate.specs.declared.candidate.kind.CandidateKind.TheVariants.{Host, PeerReflexive, ServerReflexive, Relayed}
-use Rattle.is_candidate.specs.Kinds.{kind_word}
-use Rattle.is_candidate.specs.Candidates.{CandidateRecord}
-use Rattle.is_candidate.specs.Words.{HasWords}
-use Rattle.is_candidate.specs.Lines.{Answer, IsNumberBelow, ReadsAs, Then, Head, Place, Keys, ReadsPriority, ReadsTransport, ReadsComponent, ReadsHead, ReadsKind, ReadsTyp, ReadsPort, ReadsPlace, TakesValue, ReadsKey, ReadsKeys, no_keys, ReadsWords, HasRest, ReadsText}
+use Rattle.is_candidate.proofs.Common.{[], ◌^◌, ◌∙◌, ◌∷◌, ◌≡◌, Active, Answer, ap, Bool, bytes_eq, CandidateKind, CandidateRecord, codes}
+use Rattle.is_candidate.proofs.Common.{drop, Err, false, HasRest, HasWords, Head, Host, if◌then◌else◌, inl, inr, IpAddr, IsIpText}
+use Rattle.is_candidate.proofs.Common.{IsNumberBelow, Keys, kind_word, List, MatchBool, MatchOption, no_keys, None, Ok, Option, Passive}
+use Rattle.is_candidate.proofs.Common.{PeerReflexive, Place, Protocol, protocol_word, ReadsAs, ReadsComponent, ReadsHead, ReadsKey}
+use Rattle.is_candidate.proofs.Common.{ReadsKeys, ReadsKind, ReadsPlace, ReadsPort, ReadsPriority, ReadsText, ReadsTransport, ReadsTyp}
+use Rattle.is_candidate.proofs.Common.{ReadsWords, refl, Relayed, ServerReflexive, So, Some, Spells, SslTcp, subst, sym, TakesValue, Tcp}
+use Rattle.is_candidate.proofs.Common.{tcp_type_word, TcpType, Then, Tls, true, Udp, ℕ}
 use Rattle.is_candidate.proofs.AttributeTexts.UniqueWords.{has-words-unique}
 
 -- ---- a word has one value
@@ -75,9 +66,6 @@ reads-unique Is message r s next next' one go (inl (a, i, n)) (inr (bare, e)) = 
 reads-unique Is message r s next next' one go (inr (bare, e)) (inl (b, j, m)) = absurd (bare b j)
 reads-unique Is message r s next next' one go (inr (bare, e)) (inr (bare', e')) = e ∙ sym e'
 
-both-are : {R : Type 0} (v r s : R) → r ≡ v → s ≡ v → r ≡ s
-both-are v r s a b = a ∙ sym b
-
 priority-unique : (f : List ℕ) (c : ℕ) (p : Protocol) (ws : List (List ℕ)) (r s : Answer Head) → ReadsPriority f c p ws r → ReadsPriority f c p ws s → r ≡ s
 priority-unique f c p [] r s a b = a ∙ sym b
 priority-unique f c p (w ∷ ws) r s a b =
@@ -102,7 +90,7 @@ kinds-unique ip port [] r s a b = a ∙ sym b
 kinds-unique ip port (w ∷ ws) r s a b =
     reads-unique (λ (k : CandidateKind). w ≡ kind_word k) _ r s _ _ (kind-unique w) (λ k x y. x ∙ sym y) a b
 
--- the same test has the same answer
+-- a test that is made twice has one answer
 match-unique : {P Q P' Q' G : Type 0} (b : Bool) → (P → P' → G) → (Q → Q' → G) → MatchBool b P Q → MatchBool b P' Q' → G
 match-unique true held bare m n = held m n
 match-unique false held bare m n = bare m n

@@ -1,9 +1,8 @@
 -- A text has one list of words.
-use Rattle.std.proofs.Common.{◌≡◌, ℕ, ◌<◌, Bool, true, false, not, List, [], ◌∷◌, ◌++◌, length, refl, sym, ap, subst, ◌∙◌, arith, inl, inr, ◌⊎◌, append_assoc, length-append}
 use Rattle.std.proofs.lemmas.Str.{encode_same, length-encode, len_utf8_bounds}
-use Rattle.std.specs.Char.{is_whitespace, is_not_whitespace, encode_utf8}
-use Rattle.std.specs.Str.{NonePass, NoCharPasses, encode_utf8_all}
-use Rattle.is_candidate.specs.Words.{IsGap, IsWord, EndsWord, HasWords}
+use Rattle.is_candidate.proofs.Common.{[], ◌++◌, ◌<◌, ◌∙◌, ◌∷◌, ◌≡◌, ◌⊎◌, ap, append_assoc, arith, Bool, encode_utf8, encode_utf8_all}
+use Rattle.is_candidate.proofs.Common.{EndsWord, false, HasWords, inl, inr, is_not_whitespace, is_whitespace, IsGap, IsWord, length}
+use Rattle.is_candidate.proofs.Common.{length-append, List, NoCharPasses, NonePass, not, refl, subst, sym, true, ℕ}
 
 -- the text is empty, or begins with a character that passes
 Starts : (ℕ → Bool) → List ℕ → Type 0
@@ -36,7 +35,7 @@ span p (c ∷ cs) (d ∷ ds) ys zs f g s t e =
     let k = span p cs ds ys zs f.1 g.1 s t h.1 in
     (ap (λ x. x ∷ cs) h.0 ∙ ap (λ l. d ∷ l) k.0, k.1)
 
--- the same of texts
+-- the part of a text before the first character that passes is unique
 front : (p : ℕ → Bool) (xs ws ys zs : List ℕ) → NoCharPasses p xs → NoCharPasses p ws → Starts p ys → Starts p zs → xs ++ ys ≡ ws ++ zs
     → (xs ≡ ws) × (ys ≡ zs)
 front p xs ws ys zs f g s t e =

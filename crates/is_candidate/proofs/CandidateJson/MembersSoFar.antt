@@ -1,19 +1,14 @@
 -- What the members of candidate JSON say so far, as they are put in one after another.
-use Rattle.std.proofs.Common.{◌≡◌, ℕ, ◌-◌, ◌≤◌, List, ◌∷◌, length, Bool, true, false, ◌||◌, Option, Some, None, option_map, option_and_then, codes, Ordering, Less, Equal, Greater, refl, sym, ap, ◌∙◌, arith}
-use Rattle.std.specs.Prelude.{Ok}
 use Rattle.std.specs.Ordering.{nat_cmp, match_ordering}
 use Rattle.std.specs.Cmp.Lexicographic.{slice_cmp}
-use Rattle.json.specs.Token.{Token}
 use Rattle.json.specs.Json as json
-use Rattle.json.specs.Json.{parse_map, read_key, members, value}
-use Rattle.json.proofs.Grammar.{value-begin_object, read_key-shorter, members_more, members_end}
-use Rattle.serde_json.specs.Data.{Data, string, object, Members, no_members, member, put}
 use Rattle.serde_json.specs.Find.{get_member, as_str}
-use Rattle.serde_json.specs.Read.{of_members}
-use Rattle.serde_json.specs.Written.{has_float, members_have_float}
-use Rattle.serde_json.proofs.Views.{get_member-put, get_member-put_other}
 use Rattle.is_candidate.specs.Infos.{given_line, given_ufrag, line_in, ufrag_in}
-use Rattle.is_candidate.specs.Flat.{BeginsWith}
+use Rattle.is_candidate.proofs.Common.{◌-◌, ◌||◌, ◌∙◌, ◌∷◌, ◌≡◌, ◌≤◌, ap, arith, BeginsWith, Bool, codes, Data, Equal, false}
+use Rattle.is_candidate.proofs.Common.{get_member-put, get_member-put_other, Greater, has_float, length, Less, List, member, Members}
+use Rattle.is_candidate.proofs.Common.{members, members_end, members_have_float, members_more, no_members, None, object, of_members, Ok}
+use Rattle.is_candidate.proofs.Common.{Option, option_and_then, option_map, Ordering, parse_map, put, read_key, read_key-shorter, refl}
+use Rattle.is_candidate.proofs.Common.{Some, string, sym, Token, true, value, value-begin_object, ℕ}
 
 neither : (a b : Bool) → a ≡ false → b ≡ false → (a || b) ≡ false
 neither a b e f = rw (e, f)

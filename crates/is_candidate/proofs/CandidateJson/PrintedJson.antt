@@ -1,10 +1,9 @@
 -- The text of candidate JSON, token by token.
-use Rattle.std.proofs.Common.{◌≡◌, ℕ, List, [], ◌∷◌, ◌++◌, Option, Some, None, Result, Ok, Err, OnOk, codes, refl, append_assoc}
 use Rattle.json.specs.Print.{print, print_from, escape_byte}
-use Rattle.serde_json.specs.Data.{null, number, string, object, unsigned, member, no_members}
-use Rattle.serde_json.specs.Written.{compact_text}
 use Rattle.is_candidate.specs.Infos.{text_or_null}
 use Rattle.is_candidate.specs.InfoTexts.{info_tokens}
+use Rattle.is_candidate.proofs.Common.{[], ◌++◌, ◌∷◌, ◌≡◌, append_assoc, codes, compact_text, Err, List, member, no_members, None, null}
+use Rattle.is_candidate.proofs.Common.{number, object, Ok, OnOk, Option, refl, Result, Some, string, unsigned, ℕ}
 
 pub on_ok : {A E : Type 0} (r : Result A E) (P Q : Type 0) → (P → Q) → OnOk r P → OnOk r Q
 on_ok (Ok x) P Q f h = f h

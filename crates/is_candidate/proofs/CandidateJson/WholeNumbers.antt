@@ -1,10 +1,6 @@
 -- Numbers of JSON that are whole ones of 64 bits.
-use Rattle.std.proofs.Common.{◌≡◌, ℕ, ◌^◌, ◌<◌, List, get_or, Option, true, Some, None, lt-ltb, ne_eqb}
-use Rattle.std.specs.Prelude.{IsTrue, is_some}
-use Rattle.std.specs.Option.{SomeIff}
-use Rattle.fast_float.specs.Text.{Parts, scan, digits_of, IsInteger}
-use Rattle.serde_json.specs.Data.{unsigned}
-use Rattle.serde_json.specs.Read.{number_of, is_integer}
+use Rattle.is_candidate.proofs.Common.{◌<◌, ◌^◌, ◌≡◌, digits_of, get_or, is_integer, is_some, IsInteger, IsTrue, List, lt-ltb, ne_eqb, None}
+use Rattle.is_candidate.proofs.Common.{number_of, Option, Parts, scan, Some, SomeIff, true, unsigned, ℕ}
 
 integer : (p : Parts) → IsInteger p → is_integer p ≡ true
 integer p h = rw (lt-ltb _ _ h.0, h.1, h.2)

@@ -1,13 +1,7 @@
 -- The pair with a pending transaction of a response's id, found through the index.
-use Rattle.std.proofs.Common.{if◌then◌else◌, ◌≡◌, ◌==◌, ℕ, ◌&&◌, ◌||◌, Bool, true, false, List, [], ◌∷◌, filter, find, bytes_eq, Option, Some, None, IfSome, is_some, inl, inr, refl, sym, ap, ◌∙◌}
-use Rattle.std.proofs.lemmas.Bool.{eq-eqb, eqb-true}
-use Rattle.std.specs.List.{list_any}
-use Rattle.is_proto.specs.Lists.{Has}
-use Rattle.is_pair.specs.declared.checklist.entries.Kept.{Kept}
-use Rattle.is_pair.specs.Checks.{is_kept}
-use Rattle.is_pair.specs.Pairs.{PairRecord}
-use Rattle.is_pair.specs.Multiset.{keeps, pair_numbered, passes_at, rises, IsAwaiting}
-use Rattle.is_pair.specs.Entries.{names, names_passing, IsIndex}
+use Rattle.is_pair.proofs.Common.{[], ◌&&◌, ◌==◌, ◌||◌, ◌∙◌, ◌∷◌, ◌≡◌, ap, Bool, bytes_eq, eq-eqb, eqb-true, false, filter, find, Has}
+use Rattle.is_pair.proofs.Common.{IfSome, if◌then◌else◌, inl, inr, is_kept, is_some, IsAwaiting, IsIndex, keeps, Kept, List, list_any}
+use Rattle.is_pair.proofs.Common.{names, names_passing, None, Option, pair_numbered, PairRecord, passes_at, refl, rises, Some, sym, true, ℕ}
 use Rattle.is_pair.proofs.PairEntries.ChangedEntry.{both, none-passes, one-passes}
 use Rattle.is_pair.proofs.PriorityOrder.GreatestPair.{any-has, filter-none, find-has, found-has, has-any}
 

@@ -1,19 +1,10 @@
 -- The index of a checklist after a check.
-use Rattle.std.proofs.Common.{if◌then◌else◌, ◌≡◌, ◌==◌, ℕ, ◌-◌, ◌<◌, ◌≤◌, zero, suc, ◌&&◌, ◌||◌, Bool, true, false, not, List, [], ◌∷◌, ◌++◌, length, drop, filter, nat_le, bytes_eq, Some, inl, inr, refl, sym, ap, ◌∙◌, arith}
-use Rattle.std.proofs.lemmas.Bool.{eqb-true}
-use Rattle.std.proofs.lemmas.Bool.Decides.{nat_tests}
-use Rattle.std.proofs.lemmas.List.{length-append}
-use Rattle.std.proofs.lemmas.List.Folds.{list_any-append}
-use Rattle.std.proofs.lemmas.Slice.Eq.{bytes_eq-Decides}
-use Rattle.std.proofs.lemmas.Map.Views.{any-filter_same}
-use Rattle.std.specs.List.{list_all, list_any}
-use Rattle.is_proto.specs.Lists.{Has}
 use Rattle.is_stun.specs.declared.trans_id.TransId.{TransId}
-use Rattle.is_pair.specs.declared.checklist.entries.Kept.{Kept}
-use Rattle.is_pair.specs.Checks.{Check, has_id, is_kept, last_checks}
-use Rattle.is_pair.specs.Pairs.{PairRecord}
-use Rattle.is_pair.specs.Multiset.{change_at, change_pair, pair_numbered, passes_at, keeps, rises}
-use Rattle.is_pair.specs.Entries.{names, is_named, is_current, named_after, IsIndex}
+use Rattle.is_pair.proofs.Common.{[], ◌&&◌, ◌++◌, ◌-◌, ◌<◌, ◌==◌, ◌||◌, ◌∙◌, ◌∷◌, ◌≡◌, ◌≤◌, any-filter_same, ap, arith, Bool, bytes_eq}
+use Rattle.is_pair.proofs.Common.{bytes_eq-Decides, change_at, change_pair, Check, drop, eqb-true, false, filter, Has, has_id}
+use Rattle.is_pair.proofs.Common.{if◌then◌else◌, inl, inr, is_current, is_kept, is_named, IsIndex, keeps, Kept, last_checks, length}
+use Rattle.is_pair.proofs.Common.{length-append, List, list_all, list_any, list_any-append, named_after, names, nat_le, nat_tests, not}
+use Rattle.is_pair.proofs.Common.{pair_numbered, PairRecord, passes_at, refl, rises, Some, suc, sym, true, zero, ℕ}
 use Rattle.is_pair.proofs.PairEntries.ChangedEntry.{both, changed-found, one-passes, found-number, rises-changed, change-keeps, any-changed}
 use Rattle.is_pair.proofs.PriorityOrder.GreatestPair.{has-any}
 

@@ -1,17 +1,9 @@
 -- The index of a checklist after one check was cut.
-use Rattle.std.proofs.Common.{if◌then◌else◌, ◌≡◌, ℕ, ◌<◌, ◌-◌, zero, suc, ◌||◌, Bool, true, false, not, List, [], ◌∷◌, ◌++◌, length, drop, filter, get_or, remove, bytes_eq, slice_get, Some, refl, sym, ap, ◌∙◌, arith}
-use Rattle.std.proofs.lemmas.List.{length-append}
-use Rattle.std.proofs.lemmas.List.Folds.{list_any-append}
-use Rattle.std.proofs.lemmas.Slice.Eq.{bytes_eq-Decides}
-use Rattle.std.specs.List.{list_all}
-use Rattle.is_pair.specs.declared.pair.cut.Cut.{Cut}
 use Rattle.is_pair.specs.declared.pair.cut.Cut.TheVariants.{Nothing, Oldest, Several}
-use Rattle.is_pair.specs.declared.checklist.entries.Kept.{Kept}
-use Rattle.is_pair.specs.Checks.{Check, has_id, is_kept, last_checks}
-use Rattle.is_pair.specs.Pairs.{PairRecord}
-use Rattle.is_pair.specs.Multiset.{pair_numbered, rises}
-use Rattle.is_pair.specs.Cutting.{CutsByNext, LeavesCurrent}
-use Rattle.is_pair.specs.Entries.{is_before, is_current, IsIndex}
+use Rattle.is_pair.proofs.Common.{[], ◌++◌, ◌-◌, ◌<◌, ◌||◌, ◌∙◌, ◌∷◌, ◌≡◌, ap, arith, Bool, bytes_eq, bytes_eq-Decides, Check, Cut}
+use Rattle.is_pair.proofs.Common.{CutsByNext, drop, false, filter, get_or, has_id, if◌then◌else◌, is_before, is_current, is_kept, IsIndex}
+use Rattle.is_pair.proofs.Common.{Kept, last_checks, LeavesCurrent, length, length-append, List, list_all, list_any-append, not}
+use Rattle.is_pair.proofs.Common.{pair_numbered, PairRecord, refl, remove, rises, slice_get, Some, suc, sym, true, zero, ℕ}
 use Rattle.is_pair.proofs.PairEntries.ChangedEntry.{both, filter-whole}
 use Rattle.is_pair.proofs.ChecklistIndex.SortedById.{IsEnd, IsPoint, is-following, not-before, other-id}
 use Rattle.is_pair.proofs.ChecklistIndex.IndexAfterCheck.{all-current, all-spared, kept-uncut}

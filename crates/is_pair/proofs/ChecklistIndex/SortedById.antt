@@ -1,16 +1,12 @@
 -- The index of a checklist is sorted by id.
-use Rattle.std.proofs.Common.{if◌then◌else◌, ◌≡◌, ℕ, ◌≤◌, ◌-◌, zero, suc, ◌&&◌, Bool, true, false, not, List, [], ◌∷◌, length, take, drop, filter, find, insert, get_or, bytes_eq, Some, refl, sym, ap, ◌∙◌, arith}
 use Rattle.std.proofs.lemmas.Cmp.{nat_list_cmp_total}
-use Rattle.std.proofs.lemmas.List.{length-drop}
-use Rattle.std.proofs.lemmas.Slice.Eq.{bytes_eq-Decides}
 use Rattle.std.specs.Cmp.Lexicographic.{slice_cmp}
 use Rattle.std.specs.Ordering.{is_lt, nat_cmp, ordering_reverse}
 use Rattle.std.specs.declared.cmp.Ordering.{Ordering}
 use Rattle.std.specs.declared.cmp.Ordering.TheVariants.{Less, Equal, Greater}
-use Rattle.std.specs.List.{list_all}
-use Rattle.std.specs.List.Sorted.{IsPartitionedBy, IsPartitionPoint}
-use Rattle.is_pair.specs.declared.checklist.entries.Kept.{Kept}
-use Rattle.is_pair.specs.Entries.{is_before, ids_rise}
+use Rattle.is_pair.proofs.Common.{[], ◌&&◌, ◌-◌, ◌∙◌, ◌∷◌, ◌≡◌, ◌≤◌, ap, arith, Bool, bytes_eq, bytes_eq-Decides, drop, false, filter, find}
+use Rattle.is_pair.proofs.Common.{get_or, ids_rise, if◌then◌else◌, insert, is_before, IsPartitionedBy, IsPartitionPoint, Kept, length}
+use Rattle.is_pair.proofs.Common.{length-drop, List, list_all, not, refl, Some, suc, sym, take, true, zero, ℕ}
 use Rattle.is_pair.proofs.PairEntries.ChangedEntry.{both, all-filter}
 use Rattle.is_pair.proofs.PriorityOrder.OrderedPairs.{all-at, all-from}
 
@@ -172,7 +168,3 @@ find-within id test (k ∷ ks) zero within end =
 find-within id test (k ∷ ks) (suc i) within end =
     ap (λ rest. if bytes_eq k.id.0 id && test k then Some k else rest)
     (find-within id test ks i (omega arith) ((λ j d low below. end.0 (suc j) d (omega arith) (omega arith)), λ j d from in_list. end.1 (suc j) d (omega arith) (omega arith)))
-
--- a slice from the front
-pub from-front : {X : Type 0} (n : ℕ) (xs : List X) → take (n - 0) (drop 0 xs) ≡ take n xs
-from-front n xs = let same : n - 0 ≡ n = omega arith in rw same refl

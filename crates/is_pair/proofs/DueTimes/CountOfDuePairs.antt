@@ -1,14 +1,7 @@
 -- Counting the pairs that are due by a time.
-use Rattle.std.proofs.Common.{◌≡◌, ℕ, ◌<◌, ◌≤◌, Bool, true, false, List, [], ◌∷◌, length, map, filter, min, nat_le, inl, inr, refl, ap, sym, ◌∙◌, arith, if◌then◌else◌}
-use Rattle.std.proofs.lemmas.Bool.{eq-eqb}
-use Rattle.std.proofs.lemmas.Bool.Decides.{nat_tests}
-use Rattle.is_proto.specs.Lists.{Has}
-use Rattle.is_proto.specs.Times.{MAX}
-use Rattle.is_stun.specs.declared.timing.StunTiming.{StunTiming}
-use Rattle.is_pair.specs.Pairs.{PairRecord, checked}
-use Rattle.is_pair.specs.Due.{due_time_of}
-use Rattle.is_pair.specs.Multiset.{is_numbered, change_at, change_pair}
-use Rattle.is_pair.specs.Turns.{IsPaced, is_due_by, due_by, FewerAreAhead}
+use Rattle.is_pair.proofs.Common.{[], ◌<◌, ◌∙◌, ◌∷◌, ◌≡◌, ◌≤◌, ap, arith, Bool, change_at, change_pair, checked, due_by, due_time_of}
+use Rattle.is_pair.proofs.Common.{eq-eqb, false, FewerAreAhead, filter, Has, if◌then◌else◌, inl, inr, is_due_by, is_numbered, IsPaced}
+use Rattle.is_pair.proofs.Common.{length, List, map, MAX, min, nat_le, nat_tests, PairRecord, refl, StunTiming, sym, true, ℕ}
 use Rattle.is_pair.proofs.DueTimes.LaterAfterCheck.{checked-later}
 
 -- ---- how many pass

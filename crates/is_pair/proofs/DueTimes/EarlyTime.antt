@@ -1,10 +1,6 @@
 -- A time within which checks are repeated early.
-use Rattle.std.proofs.Common.{◌≡◌, ℕ, ◌≤◌, ◌||◌, Bool, true, false, min, nat_lt, Option, Some, None, if◌then◌else◌, refl, arith}
-use Rattle.std.proofs.lemmas.Bool.Decides.{nat_tests}
-use Rattle.is_proto.specs.Times.{later}
-use Rattle.is_stun.specs.declared.timing.StunTiming.{StunTiming}
-use Rattle.is_pair.specs.Due.{ASKED_TIME, EARLY_TIME, early_span, early_time, is_asked_first, is_within}
-use Rattle.is_pair.specs.Pairs.{PairRecord}
+use Rattle.is_pair.proofs.Common.{◌||◌, ◌≡◌, ◌≤◌, arith, ASKED_TIME, Bool, early_span, EARLY_TIME, early_time, false, if◌then◌else◌}
+use Rattle.is_pair.proofs.Common.{is_asked_first, is_within, min, nat_tests, None, Option, PairRecord, refl, Some, StunTiming, true, ℕ}
 
 -- what is not within a time is not within a shorter one
 within-less : (span most now : ℕ) (since : Option ℕ) → span ≤ most → is_within most now since ≡ false → is_within span now since ≡ false
@@ -27,10 +23,3 @@ span-within t p = by (is_asked_first p) where
   by : (b : Bool) → (if b then min ASKED_TIME (early_time t) else early_time t) ≤ EARLY_TIME
   by true = omega arith
   by false = omega arith
-
--- the order of two tests
-pub or-swaps : (x y : Bool) → (x || y) ≡ (y || x)
-or-swaps true true = refl
-or-swaps true false = refl
-or-swaps false true = refl
-or-swaps false false = refl

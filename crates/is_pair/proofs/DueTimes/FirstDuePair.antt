@@ -1,10 +1,6 @@
 -- The pair that is due first, found by a walk over all.
-use Rattle.std.proofs.Common.{◌≡◌, ℕ, ◌<◌, ◌⊎◌, true, List, [], ◌∷◌, Option, Some, None, inl, inr, refl, sym, subst, arith}
-use Rattle.std.proofs.lemmas.Bool.Decides.{nat_tests}
-use Rattle.is_proto.specs.Lists.{Has, NonePass}
-use Rattle.is_stun.specs.declared.timing.StunTiming.{StunTiming}
-use Rattle.is_pair.specs.Pairs.{PairRecord}
-use Rattle.is_pair.specs.Due.{due_time_of, is_due, GoesBefore, IsEarliest}
+use Rattle.is_pair.proofs.Common.{[], ◌<◌, ◌∷◌, ◌≡◌, ◌⊎◌, arith, due_time_of, GoesBefore, Has, inl, inr, is_due, IsEarliest, List}
+use Rattle.is_pair.proofs.Common.{nat_tests, None, NonePass, Option, PairRecord, refl, Some, StunTiming, subst, sym, true, ℕ}
 use Rattle.is_pair.proofs.PriorityOrder.GreatestPair.{filter-none}
 use Rattle.is_pair.proofs.PriorityOrder.LeastPair.{empty-of}
 

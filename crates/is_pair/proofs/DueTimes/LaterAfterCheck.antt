@@ -1,23 +1,19 @@
 -- A pair that was checked is due after the time of the check, whenever its due time is computed from then on.
-use Rattle.std.proofs.Common.{◌≡◌, ℕ, zero, suc, ◌+◌, ◌-◌, ◌*◌, ◌/◌, ◌^◌, ◌==◌, ◌<◌, ◌≤◌, ◌&&◌, ◌||◌, nat_lt, Bool, true, false, List, [], ◌∷◌, ◌++◌, length, drop, reverse, position, min, max, Option, Some, None, unwrap_or, if◌then◌else◌, refl, ap, sym, ◌∙◌, subst, arith}
-use Rattle.std.specs.Prelude.{slice_get}
-use Rattle.std.specs.Option.{option_map_or}
+use Rattle.is_pair.specs.Due.{response_wait}
 use Rattle.std.proofs.Math.Nat.{one-le-pow, one-le-mul}
 use Rattle.std.proofs.Math.Seq.{get_or-append_seam}
-use Rattle.std.proofs.lemmas.List.{drop-append-le, reverse-append}
-use Rattle.std.proofs.lemmas.Bool.Decides.{nat_tests}
-use Rattle.std.proofs.lemmas.List.Quantifiers.{position-Some}
-use Rattle.std.proofs.lemmas.Option.{slice_get-get_or}
-use Rattle.is_proto.specs.Times.{MAX, MILLISECOND, later}
-use Rattle.is_stun.specs.declared.timing.StunTiming.{StunTiming}
 use Rattle.is_stun.specs.Timing.{delay_millis, resend_delay, early_delay, is_modern, EARLY_INTERVAL, EARLY_RETRANSMITS}
 use Rattle.is_pair.specs.declared.pair.states.NominationState.{NominationState}
 use Rattle.is_pair.specs.declared.pair.states.NominationState.TheVariants.{None as Unnominated, Nominated, Attempt, Success}
 use Rattle.is_pair.specs.States.{nomination_once_sent}
-use Rattle.is_pair.specs.Checks.{Check, is_answered, last_checks, last_check, last_round_trip, unanswered_count}
-use Rattle.is_pair.specs.Pairs.{PairRecord, check_of, checked}
-use Rattle.is_pair.specs.Due.{is_silent, delaying_count, usual_delay, is_hushed, is_repeated_early, is_within, hushed_delay, HUSHED_INTERVAL, HUSHED_TIME, SHORT_INTERVAL, LATENESS, modern_delay, repeated_delay, silent_count, delay_of, next_due_time, computed_due_time}
-use Rattle.is_pair.specs.Turns.{IsPaced, CheckedIsLater}
+use Rattle.is_pair.proofs.Common.{[], ◌*◌, ◌++◌, ◌+◌, ◌-◌, ◌/◌, ◌<◌, ◌==◌, ◌^◌, ◌||◌, ◌∙◌, ◌∷◌, ◌≡◌, ◌≤◌, ap, arith, Bool, Check, check_of}
+use Rattle.is_pair.proofs.Common.{checked, CheckedIsLater, computed_due_time, delay_of, delaying_count, drop, drop-append-le, false}
+use Rattle.is_pair.proofs.Common.{hushed_delay, HUSHED_INTERVAL, HUSHED_TIME, if◌then◌else◌, is_answered, is_hushed, is_repeated_early}
+use Rattle.is_pair.proofs.Common.{is_silent, is_within, IsPaced, last_check, last_checks, last_round_trip, LATENESS, later, length, List}
+use Rattle.is_pair.proofs.Common.{MAX, max, MILLISECOND, min, modern_delay, nat_lt, nat_tests, next_due_time, None, Option, option_map_or}
+use Rattle.is_pair.proofs.Common.{PairRecord, position, position-Some, refl, repeated_delay, reverse, reverse-append, SHORT_INTERVAL}
+use Rattle.is_pair.proofs.Common.{silent_count, slice_get, slice_get-get_or, Some, StunTiming, subst, suc, sym, true, unanswered_count}
+use Rattle.is_pair.proofs.Common.{unwrap_or, usual_delay, zero, ℕ}
 
 -- ---- the delay
 
@@ -105,7 +101,7 @@ wait-positive at t q paced open_still some = either (is_modern t) where
   usual = delay-positive t (delaying_count at t q.checks) paced (delaying at t q.checks open_still some)
 
   hushed : 0 < hushed_delay at t q
-  hushed = most (nat_lt (unanswered_count q.checks) t.max_retransmits || is_within (later t.max_rto.0 HUSHED_TIME) at q.consented) (later (unwrap_or (last_round_trip q.checks) 0) LATENESS) where
+  hushed = most (nat_lt (unanswered_count q.checks) t.max_retransmits || is_within (later t.max_rto.0 HUSHED_TIME) at q.consented) (response_wait q.checks) where
     most : (b : Bool) (y : ℕ) → 0 < max (if b then SHORT_INTERVAL else HUSHED_INTERVAL) y
     most true y = omega arith
     most false y = omega arith

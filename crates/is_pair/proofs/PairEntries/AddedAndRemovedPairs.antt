@@ -1,14 +1,7 @@
 -- Index and order of a checklist when a pair is added or some are removed.
-use Rattle.std.proofs.Common.{◌≡◌, ◌==◌, ℕ, ◌&&◌, ◌||◌, Bool, true, false, List, [], ◌∷◌, ◌++◌, filter, refl, sym, ap, ◌∙◌}
-use Rattle.std.proofs.lemmas.Bool.{eqb-true}
-use Rattle.std.proofs.lemmas.List.Folds.{list_any-append}
-use Rattle.std.proofs.lemmas.Map.Views.{any-filter_same}
-use Rattle.is_pair.specs.declared.checklist.entries.Kept.{Kept}
-use Rattle.is_pair.specs.declared.checklist.entries.Rank.{Rank}
-use Rattle.is_pair.specs.Checks.{is_kept}
-use Rattle.is_pair.specs.Pairs.{PairRecord}
-use Rattle.is_pair.specs.Multiset.{has_number, passes_at, keeps, ranks, rises}
-use Rattle.is_pair.specs.Entries.{names, is_named, IsIndex, is_rank, is_ranked, IsRanking}
+use Rattle.is_pair.proofs.Common.{[], ◌&&◌, ◌++◌, ◌==◌, ◌||◌, ◌∙◌, ◌∷◌, ◌≡◌, any-filter_same, ap, Bool, eqb-true, false, filter, has_number}
+use Rattle.is_pair.proofs.Common.{is_kept, is_named, is_rank, is_ranked, IsIndex, IsRanking, keeps, Kept, List, list_any-append, names}
+use Rattle.is_pair.proofs.Common.{PairRecord, passes_at, Rank, ranks, refl, rises, sym, true, ℕ}
 use Rattle.is_pair.proofs.PairEntries.ChangedEntry.{both, stays-whole}
 
 -- ---- one more pair

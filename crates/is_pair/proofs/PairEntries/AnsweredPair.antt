@@ -1,9 +1,6 @@
 -- A pair takes a response, and stays where it is found.
-use Rattle.std.proofs.Common.{◌≡◌, ℕ, zero, suc, ◌||◌, Bool, List, [], ◌∷◌, length, slice_get, slice_set, Some, refl, sym, ap, ◌∙◌}
-use Rattle.std.proofs.lemmas.List.{length-set}
-use Rattle.std.specs.List.{list_any}
-use Rattle.is_pair.specs.Checks.{has_id, is_kept, answered_at}
-use Rattle.is_pair.specs.Pairs.{PairRecord, TakesAnswer}
+use Rattle.is_pair.proofs.Common.{[], ◌||◌, ◌∙◌, ◌∷◌, ◌≡◌, answered_at, ap, Bool, has_id, is_kept, length, length-set, List, list_any}
+use Rattle.is_pair.proofs.Common.{PairRecord, refl, slice_get, slice_set, Some, suc, sym, TakesAnswer, zero, ℕ}
 
 pub any-set : {X : Type 0} (t : X → Bool) (xs : List X) (k : ℕ) (x y : X) → slice_get xs k ≡ Some x → t y ≡ t x → list_any t (slice_set xs k y) ≡ list_any t xs
 any-set t [] k x y at same = absurd (cc)

@@ -1,11 +1,8 @@
 -- The pairs of a checklist by their numbers, when one of them is changed.
-use Rattle.std.proofs.Common.{if◌then◌else◌, ◌≡◌, ◌==◌, ℕ, zero, suc, ◌+◌, ◌&&◌, ◌||◌, Bool, true, false, cond, List, [], ◌∷◌, ◌++◌, map, filter, find, nat_lt, Some, None, slice_get, slice_set, option_map, unwrap_or, refl, sym, ap, subst, ◌∙◌, arith}
-use Rattle.std.proofs.lemmas.Bool.{eq-eqb, eqb-true}
-use Rattle.std.proofs.lemmas.Bool.Decides.{nat_tests}
-use Rattle.std.proofs.lemmas.List.Folds.{list_all-append}
-use Rattle.std.specs.List.{list_any, list_all}
-use Rattle.is_pair.specs.Pairs.{PairRecord}
-use Rattle.is_pair.specs.Multiset.{is_numbered, are_below, change_at, change_pair, pair_numbered, passes_at, rises}
+use Rattle.is_pair.proofs.Common.{[], ◌&&◌, ◌++◌, ◌+◌, ◌==◌, ◌||◌, ◌∙◌, ◌∷◌, ◌≡◌, ap, are_below, arith, Bool, change_at, change_pair, cond}
+use Rattle.is_pair.proofs.Common.{eq-eqb, eqb-true, false, filter, if◌then◌else◌, is_numbered, List, list_all, list_all-append, list_any}
+use Rattle.is_pair.proofs.Common.{map, nat_lt, nat_tests, None, option_map, pair_numbered, PairRecord, passes_at, refl, rises, slice_get}
+use Rattle.is_pair.proofs.Common.{slice_set, Some, subst, suc, sym, true, unwrap_or, zero, ℕ}
 
 pub both : (a b : Bool) → a && b ≡ true → (a ≡ true) × (b ≡ true)
 both true b h = (refl, h)

@@ -1,11 +1,6 @@
 -- All pairs of a multiset change, and stay where they are found.
-use Rattle.std.proofs.Common.{◌≡◌, ◌==◌, ℕ, true, List, length, map, nat_lt, refl, sym, ap, ◌∙◌}
-use Rattle.is_pair.specs.declared.checklist.entries.Kept.{Kept}
-use Rattle.is_pair.specs.declared.checklist.entries.Rank.{Rank}
-use Rattle.is_pair.specs.Checks.{is_kept}
-use Rattle.is_pair.specs.Pairs.{PairRecord}
-use Rattle.is_pair.specs.Multiset.{are_below, are_fewer, change_at, keep_fewer, keeps, passes_at, ranks, rises, KeepsKeys}
-use Rattle.is_pair.specs.Entries.{IsIndex, IsRanking}
+use Rattle.is_pair.proofs.Common.{◌==◌, ◌∙◌, ◌≡◌, ap, are_below, are_fewer, change_at, is_kept, IsIndex, IsRanking, keep_fewer, keeps}
+use Rattle.is_pair.proofs.Common.{KeepsKeys, Kept, length, List, map, nat_lt, PairRecord, passes_at, Rank, ranks, refl, rises, sym, true, ℕ}
 use Rattle.is_pair.proofs.PairEntries.ChangedEntry.{all-mapped, any-changed, change-keeps, rises-changed}
 
 module _ (g : PairRecord → PairRecord) (number : (p : PairRecord) → (g p).number ≡ p.number) (ps qs : List PairRecord) (is : qs ≡ map g ps) where

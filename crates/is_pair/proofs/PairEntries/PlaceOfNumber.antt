@@ -1,13 +1,8 @@
 -- The index of the pair with a number, in a list that is sorted by number.
-use Rattle.std.proofs.Common.{◌≡◌, ◌==◌, ℕ, zero, suc, ◌+◌, ◌<◌, ◌≤◌, Bool, true, false, cond, List, [], ◌∷◌, length, nat_lt, position, Option, Some, None, slice_get, refl, sym, ap, ◌∙◌, arith}
-use Rattle.std.proofs.lemmas.Bool.{eq-eqb}
-use Rattle.std.proofs.lemmas.Bool.Decides.{nat_tests}
-use Rattle.std.proofs.lemmas.List.Folds.{find_at}
-use Rattle.std.proofs.lemmas.Option.{cond_some, slice_get_past, slice_get_within}
-use Rattle.std.specs.List.{list_all, position_or_len}
-use Rattle.std.specs.List.Sorted.{IsPartitionedBy, IsPartitionPoint}
-use Rattle.is_pair.specs.Pairs.{PairRecord}
-use Rattle.is_pair.specs.Multiset.{is_numbered, pair_numbered, rises}
+use Rattle.is_pair.proofs.Common.{[], ◌+◌, ◌==◌, ◌∙◌, ◌∷◌, ◌≡◌, ◌≤◌, ap, arith, cond, cond_some, eq-eqb, false, find_at, is_numbered}
+use Rattle.is_pair.proofs.Common.{IsPartitionedBy, IsPartitionPoint, length, List, nat_lt, nat_tests, None, pair_numbered, PairRecord}
+use Rattle.is_pair.proofs.Common.{position, position_or_len, refl, rises, slice_get, slice_get_past, slice_get_within, Some, suc, true}
+use Rattle.is_pair.proofs.Common.{zero, ℕ}
 use Rattle.is_pair.proofs.PairEntries.ChangedEntry.{above, apart, below-apart, both}
 use Rattle.is_pair.proofs.PriorityOrder.OrderedPairs.{all-at}
 

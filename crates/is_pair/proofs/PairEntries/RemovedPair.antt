@@ -1,14 +1,7 @@
 -- The pair with a number is removed, and its entries with it.
-use Rattle.std.proofs.Common.{◌≡◌, ◌==◌, ℕ, ◌&&◌, Bool, not, List, filter, ap, sym, ◌∙◌}
-use Rattle.std.proofs.lemmas.Bool.{eqb-true}
-use Rattle.std.proofs.lemmas.Map.Views.{any-filter_same}
-use Rattle.std.specs.List.{list_any}
-use Rattle.is_pair.specs.declared.checklist.entries.Kept.{Kept}
-use Rattle.is_pair.specs.declared.checklist.entries.Rank.{Rank}
-use Rattle.is_pair.specs.Checks.{is_kept}
-use Rattle.is_pair.specs.Pairs.{PairRecord}
-use Rattle.is_pair.specs.Multiset.{is_numbered, passes_at, keeps, ranks, without}
-use Rattle.is_pair.specs.Entries.{names, is_named, IsIndex, is_rank, is_ranked, IsRanking}
+use Rattle.is_pair.proofs.Common.{◌&&◌, ◌==◌, ◌∙◌, ◌≡◌, any-filter_same, ap, Bool, eqb-true, filter, is_kept, is_named, is_numbered}
+use Rattle.is_pair.proofs.Common.{is_rank, is_ranked, IsIndex, IsRanking, keeps, Kept, List, list_any, names, not, PairRecord, passes_at}
+use Rattle.is_pair.proofs.Common.{Rank, ranks, sym, without, ℕ}
 use Rattle.is_pair.proofs.PairEntries.ChangedEntry.{both}
 
 -- what is left of a number once another one is removed

@@ -1,12 +1,7 @@
 -- A pair at an index is written, and stays where it is found.
-use Rattle.std.proofs.Common.{◌≡◌, ◌==◌, ℕ, zero, suc, ◌&&◌, Bool, true, List, [], ◌∷◌, length, nat_lt, slice_get, slice_set, Some, refl, sym, ap, ◌∙◌}
-use Rattle.std.specs.List.{list_any, list_all}
-use Rattle.is_pair.specs.declared.checklist.entries.Kept.{Kept}
-use Rattle.is_pair.specs.declared.checklist.entries.Rank.{Rank}
-use Rattle.is_pair.specs.Checks.{is_kept}
-use Rattle.is_pair.specs.Pairs.{PairRecord}
-use Rattle.is_pair.specs.Multiset.{are_below, are_fewer, keep_fewer, keeps, passes_at, ranks, rises}
-use Rattle.is_pair.specs.Entries.{IsIndex, IsRanking}
+use Rattle.is_pair.proofs.Common.{[], ◌&&◌, ◌==◌, ◌∙◌, ◌∷◌, ◌≡◌, ap, are_below, are_fewer, Bool, is_kept, IsIndex, IsRanking, keep_fewer}
+use Rattle.is_pair.proofs.Common.{keeps, Kept, length, List, list_all, nat_lt, PairRecord, passes_at, Rank, ranks, refl, rises, slice_get}
+use Rattle.is_pair.proofs.Common.{slice_set, Some, suc, sym, true, zero, ℕ}
 use Rattle.is_pair.proofs.PairEntries.AnsweredPair.{any-set}
 
 all-set : {X : Type 0} (t : X → Bool) (xs : List X) (k : ℕ) (x y : X) → slice_get xs k ≡ Some x → t y ≡ t x → list_all t (slice_set xs k y) ≡ list_all t xs

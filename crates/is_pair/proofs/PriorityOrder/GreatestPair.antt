@@ -1,17 +1,8 @@
 -- What is among a list, and the rank of a pair.
-use Rattle.std.proofs.Common.{if◌then◌else◌, ◌≡◌, ◌==◌, ℕ, ◌≤◌, ◌||◌, Bool, true, false, List, [], ◌∷◌, filter, find, reverse, nat_le, Some, None, unwrap_or, inl, inr, refl, sym, ap, subst, ◌∙◌, arith}
-use Rattle.std.proofs.lemmas.Bool.{eq-eqb, eqb-true}
-use Rattle.std.proofs.lemmas.List.{reverse-append}
-use Rattle.std.proofs.lemmas.List.Folds.{find-append}
-use Rattle.std.specs.List.{list_any, list_all}
-use Rattle.std.specs.Option.{option_or}
-use Rattle.is_proto.specs.Lists.{Has}
-use Rattle.is_pair.specs.declared.checklist.entries.Rank.{Rank}
-use Rattle.is_pair.specs.Pairs.{PairRecord}
-use Rattle.is_pair.specs.Multiset.{is_numbered, pair_numbered, passes_at, rises, IsGreatest}
-use Rattle.is_pair.specs.Entries.{are_ordered, is_rank, has_passing, IsRanking}
-use Rattle.is_pair.proofs.PairEntries.ChangedEntry.{both, none-passes, one-passes}
-use Rattle.is_pair.proofs.PriorityOrder.OrderedPairs.{le-from}
+use Rattle.is_pair.proofs.Common.{[], ◌==◌, ◌||◌, ◌∙◌, ◌∷◌, ◌≡◌, ap, Bool, eq-eqb, eqb-true, false, filter, find, Has, has_passing}
+use Rattle.is_pair.proofs.Common.{if◌then◌else◌, inl, inr, is_numbered, is_rank, IsRanking, List, list_all, list_any, pair_numbered}
+use Rattle.is_pair.proofs.Common.{PairRecord, passes_at, Rank, refl, rises, Some, sym, true, unwrap_or, ℕ}
+use Rattle.is_pair.proofs.PairEntries.ChangedEntry.{both, one-passes}
 
 -- ---- what is among a list
 
@@ -36,14 +27,6 @@ pub all-has : {X : Type 0} (t : X → Bool) (xs : List X) (x : X) → list_all t
 all-has t [] x h has = elim has [ ]
 all-has t (y ∷ ys) x h (inl e) = ap t (sym e) ∙ (both (t y) (list_all t ys) h).0
 all-has t (y ∷ ys) x h (inr has) = all-has t ys x (both (t y) (list_all t ys) h).1 has
-
-pub none-any : {X : Type 0} (t : X → Bool) (xs : List X) → list_any t xs ≡ false → filter t xs ≡ []
-none-any t [] none = refl
-none-any t (x ∷ xs) none =
-    elim (t x) as (λ b. (b || list_any t xs) ≡ false → (if b then x ∷ filter t xs else filter t xs) ≡ []) [
-      | true ↦ λ h. absurd (cc)
-      | false ↦ λ h. none-any t xs h
-    ] none
 
 pub filter-none : {X : Type 0} (t : X → Bool) (xs : List X) → ((x : X) → Has xs x → t x ≡ true → ⊥) → filter t xs ≡ []
 filter-none t [] none = refl

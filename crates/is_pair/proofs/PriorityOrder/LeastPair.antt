@@ -1,13 +1,8 @@
 -- The pair of least priority, found at the front of the order.
-use Rattle.std.proofs.Common.{if◌then◌else◌, ◌≡◌, ◌==◌, ℕ, suc, ◌<◌, ◌≤◌, true, false, not, length, List, [], ◌∷◌, find, Bool, nat_le, slice_get, Some, None, unwrap_or, inl, inr, refl, sym, ap, subst, ◌∙◌, arith}
-use Rattle.std.proofs.lemmas.Bool.{eq-eqb}
-use Rattle.std.proofs.lemmas.List.Sums.{length-filter, count_by-le-length}
-use Rattle.std.specs.List.{list_all}
-use Rattle.is_proto.specs.Lists.{Has}
-use Rattle.is_pair.specs.declared.checklist.entries.Rank.{Rank}
-use Rattle.is_pair.specs.Pairs.{PairRecord}
-use Rattle.is_pair.specs.Multiset.{is_numbered, pair_numbered, rises, without, IsLeast, IsLeastPassing, IsLowest}
-use Rattle.is_pair.specs.Entries.{are_ordered, has_passing, is_rank, IsRanking}
+use Rattle.is_pair.proofs.Common.{[], ◌<◌, ◌==◌, ◌∙◌, ◌∷◌, ◌≡◌, ◌≤◌, ap, are_ordered, arith, Bool, count_by-le-length, eq-eqb, false, find}
+use Rattle.is_pair.proofs.Common.{Has, has_passing, if◌then◌else◌, inl, inr, is_numbered, is_rank, IsLeast, IsLeastPassing, IsLowest}
+use Rattle.is_pair.proofs.Common.{IsRanking, length, length-filter, List, list_all, nat_le, None, not, pair_numbered, PairRecord, Rank}
+use Rattle.is_pair.proofs.Common.{refl, rises, slice_get, Some, subst, suc, sym, true, unwrap_or, without, ℕ}
 use Rattle.is_pair.proofs.PairEntries.ChangedEntry.{both, none-passes, one-passes}
 use Rattle.is_pair.proofs.PriorityOrder.GreatestPair.{all-has, filter-none, found-has, has-any, has-rank, rank-priority}
 use Rattle.is_pair.proofs.PriorityOrder.OrderedPairs.{le-from}

@@ -1,10 +1,6 @@
 -- The pairs of a checklist in the order of their priorities.
-use Rattle.std.proofs.Common.{if◌then◌else◌, ◌≡◌, ℕ, ◌<◌, ◌≤◌, zero, suc, Bool, true, false, List, [], ◌∷◌, length, filter, get_or, nat_le, refl, arith}
-use Rattle.std.proofs.lemmas.Bool.Decides.{nat_tests}
-use Rattle.std.specs.List.{list_all}
-use Rattle.std.specs.List.Sorted.{IsNonDecreasingBy}
-use Rattle.is_pair.specs.declared.checklist.entries.Rank.{Rank}
-use Rattle.is_pair.specs.Entries.{are_ordered}
+use Rattle.is_pair.proofs.Common.{[], ◌<◌, ◌∷◌, ◌≡◌, ◌≤◌, are_ordered, arith, Bool, false, filter, get_or, if◌then◌else◌, IsNonDecreasingBy}
+use Rattle.is_pair.proofs.Common.{length, List, list_all, nat_le, nat_tests, Rank, refl, suc, true, zero, ℕ}
 use Rattle.is_pair.proofs.PairEntries.ChangedEntry.{both, all-filter}
 
 pub ordered-filter : (t : Rank → Bool) (rs : List Rank) → are_ordered rs ≡ true → are_ordered (filter t rs) ≡ true

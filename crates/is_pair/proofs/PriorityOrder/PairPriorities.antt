@@ -1,8 +1,6 @@
 -- What the priority of a pair implies for its candidates.
-use Rattle.std.proofs.Common.{◌≡◌, ℕ, ◌+◌, ◌*◌, ◌^◌, ◌<◌, ◌≤◌, ◌⊎◌, inl, inr, arith}
-use Rattle.std.proofs.lemmas.Bool.{cases_lt}
-use Rattle.std.proofs.lemmas.Bool.Decides.{nat_tests}
 use Rattle.is_pair.specs.Priorities.{combined}
+use Rattle.is_pair.proofs.Common.{◌*◌, ◌+◌, ◌<◌, ◌^◌, ◌≡◌, ◌≤◌, ◌⊎◌, arith, cases_lt, inl, inr, nat_tests, ℕ}
 
 -- the formula, with its last bit written out
 pub combined_cases : (g d : ℕ) → ((d < g) × (combined g d ≡ 2 ^ 32 * d + 2 * g + 1)) ⊎ ((g ≤ d) × (combined g d ≡ 2 ^ 32 * g + 2 * d))

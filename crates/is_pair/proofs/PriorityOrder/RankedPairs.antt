@@ -1,16 +1,10 @@
 -- The pairs in the order by priority: all pairs of the list, each once.
-use Rattle.std.proofs.Common.{if◌then◌else◌, ◌≡◌, ◌==◌, ℕ, zero, suc, ◌+◌, ◌<◌, ◌≤◌, ◌&&◌, Bool, true, false, not, List, [], ◌∷◌, filter, length, slice_get, nat_le, Option, Some, None, inl, inr, refl, sym, ap, subst, ◌∙◌, arith}
-use Rattle.std.proofs.lemmas.Bool.{eq-eqb, eqb-true}
-use Rattle.std.proofs.lemmas.Bool.Decides.{nat_tests}
-use Rattle.std.specs.List.{list_all, cons_option}
-use Rattle.is_proto.specs.Lists.{Has}
-use Rattle.is_pair.specs.declared.checklist.entries.Rank.{Rank}
-use Rattle.is_pair.specs.Pairs.{PairRecord}
-use Rattle.is_pair.specs.Multiset.{is_numbered, pair_numbered, passes_at, rises, without}
-use Rattle.is_pair.specs.Entries.{are_ordered, are_single, is_rank, IsRanking}
-use Rattle.is_pair.specs.Lowest.{pairs_of, priorities_rise, AreRanked}
+use Rattle.is_pair.proofs.Common.{[], ◌==◌, ◌∙◌, ◌∷◌, ◌≡◌, ◌≤◌, ap, are_ordered, are_single, AreRanked, arith, Bool, cons_option, eq-eqb}
+use Rattle.is_pair.proofs.Common.{eqb-true, false, filter, Has, if◌then◌else◌, inl, inr, is_numbered, is_rank, IsRanking, length, List}
+use Rattle.is_pair.proofs.Common.{list_all, nat_le, nat_tests, None, not, Option, pair_numbered, PairRecord, pairs_of, passes_at}
+use Rattle.is_pair.proofs.Common.{priorities_rise, Rank, refl, rises, slice_get, Some, subst, suc, sym, true, without, zero, ℕ}
 use Rattle.is_pair.proofs.ListParts.{filter-swap, find-other, had-filtered, has-filter, left-other, named-once, none-numbered, one-goes}
-use Rattle.is_pair.proofs.PairEntries.ChangedEntry.{both, filter-whole, found-number, none-passes, rises-filter}
+use Rattle.is_pair.proofs.PairEntries.ChangedEntry.{both, filter-whole, found-number, rises-filter}
 use Rattle.is_pair.proofs.PriorityOrder.GreatestPair.{all-has, any-has, filter-none, found-has, has-any}
 use Rattle.is_pair.proofs.PriorityOrder.OrderedPairs.{le-from}
 

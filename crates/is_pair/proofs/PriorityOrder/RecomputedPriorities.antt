@@ -1,12 +1,7 @@
 -- All pairs get new priorities, and the order is updated.
-use Rattle.std.proofs.Common.{◌≡◌, ◌==◌, ℕ, ◌&&◌, ◌||◌, Bool, true, false, List, [], ◌∷◌, map, Some, None, option_map, refl, sym, ap, ◌∙◌}
-use Rattle.std.proofs.lemmas.Bool.{eq-eqb, eqb-true}
-use Rattle.std.specs.List.{list_any}
-use Rattle.std.specs.Option.{option_map_or}
-use Rattle.is_pair.specs.declared.checklist.entries.Rank.{Rank}
-use Rattle.is_pair.specs.Pairs.{PairRecord}
-use Rattle.is_pair.specs.Multiset.{pair_numbered, ranks, rises}
-use Rattle.is_pair.specs.Entries.{is_rank, rank_now, IsRanking}
+use Rattle.is_pair.proofs.Common.{[], ◌&&◌, ◌==◌, ◌||◌, ◌∙◌, ◌∷◌, ◌≡◌, ap, Bool, eq-eqb, eqb-true, false, is_rank, IsRanking, List}
+use Rattle.is_pair.proofs.Common.{list_any, map, None, option_map, option_map_or, pair_numbered, PairRecord, Rank, rank_now, ranks, refl}
+use Rattle.is_pair.proofs.Common.{rises, Some, sym, true, ℕ}
 use Rattle.is_pair.proofs.PairEntries.ChangedEntry.{both, none-passes, numbered-changed, one-passes, rises-changed}
 use Rattle.is_pair.proofs.PriorityOrder.GreatestPair.{any-has, has-any}
 

@@ -1,14 +1,9 @@
 -- No two entries of the order by priority have the same number.
-use Rattle.std.proofs.Common.{if◌then◌else◌, ◌≡◌, ◌==◌, ℕ, ◌&&◌, ◌||◌, Bool, true, false, not, List, [], ◌∷◌, filter, map, nat_lt, None, Some, refl, sym, ap, subst, ◌∙◌}
-use Rattle.std.proofs.lemmas.Bool.{eq-eqb, eqb-true}
-use Rattle.std.proofs.lemmas.List.Sorted.{IsPermutation-map}
 use Rattle.std.proofs.lemmas.Map.Keys.{IsDistinct-IsPermutation}
-use Rattle.std.specs.List.{list_all, list_any, AllByRecursion, IsDistinct}
-use Rattle.std.specs.List.Sorted.{IsPermutation}
-use Rattle.is_pair.specs.declared.checklist.entries.Rank.{Rank}
-use Rattle.is_pair.specs.Pairs.{PairRecord}
-use Rattle.is_pair.specs.Multiset.{are_below, pair_numbered}
-use Rattle.is_pair.specs.Entries.{are_single, rank_now}
+use Rattle.std.specs.List.{IsDistinct}
+use Rattle.is_pair.proofs.Common.{[], ◌&&◌, ◌==◌, ◌||◌, ◌∙◌, ◌∷◌, ◌≡◌, AllByRecursion, ap, are_below, are_single, Bool, eq-eqb, eqb-true}
+use Rattle.is_pair.proofs.Common.{false, filter, if◌then◌else◌, IsPermutation, IsPermutation-map, List, list_all, list_any, map, nat_lt}
+use Rattle.is_pair.proofs.Common.{None, not, pair_numbered, PairRecord, Rank, rank_now, refl, sym, true, ℕ}
 use Rattle.is_pair.proofs.PairEntries.ChangedEntry.{all-filter, below-apart, both}
 use Rattle.is_pair.proofs.PriorityOrder.RecomputedPriorities.{number-now}
 

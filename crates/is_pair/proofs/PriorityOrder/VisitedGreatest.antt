@@ -1,8 +1,6 @@
 -- The pair of greatest priority among those that pass, found by a loop over all pairs.
-use Rattle.std.proofs.Common.{◌≡◌, ◌<◌, ◌≤◌, ◌⊎◌, Bool, true, false, List, [], ◌∷◌, Option, Some, None, filter, if◌then◌else◌, inl, inr, refl, sym, ap, subst, ◌∙◌, arith}
-use Rattle.is_proto.specs.Lists.{Has, NonePass}
-use Rattle.is_pair.specs.Pairs.{PairRecord}
-use Rattle.is_pair.specs.Multiset.{IsGreatest}
+use Rattle.is_pair.proofs.Common.{[], ◌<◌, ◌∙◌, ◌∷◌, ◌≡◌, ◌≤◌, ◌⊎◌, ap, arith, Bool, false, filter, Has, if◌then◌else◌, inl, inr}
+use Rattle.is_pair.proofs.Common.{IsGreatest, List, None, NonePass, Option, PairRecord, refl, Some, subst, sym, true}
 use Rattle.is_pair.proofs.PriorityOrder.GreatestPair.{filter-none}
 
 module _ (test : PairRecord → Bool) where

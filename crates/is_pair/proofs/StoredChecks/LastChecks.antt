@@ -1,12 +1,8 @@
 -- The last checks stay the last without the first one, and a check with an id is at the index that is found.
-use Rattle.std.proofs.Common.{◌≡◌, ℕ, ◌+◌, ◌-◌, ◌<◌, Bool, true, false, cond, ◌||◌, List, [], ◌∷◌, length, drop, find, position, get_or, suc, Option, Some, None, is_some, refl, sym, ◌∙◌, ap, arith, Bor}
-use Rattle.std.proofs.lemmas.Option.{slice_get_read}
-use Rattle.std.proofs.lemmas.List.Quantifiers.{position-Some}
-use Rattle.std.proofs.lemmas.Slice.Eq.{bytes_eq-Decides}
-use Rattle.std.proofs.lemmas.Iterator.Adapters.{position_from-zero}
-use Rattle.std.specs.List.{list_any, position_from}
-use Rattle.std.specs.Option.{option_copied}
-use Rattle.is_pair.specs.Checks.{Check, IsCheckAt, has_id, is_kept, last_checks}
+use Rattle.is_pair.proofs.Common.{[], ◌+◌, ◌-◌, ◌<◌, ◌||◌, ◌∙◌, ◌∷◌, ◌≡◌, ap, arith, Bool, Bor, bytes_eq-Decides, Check, cond, drop, false}
+use Rattle.is_pair.proofs.Common.{find, get_or, has_id, is_kept, is_some, IsCheckAt, last_checks, length, List, list_any, None, Option}
+use Rattle.is_pair.proofs.Common.{option_copied, position, position-Some, position_from, position_from-zero, refl, slice_get_read, Some}
+use Rattle.is_pair.proofs.Common.{suc, sym, true, ℕ}
 
 -- the first check is none of the last n
 pub last_checks-drop : (n : ℕ) (checks : List Check) → n < length checks → last_checks n (drop 1 checks) ≡ last_checks n checks

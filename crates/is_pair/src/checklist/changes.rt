@@ -3,7 +3,7 @@
 ghost use Rattle.std.specs.Prelude.{◌≡◌, ◌<◌, ℕ, true, map};
 ghost use Rattle.is_pair.specs.Multiset.{are_below, change_pair, with_priority, KeepsKeys};
 ghost use Rattle.is_pair.specs.Pairs.{heard, undue, with_error};
-ghost use Rattle.is_pair.specs.Due.{asked};
+ghost use Rattle.is_pair.specs.Due.{scheduled};
 ghost use Rattle.is_pair.specs.Checklists.{multiset_of, HasRoom, HasCheckRoom, removed_of};
 
 use super::{Checklist, PairChange, PairPriority, listed, ranks};
@@ -46,15 +46,15 @@ impl PairChange for Undue {
 
 /// Computes the due time of the next check, and fixes it.
 #[derive(Clone, Copy)]
-struct Asked<'a> {
+struct Scheduled<'a> {
     now: Instant,
     timing: &'a StunTiming,
 }
 
-impl PairChange for Asked<'_> {
-    ghost use Rattle.is_pair.specs.Due.{asked};
+impl PairChange for Scheduled<'_> {
+    ghost use Rattle.is_pair.specs.Due.{scheduled};
 
-    ghost makes = { λ t p. asked t.now.0 t.timing.now p };
+    ghost makes = { λ t p. scheduled t.now.0 t.timing.now p };
 
     fn change(&self, pair: &mut CandidatePair) {
         pair.fix_due_time(self.now, self.timing);
@@ -115,13 +115,13 @@ impl Checklist {
 
     /// Computes the due times of the next checks of all pairs, and fixes them.
     pub fn fix_due_times(&mut self, now: Instant, timing: &StunTiming)
-        ensures asked { multiset_of self.new ≡ map (asked now.0 timing.now) (multiset_of self.old) }
+        ensures scheduled { multiset_of self.new ≡ map (scheduled now.0 timing.now) (multiset_of self.old) }
         ensures room { (n : ℕ) → HasRoom n self.old → HasRoom n self.new }
         ensures check_room { (n : ℕ) → HasCheckRoom n self.old → HasCheckRoom n self.new }
         ensures below { (n : ℕ) → are_below n (multiset_of self.old) ≡ true → are_below n (multiset_of self.new) ≡ true }
         ensures removed { removed_of self.new ≡ removed_of self.old }
     {
-        self.change_all(&Asked { now, timing });
+        self.change_all(&Scheduled { now, timing });
     }
 
     /// Forgets the fixed due times of all pairs, so that they are computed again, as when the timing changes.

@@ -91,8 +91,7 @@ fn forget_at(index: &mut Vec<Kept>, pair: &CandidatePair, place: usize)
     }
 }
 
-/// Does the same for all entries, if this is the only ID that the pair may no longer store. Usually one entry has the
-/// ID.
+/// Removes the entries of IDs that the pair no longer stores, if this is the only such ID. Usually one entry has it.
 fn forget_id(index: &mut Vec<Kept>, pair: &CandidatePair, id: TransId)
     requires rising { ids_rise index.old.items ≡ true }
     requires left { LeavesCurrent pair.now index.old.items (Oldest id) }
@@ -108,7 +107,7 @@ fn forget_id(index: &mut Vec<Kept>, pair: &CandidatePair, id: TransId)
     }
 }
 
-/// Does the same, depending on which of the pair's checks were dropped.
+/// Removes the entries of IDs that the pair no longer stores, by which of its checks were dropped.
 fn forget(index: &mut Vec<Kept>, pair: &CandidatePair, cut: Cut)
     requires rising { ids_rise index.old.items ≡ true }
     requires left { LeavesCurrent pair.now index.old.items cut }

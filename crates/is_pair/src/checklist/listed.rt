@@ -211,7 +211,8 @@ pub(super) fn earliest_call_with(
     first
 }
 
-/// Returns the same, or this time if that is later. It looks at the pairs until one is due, or its consent ends, by this time.
+/// Returns the earliest time at which a pair is due, or its consent ends, or the time `from` if that is later. It looks at the pairs until
+/// one is due, or its consent ends, by this time.
 pub(super) fn earliest_call_from(
     pairs: &[CandidatePair],
     now: Instant,

@@ -11,7 +11,7 @@ use super::listed;
 use super::pair_test::PairTest;
 use crate::pair::CandidatePair;
 
-/// Inserts one more, after those of no greater priority.
+/// Inserts one more entry, after those of no greater priority.
 pub(crate) fn put(ranks: &mut Vec<Rank>, rank: Rank)
     requires room { vec_len ranks.old < vec_capacity ranks.old }
     requires ordered { are_ordered ranks.old.items ≡ true }
@@ -29,14 +29,14 @@ pub(crate) fn put(ranks: &mut Vec<Rank>, rank: Rank)
     }
 }
 
-/// Returns the one at a place.
+/// Returns the entry at a place.
 pub(crate) fn at(ranks: &[Rank], place: usize) -> Option<Rank>
     ensures { result ≡ slice_get ranks.now place }
 {
     ranks.get(place).copied()
 }
 
-/// Removes those of pairs that no longer exist.
+/// Removes the entries of pairs that no longer exist.
 pub(crate) fn keep_known(ranks: &mut Vec<Rank>, pairs: &[CandidatePair])
     requires rising { rises pairs.now ≡ true }
     ensures items { ranks.new.items ≡ filter (λ r. has_number r.number pairs.now) ranks.old.items }
@@ -46,7 +46,7 @@ pub(crate) fn keep_known(ranks: &mut Vec<Rank>, pairs: &[CandidatePair])
     ranks.retain(|rank| listed::has(pairs, rank.number));
 }
 
-/// Removes those of the number.
+/// Removes the entries of the number.
 pub(crate) fn drop_number(ranks: &mut Vec<Rank>, number: u64)
     ensures items { ranks.new.items ≡ filter (λ r. not (r.number == number)) ranks.old.items }
     ensures within { vec_len ranks.new ≤ vec_len ranks.old }
@@ -55,7 +55,7 @@ pub(crate) fn drop_number(ranks: &mut Vec<Rank>, number: u64)
     ranks.retain(|rank| rank.number != number);
 }
 
-/// Returns the first one whose pair passes the test.
+/// Returns the first entry whose pair passes the test.
 pub(crate) fn first_passing<T: PairTest>(
     ranks: &[Rank],
     pairs: &[CandidatePair],
@@ -70,7 +70,7 @@ pub(crate) fn first_passing<T: PairTest>(
         .copied()
 }
 
-/// Gives each the current priority of its pair.
+/// Gives each entry the current priority of its pair.
 fn follow_each(ranks: &mut [Rank], pairs: &[CandidatePair])
     requires rising { rises pairs.now ≡ true }
     ensures { ranks.new ≡ map (rank_now pairs.now) ranks.old }
@@ -102,7 +102,7 @@ fn rank_now(rank: Rank, pairs: &[CandidatePair]) -> Rank
     }
 }
 
-/// Sorts all by the current priorities of their pairs.
+/// Sorts the entries by the current priorities of their pairs.
 pub(crate) fn rebuild_order(ranks: &mut Vec<Rank>, pairs: &[CandidatePair])
     requires rising { rises pairs.now ≡ true }
     requires single { are_single ranks.old.items ≡ true }

@@ -72,7 +72,7 @@ impl Checklist {
         self.earliest_call_with(now, timing, timing.consent())
     }
 
-    /// The same for a caller that keeps what the timing says of consent.
+    /// Returns the earliest time at which a pair is due or its consent ends, for a caller that keeps what the timing says of consent.
     pub fn earliest_call_with(
         &self,
         now: Instant,
@@ -85,7 +85,8 @@ impl Checklist {
         listed::earliest_call_with(&self.pairs, now, timing, consent)
     }
 
-    /// The same, or this time if that is later. With many pairs one is mostly due by then, and the others are not looked at.
+    /// Returns the earliest time at which a pair is due or its consent ends, or the time `from` if that is later. With many pairs one is
+    /// mostly due by then, and the others are not looked at.
     pub fn earliest_call_from(
         &self,
         now: Instant,

@@ -46,14 +46,14 @@ pub struct RemovedPair {
     pub remote: usize,
     /// The priority of the pair.
     pub priority: u64,
-    /// Its last state.
-    pub state: CheckState,
     /// How many checks were sent.
     pub checks_sent: u64,
     /// How many success responses arrived, including repeated ones.
     pub responses_received: u64,
     /// The code of the last error response, if one arrived.
     pub error: Option<u16>,
+    /// Its last state.
+    pub state: CheckState,
     /// Why it was removed.
     pub why: Removal,
 }
@@ -80,10 +80,10 @@ impl RemovedPair {
             local: pair.local_idx(),
             remote: pair.remote_idx(),
             priority: pair.prio(),
-            state: pair.state(),
             checks_sent: pair.checks_sent(),
             responses_received: pair.responses_received(),
             error: pair.last_error(),
+            state: pair.state(),
             why,
         }
     }

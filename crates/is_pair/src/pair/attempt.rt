@@ -10,7 +10,7 @@ use std::marker::Model;
 /// One connectivity check that a pair sent, a Binding request, and its response (RFC 8445, section 7.2).
 #[derive(Clone, Copy, Debug)]
 pub struct BindingAttempt {
-    /// Matches the response to the request.
+    /// The transaction ID, by which a response matches the check.
     pub(crate) trans_id: TransId,
     pub(crate) request_sent: Instant,
     /// The time of the last response.

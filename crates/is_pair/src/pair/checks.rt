@@ -6,7 +6,7 @@ ghost use Rattle.std.specs.VecDeque.{deque_capacity};
 ghost use Rattle.rand_core.specs.Stream.{fill_bytes};
 ghost use Rattle.is_pair.specs.Checks.{has_id, is_kept};
 ghost use Rattle.is_pair.specs.Cutting.{CutsByNext};
-ghost use Rattle.is_pair.specs.Pairs.{TakesAnswer, check_of, once_sent, once_answered, checked};
+ghost use Rattle.is_pair.specs.Pairs.{TakesAnswer, check_of, once_sent, once_answered, checked, lost_by, passed_over};
 
 use super::attempt::BindingAttempt;
 use super::consent::last_of;
@@ -90,8 +90,8 @@ impl CandidatePair {
         self.cached_next_attempt_time = None;
     }
 
-    /// Does the same without failing: if the pair stores fewer checks than it may, the spare queue has capacity for one more. If the pair's
-    /// own queue is full, the two are swapped.
+    /// Stores a check that is sent now, as `new_attempt`, but without failing: if the pair stores fewer checks than it may, the spare
+    /// queue has capacity for one more. If the pair's own queue is full, the two are swapped.
     pub(crate) fn new_attempt_reserved<R: Rng>(
         &mut self,
         now: Instant,
@@ -144,8 +144,28 @@ impl CandidatePair {
             return;
         };
         let attempt = self.binding_attempts[place];
+        self.lost_checks = self.lost_by(place);
         self.binding_attempts[place] = attempt.answered_at(now);
         self.once_answered(now, attempt);
+    }
+
+    /// Returns how many checks are lost once the one at this index has a response.
+    fn lost_by(&self, place: usize) -> u32
+        ensures { result ≡ lost_by place self.now }
+    {
+        if self.responses_received == 0 {
+            return self.lost_checks;
+        }
+        let passed = self.passed_over(place).min(u32::MAX as usize) as u32;
+        self.lost_checks.saturating_add(passed)
+    }
+
+    /// Returns how many checks of the pair's silence came before the one at this index.
+    fn passed_over(&self, place: usize) -> usize
+        ensures { result ≡ passed_over place self.now.checks }
+    {
+        let from = self.binding_attempts.len().saturating_sub(place);
+        attempts::unanswered(&self.binding_attempts).saturating_sub(from)
     }
 
     /// Updates the state after the response to this check.

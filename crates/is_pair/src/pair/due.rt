@@ -3,9 +3,9 @@
 ghost use Rattle.std.specs.Prelude.{◌≡◌, ◌<◌, ◌||◌, ◌+◌, is_some, min, option_map};
 ghost use Rattle.is_proto.specs.Times.{later};
 ghost use Rattle.is_pair.specs.Pairs.{is_valid, undue};
-ghost use Rattle.is_pair.specs.Due.{asked, delaying_count, due_time_of, is_heard, is_in_time, is_possible, long_before, next_due_time, computed_due_time};
+ghost use Rattle.is_pair.specs.Due.{scheduled, delaying_count, due_time_of, is_heard, is_in_time, is_possible, long_before, next_due_time, computed_due_time};
 ghost use Rattle.is_pair.specs.Due.{early_span, is_asked_first};
-ghost use Rattle.is_pair.specs.Due.{delay_of, has_early_checks, hushed_delay, hushed_interval, is_hushed, modern_delay, repeated_delay, is_beginning, is_early_on, is_early_silence, is_open, is_repeated_early, is_triggered, is_urgent, is_within, is_within_series, is_young, moved_up, silent_count, triggered, usual_delay};
+ghost use Rattle.is_pair.specs.Due.{delay_of, has_early_checks, hushed_delay, hushed_interval, is_hushed, modern_delay, repeated_delay, response_wait, is_beginning, is_early_on, is_early_silence, is_open, is_repeated_early, is_triggered, is_urgent, is_within, is_within_series, is_young, moved_up, silent_count, triggered, usual_delay};
 
 use super::attempt::BindingAttempt;
 use super::requests::is_recent;
@@ -27,8 +27,9 @@ const BEGINNING: Duration = Duration(500_000_000);
 /// and a path that is slow or dead is not filled (RFC 8489, section 6.2.1).
 const EARLY_TIME: Duration = Duration(2_500_000_000);
 
-/// The same for a pair whose first check followed a request of the peer. Whoever sees a request can replay it from any address, so eleven
-/// checks are all that an address gets which never answers: seven early ones, and then one each 2.9 s until the request is 15 s old.
+/// How long checks without a response are repeated early if the pair's first check followed a request of the peer. Whoever sees a request
+/// can replay it from any address. So an address that never answers gets at most eleven checks: seven early ones, and then one each 2.9 s
+/// until the request is 15 s old.
 const ASKED_TIME: Duration = Duration(1_200_000_000);
 
 /// How long a nominated pair that is silent is checked quickly at least, from the time on at which the check after the last answered one was
@@ -36,13 +37,13 @@ const ASKED_TIME: Duration = Duration(1_200_000_000);
 const HUSHED_TIME: Duration = Duration(4_500_000_000);
 
 /// The shortest delay after which a check of it is repeated.
-const SHORT_INTERVAL: Duration = Duration(80_000_000);
+const SHORT_INTERVAL: Duration = Duration(70_000_000);
 
-/// The same after that time.
+/// The shortest delay after which a check of a silent nominated pair is repeated, after the time for which it is checked quickly.
 const HUSHED_INTERVAL: Duration = Duration(500_000_000);
 
 /// How much later than the one before a response may come, before the check is repeated: a longer jitter is rare, and costs only a
-/// check.
+/// check. The next one is then repeated so much before its response is due.
 const LATENESS: Duration = Duration(30_000_000);
 
 /// Whether less than the span has passed since a time, if there is one.
@@ -66,15 +67,15 @@ impl CandidatePair {
     pub fn next_binding_attempt(&mut self, now: Instant, timing_config: &StunTiming) -> Instant
         requires { 0 < timing_config.now.max_retransmits }
         ensures time { result.0 ≡ due_time_of now.0 timing_config.now self.old }
-        ensures fixed { self.new ≡ asked now.0 timing_config.now self.old }
+        ensures fixed { self.new ≡ scheduled now.0 timing_config.now self.old }
     {
         self.fix_due_time(now, timing_config)
     }
 
-    /// Does the same, for any timing.
+    /// Returns the due time of the next check, and fixes it, as `next_binding_attempt` for any timing.
     pub(crate) fn fix_due_time(&mut self, now: Instant, timing_config: &StunTiming) -> Instant
         ensures time { result.0 ≡ due_time_of now.0 timing_config.now self.old }
-        ensures fixed { self.new ≡ asked now.0 timing_config.now self.old }
+        ensures fixed { self.new ≡ scheduled now.0 timing_config.now self.old }
     {
         match self.cached_next_attempt_time {
             Some(fixed) => fixed,
@@ -210,7 +211,8 @@ impl CandidatePair {
         }
     }
 
-    /// The same with the time for which checks of this pair are repeated early. Later on it is not computed.
+    /// Whether the time for which checks of this pair are repeated early (`early_span`) has not passed since its first check, or the first
+    /// one after a request of the peer. After 2.5 s this time is not computed.
     fn is_early_on(&self, now: Instant, timing: &StunTiming) -> bool
         ensures { result ≡ is_early_on now.0 timing.now self.now }
     {
@@ -245,9 +247,20 @@ impl CandidatePair {
     fn hushed_delay(&self, now: Instant, timing: &StunTiming) -> Duration
         ensures { result.0 ≡ hushed_delay now.0 timing.now self.now }
     {
+        self.hushed_interval(now, timing).max(self.response_wait())
+    }
+
+    /// Returns how long the response to the last check is waited for, by the time that the last response took: the first check without one is
+    /// repeated once its response is late, the others before it is due.
+    fn response_wait(&self) -> Duration
+        ensures { result.0 ≡ response_wait self.now.checks }
+    {
         let round_trip = self.last_successful_rtt().unwrap_or(Duration(0));
-        self.hushed_interval(now, timing)
-            .max(round_trip.saturating_add(LATENESS))
+        if attempts::unanswered(&self.binding_attempts) == 1 {
+            round_trip.saturating_add(LATENESS)
+        } else {
+            Duration(round_trip.0.saturating_sub(LATENESS.0))
+        }
     }
 
     /// Returns how often a nominated pair is checked at most, by how many of its checks have no response, and how long ago its last answered
@@ -398,7 +411,7 @@ pub fn due_time_of(pair: &CandidatePair, now: Instant, timing: &StunTiming) -> I
 }
 
 /// Whether the due time of the next check is fixed.
-pub fn is_asked(pair: &CandidatePair) -> bool
+pub fn is_scheduled(pair: &CandidatePair) -> bool
     ensures { result ≡ is_some pair.now.due }
 {
     match pair.cached_next_attempt_time {

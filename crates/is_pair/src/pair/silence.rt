@@ -17,7 +17,7 @@ const FOLLOWING: usize = 4;
 
 /// How long a silent pair is kept at least, from the time on at which the check after its last answered one was due at the latest: if three of
 /// ten packets are lost, all its checks of that time are rarely lost, however many `max_retransmits` are.
-const LEAST_SILENCE: Duration = Duration(1_100_000_000);
+const LEAST_SILENCE: Duration = Duration(850_000_000);
 
 /// The time from a check to a later one.
 #[derive(Clone, Copy, Debug)]
@@ -78,6 +78,13 @@ pub fn is_long_silent(pair: &CandidatePair, timing: &StunTiming, now: Instant) -
 {
     let span = timing.max_rto().saturating_add(LEAST_SILENCE);
     !is_within(span, now, pair.consented)
+}
+
+/// Returns how many checks were lost: they had no response yet when a later one had its first; not those before the pair's first response.
+pub fn lost_checks(pair: &CandidatePair) -> u32
+    ensures { result ≡ pair.now.lost }
+{
+    pair.lost_checks
 }
 
 /// Returns the time from the first check without a response to the first of the last four.

@@ -25,9 +25,9 @@ pub enum NominationState {
     None,
     /// Nominated, and no check was sent since then.
     Nominated,
-    /// A check was sent since then.
+    /// A check was sent since the nomination.
     Attempt,
-    /// Such a check had a response.
+    /// A check that was sent since the nomination had a response.
     Success,
 }
 

@@ -1,8 +1,6 @@
 -- The best index so far and one more index.
-use Rattle.std.proofs.Common.{◌≡◌, ℕ, ◌+◌, ◌<◌, ◌≤◌, Bool, true, false, List, Option, Some, None, arith, below_more}
-use Rattle.is_candidate.specs.Candidates.{CandidateRecord, candidate_at}
-use Rattle.is_candidate.specs.Priorities.{candidate_priority}
-use Rattle.is_rules.specs.Places.{IsGreatestBelow}
+use Rattle.is_rules.proofs.Common.{◌+◌, ◌<◌, ◌≡◌, ◌≤◌, arith, below_more, Bool, candidate_at, candidate_priority, CandidateRecord, false}
+use Rattle.is_rules.proofs.Common.{IsGreatestBelow, List, None, Option, Some, true, ℕ}
 
 true-is-false : {A : Type 0} (b : Bool) → b ≡ true → b ≡ false → A
 true-is-false b passes fails = absurd (cc)

@@ -1,23 +1,15 @@
 -- Pairs that become due at a time: nomination adds none.
-use Rattle.std.proofs.Common.{if◌then◌else◌, ◌≡◌, ℕ, ◌&&◌, ◌||◌, Bool, true, false, not, List, [], ◌∷◌, nat_le, Option, Some, None, is_some, unwrap_or, inl, inr, refl, sym, ap, subst, ◌∙◌, map}
-use Rattle.std.proofs.lemmas.Bool.{eqb-true}
-use Rattle.std.specs.List.{list_any}
-use Rattle.is_proto.specs.Lists.{Has}
-use Rattle.is_stun.specs.declared.timing.StunTiming.{StunTiming}
-use Rattle.is_pair.specs.Pairs.{PairRecord, is_nominated, is_valid, nominated}
-use Rattle.is_pair.specs.Multiset.{change_at, change_pair, is_numbered, pair_numbered, rises}
 use Rattle.is_rules.specs.Due.{awaits_nomination, falls_due}
-use Rattle.is_rules.specs.Nominating.{is_eligible, nominated_by_self}
+use Rattle.is_rules.proofs.Common.{[], ◌&&◌, ◌||◌, ◌∙◌, ◌∷◌, ◌≡◌, ap, Bool, change_at, change_pair, eqb-true, false, Has, if◌then◌else◌}
+use Rattle.is_rules.proofs.Common.{inl, inr, is_eligible, is_nominated, is_numbered, is_some, is_valid, List, list_any, map, nat_le}
+use Rattle.is_rules.proofs.Common.{nominated, nominated_by_self, None, not, Option, pair_numbered, PairRecord, refl, rises, Some}
+use Rattle.is_rules.proofs.Common.{StunTiming, subst, sym, true, unwrap_or, ℕ}
 use Rattle.is_rules.proofs.PairLists.PairsByNumber.{both, has-any, numbered-found}
 
 Has-map : {X Y : Type 0} (f : X → Y) (xs : List X) (y : Y) → Has (map f xs) y → (x : X) × Has xs x × (f x ≡ y)
 Has-map f [] y h = absurd h
 Has-map f (x ∷ xs) y (inl e) = (x, inl refl, e)
 Has-map f (x ∷ xs) y (inr h) = let r = Has-map f xs y h in (r.0, inr r.1, r.2)
-
-or-true : (a : Bool) → a || true ≡ true
-or-true true = refl
-or-true false = refl
 
 or-right : (a b : Bool) → b ≡ true → a || b ≡ true
 or-right true b h = refl

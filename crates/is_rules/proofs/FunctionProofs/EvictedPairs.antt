@@ -1,10 +1,8 @@
 -- Eviction leaves a cut of the list.
-use Rattle.std.proofs.Common.{if◌then◌else◌, ◌≡◌, ◌==◌, ℕ, ◌+◌, ◌<◌, ◌≤◌, ◌&&◌, Bool, true, false, not, List, [], ◌∷◌, filter, length, inl, inr, refl, suc, sym, ap, subst, ◌∙◌, arith}
-use Rattle.std.proofs.lemmas.Grind.{common_steps}
-use Rattle.is_proto.specs.Lists.{Has}
-use Rattle.is_pair.specs.Pairs.{PairRecord}
-use Rattle.is_pair.specs.Multiset.{is_numbered, without, EvictsInTurn}
 use Rattle.is_rules.specs.Cuts.{IsCut}
+use Rattle.is_rules.proofs.Common.{[], ◌&&◌, ◌+◌, ◌<◌, ◌==◌, ◌∙◌, ◌∷◌, ◌≡◌, ◌≤◌, ap, arith, Bool, common_steps, EvictsInTurn, false, filter}
+use Rattle.is_rules.proofs.Common.{Has, if◌then◌else◌, inl, inr, is_numbered, length, List, not, PairRecord, refl, subst, suc, sym, true}
+use Rattle.is_rules.proofs.Common.{without, ℕ}
 use Rattle.is_rules.proofs.PairLists.RisingNumbers.{AreRising}
 
 -- the pairs except the one with the number

@@ -1,13 +1,10 @@
 -- Eviction with kinds in turn leaves a cut of each kind, and shares the limit out among the kinds.
-use Rattle.std.proofs.Common.{if◌then◌else◌, ◌≡◌, ◌==◌, ℕ, ◌+◌, ◌<◌, ◌≤◌, ◌&&◌, Bool, true, false, not, List, [], ◌∷◌, count_by, filter, inl, inr, refl, sym, ap, subst, ◌∙◌, arith}
-use Rattle.std.proofs.lemmas.Bool.{eq-eqb, eqb-true}
-use Rattle.is_proto.specs.Lists.{Has}
-use Rattle.is_pair.specs.Pairs.{PairRecord}
-use Rattle.is_pair.specs.Multiset.{is_numbered}
 use Rattle.is_rules.specs.Cuts.{IsCutByKind, SharesOut}
-use Rattle.is_rules.specs.Evicting.{is_of_kind, kind_count, EvictsOfMostInTurn, IsLeastOfMost}
-use Rattle.is_rules.specs.Owed.{one_if}
-use Rattle.is_rules.proofs.FunctionProofs.EvictedPairs.{others, filter-all, filter-both, filtered-had, has-filtered, named-once, one-goes, rising-filter}
+use Rattle.is_rules.proofs.Common.{[], ◌&&◌, ◌+◌, ◌<◌, ◌==◌, ◌∙◌, ◌∷◌, ◌≡◌, ◌≤◌, ap, arith, Bool, count_by, eq-eqb, eqb-true}
+use Rattle.is_rules.proofs.Common.{EvictsOfMostInTurn, false, filter, Has, if◌then◌else◌, inl, inr, is_numbered, is_of_kind, IsLeastOfMost}
+use Rattle.is_rules.proofs.Common.{kind_count, List, not, one_if, PairRecord, refl, subst, sym, true, ℕ}
+use Rattle.is_rules.proofs.FunctionProofs.EvictedPairs.{others, filter-all, filter-both, filtered-had, has-filtered, named-once, one-goes}
+use Rattle.is_rules.proofs.FunctionProofs.EvictedPairs.{rising-filter}
 use Rattle.is_rules.proofs.PairLists.CountedPairs.{count-filter, count-head, less-or}
 use Rattle.is_rules.proofs.PairLists.RisingNumbers.{AreRising}
 

@@ -1,30 +1,21 @@
 -- The lowest pairs of each kind that are removed at once: they could be removed one after another.
-use Rattle.std.proofs.Common.{if◌then◌else◌, ◌≡◌, ◌==◌, ℕ, ◌+◌, ◌-◌, ◌<◌, ◌≤◌, ◌&&◌, ◌||◌, Bool, true, false, not, List, [], ◌∷◌, count_by, filter, length, slice_index, slice_set, Some, inl, inr, refl, sym, ap, subst, ◌∙◌, arith}
-use Rattle.std.proofs.lemmas.Bool.{eq-eqb, eqb-true}
-use Rattle.std.proofs.lemmas.Bool.Decides.{nat_tests}
-use Rattle.std.proofs.lemmas.List.{get_or-set_other, get_or-set_same, length-set}
-use Rattle.is_proto.specs.Lists.{Has}
-use Rattle.is_candidate.specs.Candidates.{CandidateRecord}
-use Rattle.is_pair.specs.Pairs.{PairRecord}
-use Rattle.is_pair.specs.Multiset.{is_numbered, rises, without, IsLeastPassing}
 use Rattle.is_pair.specs.Lowest.{is_low}
 use Rattle.is_pair.proofs.EvictedBlock.{at-least, at-most, least-or-none, LeastOrNone}
 use Rattle.is_pair.proofs.ListParts.{drops-none, filter-swap, passed, without-both}
 use Rattle.is_pair.proofs.PairEntries.ChangedEntry.{rises-filter}
-use Rattle.is_rules.specs.Kept.{is_placed}
-use Rattle.is_rules.specs.Kinds.{kind_of, KINDS}
-use Rattle.is_rules.specs.Owed.{one_if}
-use Rattle.is_rules.specs.Evicting.{is_of_kind, kind_count, AreCounted, EvictsOfMost, EvictsOfMostInTurn, HasMost, IsLeastOfKind, IsLeastOfMost}
-use Rattle.is_rules.specs.Shares.{is_low_of_kind, lowered, AreSums, EvictsSomeOfMost, IsGreatestCount, Takes, TakesInTurn}
+use Rattle.is_rules.proofs.Common.{[], ◌&&◌, ◌+◌, ◌-◌, ◌<◌, ◌==◌, ◌∙◌, ◌∷◌, ◌≡◌, ◌≤◌, ap, AreCounted, AreSums, arith, Bool, CandidateRecord}
+use Rattle.is_rules.proofs.Common.{count_by, eq-eqb, eqb-true, EvictsOfMost, EvictsOfMostInTurn, EvictsSomeOfMost, false, filter}
+use Rattle.is_rules.proofs.Common.{get_or-set_other, get_or-set_same, Has, HasMost, inl, inr, is_low_of_kind, is_numbered, is_of_kind}
+use Rattle.is_rules.proofs.Common.{is_placed, IsLeastOfKind, IsLeastOfMost, kind_count, kind_of, KINDS, length, length-set, List, list_all}
+use Rattle.is_rules.proofs.Common.{lowered, nat_tests, not, one_if, PairRecord, refl, rises, slice_index, slice_set, Some, subst, sym}
+use Rattle.is_rules.proofs.Common.{Takes, TakesInTurn, true, without, ℕ}
 use Rattle.is_rules.proofs.FunctionProofs.EvictedPairs.{filtered-had, has-filtered}
 use Rattle.is_rules.proofs.FunctionProofs.EvictedPairsByKind.{count-goes}
 use Rattle.is_rules.proofs.PairLists.CountedPairs.{count-all, count-zero}
 use Rattle.is_rules.proofs.PairLists.LeastOfKind.{most-below}
-use Rattle.is_rules.proofs.PairLists.PairKinds.{kind-below}
 use Rattle.is_rules.proofs.PairLists.PairsByNumber.{both}
 use Rattle.is_rules.proofs.PairLists.PairsInLists.{all-has}
 use Rattle.is_rules.proofs.PairLists.RisingNumbers.{rising-each}
-use Rattle.std.specs.List.{list_all}
 
 -- ---- counts
 

@@ -1,9 +1,6 @@
 -- A check that is found by its id is among the checks and has the id.
-use Rattle.std.proofs.Common.{◌≡◌, ℕ, Bool, true, false, List, Some, find, refl}
 use Rattle.std.proofs.Math.Bool.{beq}
-use Rattle.std.proofs.lemmas.Slice.Eq.{bytes_eq-Decides}
-use Rattle.is_proto.specs.Lists.{Has, same}
-use Rattle.is_pair.specs.Checks.{Check, has_id}
+use Rattle.is_rules.proofs.Common.{◌≡◌, Bool, bytes_eq-Decides, Check, false, find, Has, has_id, List, refl, same, Some, true, ℕ}
 use Rattle.is_rules.proofs.FunctionProofs.FoundElements.{find-Some}
 
 -- a check that is found by its id

@@ -1,13 +1,8 @@
 -- The pair that is checked ahead of those that are due earlier, found by a loop over all pairs.
-use Rattle.std.proofs.Common.{if◌then◌else◌, ◌≡◌, ℕ, ◌⊎◌, Bool, true, false, List, [], ◌∷◌, filter, Option, Some, None, IfSome, inl, inr, refl, sym, ap, subst, ◌∙◌, arith}
-use Rattle.is_proto.specs.Lists.{Has, NonePass}
-use Rattle.is_stun.specs.declared.timing.StunTiming.{StunTiming}
-use Rattle.is_candidate.specs.Candidates.{CandidateRecord}
-use Rattle.is_pair.specs.Pairs.{PairRecord}
-use Rattle.is_pair.specs.Due.{is_due, GoesBefore}
 use Rattle.is_rules.specs.declared.kinds.Precedence.{Precedence}
-use Rattle.is_rules.specs.Kept.{is_placed, are_placed}
-use Rattle.is_rules.specs.Kinds.{TurnsBefore, IsNextAhead}
+use Rattle.is_rules.proofs.Common.{[], ◌∙◌, ◌∷◌, ◌≡◌, ◌⊎◌, are_placed, arith, Bool, CandidateRecord, false, filter, GoesBefore, Has, IfSome}
+use Rattle.is_rules.proofs.Common.{if◌then◌else◌, inl, inr, is_due, is_placed, IsNextAhead, List, None, NonePass, Option, PairRecord, refl}
+use Rattle.is_rules.proofs.Common.{Some, StunTiming, subst, sym, true, TurnsBefore, ℕ}
 use Rattle.is_rules.proofs.PairLists.ChosenPair.{none_pass}
 use Rattle.is_rules.proofs.PairLists.PairsInLists.{all-has}
 
@@ -47,15 +42,6 @@ module _ (local remote : List CandidateRecord) (precedence : Precedence) (next n
   before-itself p = inr (refl, inr (refl, omega arith))
 
   -- ---- one more pair
-
-  -- it is not due
-  pub not-due : (done : List PairRecord) (p : PairRecord) (first : Option PairRecord) → due p ≡ false → IsNext done first → IsNext (p ∷ done) first
-  not-due done p None late none = rw (late) none
-  not-due done p (Some first) late (has, is, before) = (inr has, is, each)
-    where
-      each : (q : PairRecord) → Has (p ∷ done) q → due q ≡ true → Before first q
-      each q (inl same) its = let no : due p ≡ true = ap (λ (x : PairRecord). due x) same ∙ its in absurd (cc)
-      each q (inr h) its = before q h its
 
   -- it is the first that is due
   pub due-first : (done : List PairRecord) (p : PairRecord) → due p ≡ true → IsNext done None → IsNext (p ∷ done) (Some p)

@@ -1,11 +1,7 @@
 -- The pair that is asked along, found by a loop over all pairs: of those that pass, the one that is due first.
-use Rattle.std.proofs.Common.{if◌then◌else◌, ◌≡◌, ℕ, ◌⊎◌, Bool, true, false, List, [], ◌∷◌, filter, Option, Some, None, inl, inr, refl, sym, ap, subst, ◌∙◌, arith}
-use Rattle.is_proto.specs.Lists.{Has}
-use Rattle.is_stun.specs.declared.timing.StunTiming.{StunTiming}
 use Rattle.is_pair.specs.declared.pair.silence.Span.{Span}
-use Rattle.is_pair.specs.Pairs.{PairRecord}
-use Rattle.is_pair.specs.Due.{GoesBefore}
-use Rattle.is_rules.specs.Leaving.{is_asked_along, IsAskedNext}
+use Rattle.is_rules.proofs.Common.{[], ◌∙◌, ◌∷◌, ◌≡◌, ◌⊎◌, arith, Bool, GoesBefore, Has, inl, inr, is_asked_along, IsAskedNext, List, None}
+use Rattle.is_rules.proofs.Common.{Option, PairRecord, refl, Some, StunTiming, subst, sym, true, ℕ}
 use Rattle.is_rules.proofs.FunctionProofs.NextAhead.{none-when}
 use Rattle.is_rules.proofs.PairLists.ChosenPair.{none_pass}
 
@@ -29,15 +25,6 @@ module _ (number : ℕ) (silence : Span) (now : ℕ) (t : StunTiming) where
   before-itself p = inr (refl, omega arith)
 
   -- ---- one more pair
-
-  -- it does not pass
-  pub not-tested : (done : List PairRecord) (p : PairRecord) (first : Option PairRecord) → test p ≡ false → IsNext done first → IsNext (p ∷ done) first
-  not-tested done p None late none = rw (late) none
-  not-tested done p (Some first) late (has, is, before) = (inr has, is, each)
-    where
-      each : (q : PairRecord) → Has (p ∷ done) q → test q ≡ true → Before first q
-      each q (inl same) its = let no : test p ≡ true = ap (λ (x : PairRecord). test x) same ∙ its in absurd (cc)
-      each q (inr h) its = before q h its
 
   -- it is the first that passes
   pub tested-first : (done : List PairRecord) (p : PairRecord) → test p ≡ true → IsNext done None → IsNext (p ∷ done) (Some p)

@@ -1,66 +1,17 @@
 -- The slots by which a combination finds its redundant pairs.
-use Rattle.std.proofs.Common.{if◌then◌else◌, ◌≡◌, ◌==◌, ℕ, ◌+◌, ◌-◌, ◌*◌, ◌%◌, ◌^◌, ◌<◌, ◌≤◌, ◌⊎◌, ◌&&◌, ◌++◌, Bool, true, false, not, List, [], ◌∷◌, bytes_eq, filter, length, nat_lt, slice_index, slice_set, unwrap_or, Option, Some, None, inl, inr, refl, sym, ap, subst, ◌∙◌, arith}
-use Rattle.std.proofs.lemmas.Bool.{eq-eqb, eqb-true}
-use Rattle.std.proofs.lemmas.Bool.Decides.{nat_tests}
-use Rattle.std.proofs.lemmas.List.{get_or-set_other, get_or-set_same}
-use Rattle.std.proofs.lemmas.Slice.Eq.{bytes_eq-Decides}
 use Rattle.std.specs.declared.net.ipv4_addr.Ipv4Addr.{Ipv4Addr}
-use Rattle.std.specs.declared.net.socket_addr.SocketAddr.{SocketAddr}
-use Rattle.std.specs.declared.net.socket_addr.SocketAddr.TheVariants.{V4, V6}
 use Rattle.std.specs.Net.Addr.{ipv4_bits, ipv4_octets, ipv6_segments}
 use Rattle.std.specs.Net.Socket.{v4_ip, v4_port, v6_ip, v6_port, v6_flowinfo, v6_scope_id}
-use Rattle.is_proto.specs.Lists.{Has}
-use Rattle.is_proto.specs.Times.{MAX}
 use Rattle.is_candidate.specs.Addresses.{same_address, same_protocol}
-use Rattle.is_candidate.specs.Candidates.{CandidateRecord, base_of, candidate_at}
-use Rattle.is_pair.specs.Pairs.{PairRecord, taking_over}
-use Rattle.is_pair.specs.Multiset.{is_numbered, pair_numbered, rises, without, IsGreatest}
-use Rattle.is_rules.specs.Forming.{is_redundant, combined_priority, formed_as, pair_of, tried, Combination, Formed, SidesRecord}
-use Rattle.is_rules.specs.Slots.{address_number, path_number, slot_of, AreHeld, IsHeld}
+use Rattle.is_rules.proofs.Common.{[], ◌%◌, ◌&&◌, ◌*◌, ◌++◌, ◌+◌, ◌-◌, ◌<◌, ◌==◌, ◌^◌, ◌∙◌, ◌∷◌, ◌≡◌, ◌⊎◌, address_number, ap, AreHeld}
+use Rattle.is_rules.proofs.Common.{arith, base_of, Bool, bytes_eq, bytes_eq-Decides, candidate_at, Combination, combined_priority, eqb-true}
+use Rattle.is_rules.proofs.Common.{false, filter, Formed, formed_as, Has, if◌then◌else◌, inl, inr, is_numbered, is_redundant, IsGreatest}
+use Rattle.is_rules.proofs.Common.{IsHeld, length, List, MAX, nat_lt, None, not, Option, pair_numbered, pair_of, PairRecord, refl, rises}
+use Rattle.is_rules.proofs.Common.{SidesRecord, slice_index, slot_of, SocketAddr, Some, subst, sym, taking_over, tried, true, unwrap_or, V4}
+use Rattle.is_rules.proofs.Common.{V6, without, ℕ}
 use Rattle.is_rules.proofs.FunctionProofs.EvictedPairs.{filtered-had}
 use Rattle.is_rules.proofs.PairLists.PairsByNumber.{both, numbered-found}
 use Rattle.is_rules.proofs.PairLists.PairsInLists.{taken-places}
-
--- ---- what a slot holds
-
-set-same : (xs : List ℕ) (k v : ℕ) → k < length xs → slice_index (slice_set xs k v) k ≡ v
-set-same xs k v within = grind (arith, nat_tests, get_or-set_same, within)
-
-set-other : (xs : List ℕ) (k j v : ℕ) → k == j ≡ false → slice_index (slice_set xs k v) j ≡ slice_index xs j
-set-other xs k j v is = grind (arith, nat_tests, get_or-set_other, is)
-
-module _ (held : List ℕ) (slot v : ℕ) (within : slot < length held) (more : 0 < slice_index held slot → v ≡ MAX) where
-  pub held-here : (number : ℕ) → (slice_index held slot ≡ 0 → (v ≡ number + 1) ⊎ (v ≡ MAX)) → IsHeld (slice_set held slot v) slot number
-  held-here number first = by (slice_index held slot == 0) refl where
-    now : slice_index (slice_set held slot v) slot ≡ v
-    now = set-same held slot v within
-
-    either : (v ≡ number + 1) ⊎ (v ≡ MAX) → IsHeld (slice_set held slot v) slot number
-    either (inl e) = inl (now ∙ e)
-    either (inr e) = inr (now ∙ e)
-
-    by : (b : Bool) → (slice_index held slot == 0) ≡ b → IsHeld (slice_set held slot v) slot number
-    by true is = either (first (eqb-true (slice_index held slot) 0 is))
-    by false is = inr (now ∙ more (grind (arith, nat_tests, is)))
-
-  pub held-others : (other n : ℕ) → IsHeld held other n → IsHeld (slice_set held slot v) other n
-  held-others other n is = by (slot == other) refl where
-    again : slot ≡ other → 0 < slice_index held other → IsHeld (slice_set held slot v) other n
-    again same some =
-        let now : slice_index (slice_set held slot v) other ≡ v = subst (λ k. slice_index (slice_set held slot v) k ≡ v) same (set-same held slot v within) in
-        inr (now ∙ more (subst (λ k. 0 < slice_index held k) (sym same) some))
-
-    some : IsHeld held other n → 0 < slice_index held other
-    some (inl e) = omega (arith, e)
-    some (inr e) = omega (arith, e)
-
-    kept : slot == other ≡ false → IsHeld held other n → IsHeld (slice_set held slot v) other n
-    kept apart (inl e) = inl (set-other held slot other v apart ∙ e)
-    kept apart (inr e) = inr (set-other held slot other v apart ∙ e)
-
-    by : (b : Bool) → slot == other ≡ b → IsHeld (slice_set held slot v) other n
-    by true same = again (eqb-true slot other same) (some is)
-    by false apart = kept apart is
 
 -- ---- equal addresses have the same slot
 

@@ -1,12 +1,8 @@
 -- A chosen pair is an eligible one of the list. If none is chosen, none is eligible.
-use Rattle.std.proofs.Common.{◌≡◌, ℕ, Bool, true, false, List, [], ◌∷◌, Option, Some, None, inl, inr, refl, ap, sym, ◌∙◌, subst, cond, if◌then◌else◌}
-use Rattle.std.specs.Prelude.{filter, find, MatchOption}
-use Rattle.std.specs.Option.{option_and_then, option_or}
-use Rattle.std.proofs.lemmas.Bool.{eqb-true}
-use Rattle.is_proto.specs.Lists.{Has, NonePass}
-use Rattle.is_pair.specs.Pairs.{PairRecord}
-use Rattle.is_pair.specs.Multiset.{is_numbered, pair_numbered, is_named_by}
-use Rattle.is_rules.specs.Nominating.{is_eligible, if_eligible, eligible_numbered, favored, IsChosen, Selection}
+use Rattle.is_rules.proofs.Common.{[], ◌∙◌, ◌∷◌, ◌≡◌, ap, Bool, cond, eligible_numbered, eqb-true, false, favored, filter, find, Has}
+use Rattle.is_rules.proofs.Common.{if_eligible, if◌then◌else◌, inl, inr, is_eligible, is_named_by, is_numbered, IsChosen, List, MatchOption}
+use Rattle.is_rules.proofs.Common.{None, NonePass, Option, option_and_then, option_or, pair_numbered, PairRecord, refl, Selection, Some}
+use Rattle.is_rules.proofs.Common.{subst, sym, true, ℕ}
 
 kept_head : {X : Type 0} (b : Bool) (x : X) (xs : List X) → b ≡ true → (if b then x ∷ xs else xs) ≡ [] → ⊥
 kept_head true x xs passes none = let wrong : x ∷ xs ≡ [] = none in cc

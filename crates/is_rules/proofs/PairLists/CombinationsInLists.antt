@@ -1,9 +1,8 @@
 -- The indices of combinations are in the lists of candidates.
-use Rattle.std.proofs.Common.{if◌then◌else◌, ◌≡◌, ℕ, zero, suc, ◌+◌, ◌<◌, ◌≤◌, Bool, true, false, filter, map, refl, List, [], ◌∷◌, ◌++◌, All, get_or, length, inl, inr, ◌⊎◌, ap, subst, arith}
-use Rattle.std.specs.List.{flat_map, range_with_len}
-use Rattle.is_proto.specs.Lists.{Has, places_where}
-use Rattle.is_candidate.specs.Candidates.{CandidateRecord, candidate_at, nowhere}
-use Rattle.is_rules.specs.Forming.{Combination, AreIn, live_places, is_alive, partners, is_partner, local_combinations, remote_combinations, live_row, live_combinations}
+use Rattle.is_rules.proofs.Common.{[], ◌++◌, ◌+◌, ◌<◌, ◌∷◌, ◌≡◌, ◌≤◌, ◌⊎◌, All, ap, AreIn, arith, Bool, candidate_at, CandidateRecord}
+use Rattle.is_rules.proofs.Common.{Combination, false, filter, flat_map, get_or, Has, if◌then◌else◌, inl, inr, is_alive, is_partner, length}
+use Rattle.is_rules.proofs.Common.{List, live_combinations, live_places, live_row, local_combinations, map, nowhere, partners, places_where}
+use Rattle.is_rules.proofs.Common.{range_with_len, refl, remote_combinations, subst, suc, true, zero, ℕ}
 
 Has-filter : {X : Type 0} (keep : X → Bool) (xs : List X) (x : X) → Has (filter keep xs) x → Has xs x
 Has-filter keep [] x h = absurd h

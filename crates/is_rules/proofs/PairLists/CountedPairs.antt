@@ -1,9 +1,6 @@
 -- How many elements of a list pass a test: what adding and removing elements does to the count.
-use Rattle.std.proofs.Common.{if◌then◌else◌, ◌≡◌, ◌==◌, ℕ, zero, suc, ◌+◌, ◌*◌, ◌<◌, ◌≤◌, ◌⊎◌, Bool, true, false, List, [], ◌∷◌, ◌++◌, count_by, filter, length, nat_lt, inl, inr, refl, ap, ◌∙◌, arith}
-use Rattle.std.proofs.lemmas.Bool.Decides.{nat_tests}
-use Rattle.std.proofs.lemmas.List.Sums.{sum_by-cons}
-use Rattle.is_proto.specs.Lists.{Has}
-use Rattle.is_rules.specs.Owed.{one_if}
+use Rattle.is_rules.proofs.Common.{[], ◌*◌, ◌++◌, ◌+◌, ◌<◌, ◌==◌, ◌∙◌, ◌∷◌, ◌≡◌, ◌≤◌, ◌⊎◌, ap, arith, Bool, count_by, false, filter, Has}
+use Rattle.is_rules.proofs.Common.{if◌then◌else◌, inl, inr, length, List, nat_lt, nat_tests, one_if, refl, suc, sum_by-cons, true, zero, ℕ}
 
 pub less-or : (a b : ℕ) → (a < b) ⊎ (b ≤ a)
 less-or a b = elim (nat_lt a b) as (λ t. nat_lt a b ≡ t → (a < b) ⊎ (b ≤ a)) [

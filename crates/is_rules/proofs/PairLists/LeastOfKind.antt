@@ -1,16 +1,9 @@
 -- The pair of lowest priority of a kind, and the kind with the most pairs.
-use Rattle.std.proofs.Common.{◌≡◌, ◌==◌, ℕ, ◌+◌, ◌<◌, ◌≤◌, Bool, true, false, List, [], ◌∷◌, filter, length, Option, Some, None, inl, inr, refl, sym, ap, ◌∙◌, subst, slice_index, arith}
-use Rattle.std.proofs.lemmas.Bool.{eq-eqb, eqb-true}
-use Rattle.std.proofs.lemmas.Bool.Decides.{nat_tests}
-use Rattle.std.proofs.lemmas.List.Sums.{length-filter}
-use Rattle.is_proto.specs.Lists.{Has}
-use Rattle.is_candidate.specs.Candidates.{CandidateRecord}
-use Rattle.is_pair.specs.Pairs.{PairRecord}
-use Rattle.is_pair.specs.Multiset.{IsLeastPassing}
-use Rattle.is_rules.specs.Kept.{is_placed, are_placed}
 use Rattle.is_rules.specs.Kinds as kinds
-use Rattle.is_rules.specs.Owed.{one_if}
-use Rattle.is_rules.specs.Evicting.{AreCounted, is_of_kind, is_placed_of_kind, kind_count, HasMost, IsLeastOfKind, IsLowestOfMost}
+use Rattle.is_rules.proofs.Common.{[], ◌+◌, ◌<◌, ◌==◌, ◌∙◌, ◌∷◌, ◌≡◌, ◌≤◌, ap, are_placed, AreCounted, arith, Bool, CandidateRecord, eq-eqb}
+use Rattle.is_rules.proofs.Common.{eqb-true, false, filter, Has, HasMost, inl, inr, is_of_kind, is_placed, is_placed_of_kind, IsLeastOfKind}
+use Rattle.is_rules.proofs.Common.{IsLeastPassing, IsLowestOfMost, kind_count, length, length-filter, List, nat_tests, None, one_if, Option}
+use Rattle.is_rules.proofs.Common.{PairRecord, refl, slice_index, Some, subst, sym, true, ℕ}
 use Rattle.is_rules.proofs.PairLists.ChosenPair.{none_pass}
 use Rattle.is_rules.proofs.PairLists.CountedPairs.{count-head, count-zero, less-or}
 use Rattle.is_rules.proofs.PairLists.PairKinds.{kind-below}

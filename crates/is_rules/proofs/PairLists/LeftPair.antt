@@ -1,17 +1,9 @@
 -- The pairs without the one that gives way are those without its number.
-use Rattle.std.proofs.Common.{◌≡◌, ℕ, ◌==◌, ◌&&◌, Bool, true, false, not, nat_le, if◌then◌else◌, List, [], ◌∷◌, filter, Option, Some, None, unwrap_or, inl, inr, refl, sym, ap, ◌∙◌, subst}
-use Rattle.std.specs.List.{list_any}
-use Rattle.std.specs.Option.{option_map_or}
-use Rattle.std.proofs.lemmas.Bool.{eq-eqb, eqb-true}
-use Rattle.is_proto.specs.Lists.{Has}
-use Rattle.is_stun.specs.Timing.{is_modern}
-use Rattle.is_pair.specs.Checks.{unanswered_count}
 use Rattle.is_pair.specs.Silence.{silence_of}
-use Rattle.is_pair.specs.Multiset.{is_named_by, is_numbered, pair_numbered, rises, without}
-use Rattle.is_pair.specs.Pairs.{PairRecord}
-use Rattle.is_rules.specs.Agent.{AgentRecord}
-use Rattle.is_rules.specs.Leaving.{gives_way, is_silent_enough, may_replace, silent_gone}
-use Rattle.is_rules.specs.Nominating.{is_eligible, pair_selected}
+use Rattle.is_rules.proofs.Common.{[], ◌&&◌, ◌∙◌, ◌∷◌, ◌≡◌, AgentRecord, ap, Bool, eq-eqb, eqb-true, false, gives_way, Has, if◌then◌else◌}
+use Rattle.is_rules.proofs.Common.{inl, inr, is_eligible, is_modern, is_named_by, is_numbered, is_silent_enough, List, list_any}
+use Rattle.is_rules.proofs.Common.{may_replace, nat_le, None, not, Option, option_map_or, pair_numbered, pair_selected, PairRecord, refl}
+use Rattle.is_rules.proofs.Common.{rises, silent_gone, Some, subst, sym, true, unanswered_count, unwrap_or, without, ℕ}
 use Rattle.is_rules.proofs.PairLists.ChosenPair.{found-in}
 use Rattle.is_rules.proofs.PairLists.PairsByNumber.{numbered-found}
 

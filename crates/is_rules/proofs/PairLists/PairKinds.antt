@@ -1,11 +1,9 @@
 -- There are nine kinds of pairs.
-use Rattle.std.proofs.Common.{if◌then◌else◌, ◌==◌, ◌<◌, ◌≤◌, ℕ, Bool, true, false, List, arith}
 use Rattle.is_candidate.specs.Addresses.{is_v4}
-use Rattle.is_candidate.specs.Candidates.{CandidateRecord, candidate_at}
 use Rattle.is_candidate.specs.declared.candidate.kind.CandidateKind.{CandidateKind}
-use Rattle.is_candidate.specs.declared.candidate.kind.CandidateKind.TheVariants.{Host, PeerReflexive, ServerReflexive, Relayed}
-use Rattle.is_pair.specs.Pairs.{PairRecord}
-use Rattle.is_rules.specs.Kinds.{counted_kind, kind_of, kind_rank, remote_rank, side_of, INNER, KINDS}
+use Rattle.is_rules.proofs.Common.{◌<◌, ◌==◌, ◌≤◌, arith, Bool, candidate_at, CandidateRecord, counted_kind, false, Host, if◌then◌else◌}
+use Rattle.is_rules.proofs.Common.{INNER, kind_of, kind_rank, KINDS, List, PairRecord, PeerReflexive, Relayed, remote_rank, ServerReflexive}
+use Rattle.is_rules.proofs.Common.{side_of, true, ℕ}
 
 rank-most : (kind : CandidateKind) → kind_rank kind ≤ 3
 rank-most PeerReflexive = omega arith

@@ -1,11 +1,7 @@
 -- If numbers rise along a list of pairs, each pair is found by its number.
-use Rattle.std.proofs.Common.{if◌then◌else◌, ◌≡◌, ◌==◌, ℕ, ◌&&◌, ◌||◌, Bool, true, false, List, [], ◌∷◌, filter, nat_lt, Some, inl, inr, refl, sym, ap, ◌∙◌, arith}
-use Rattle.std.proofs.lemmas.Bool.{eq-eqb}
-use Rattle.std.proofs.lemmas.Bool.Decides.{nat_tests}
-use Rattle.std.specs.List.{list_any, list_all}
-use Rattle.is_proto.specs.Lists.{Has, NonePass}
-use Rattle.is_pair.specs.Pairs.{PairRecord}
-use Rattle.is_pair.specs.Multiset.{pair_numbered, rises}
+use Rattle.is_rules.proofs.Common.{[], ◌&&◌, ◌==◌, ◌||◌, ◌∙◌, ◌∷◌, ◌≡◌, ap, arith, Bool, eq-eqb, false, filter, Has, if◌then◌else◌, inl}
+use Rattle.is_rules.proofs.Common.{inr, List, list_all, list_any, nat_lt, nat_tests, NonePass, pair_numbered, PairRecord, refl, rises, Some}
+use Rattle.is_rules.proofs.Common.{sym, true, ℕ}
 
 pub both : (a b : Bool) → a && b ≡ true → (a ≡ true) × (b ≡ true)
 both true b h = (refl, h)

@@ -1,18 +1,11 @@
 -- The indices of pairs are in the lists of candidates: what follows, and what keeps it.
-use Rattle.std.proofs.Common.{if◌then◌else◌, ◌≡◌, ℕ, ◌<◌, ◌≤◌, ◌&&◌, ◌||◌, Bool, true, false, not, nat_lt, List, [], ◌∷◌, ◌++◌, filter, map, length, Option, Some, None, inl, inr, refl, sym, ap, ◌∙◌, arith}
-use Rattle.std.specs.List.{list_any, list_all}
-use Rattle.std.proofs.lemmas.Bool.Decides.{nat_tests}
 use Rattle.std.proofs.lemmas.List.Folds.{list_all-append}
-use Rattle.is_proto.specs.Lists.{Has}
-use Rattle.is_candidate.specs.Candidates.{CandidateRecord}
-use Rattle.is_pair.specs.Checks.{Check}
-use Rattle.is_pair.specs.Pairs.{PairRecord, is_nominated, nominated, numbered, renominated, taking_over, validated, with_request}
-use Rattle.is_pair.specs.Due.{is_triggered, moved_up, triggered}
-use Rattle.is_pair.specs.Multiset.{has_number, is_numbered, change_at, change_pair, is_awaiting, keeps_check, without, IsAwaiting, IsGreatest, KeepsKeys}
-use Rattle.is_rules.specs.Kept.{is_placed, are_placed}
-use Rattle.is_rules.specs.Nominating.{nominated_by_self}
-use Rattle.is_rules.specs.Request.{RequestRecord}
-use Rattle.is_rules.specs.Serving.{nominated_by_peer, numbered_by_peer, served, validated_by_peer}
+use Rattle.is_rules.proofs.Common.{[], ◌&&◌, ◌++◌, ◌<◌, ◌||◌, ◌∙◌, ◌∷◌, ◌≡◌, ◌≤◌, ap, are_placed, arith, Bool, CandidateRecord, change_at}
+use Rattle.is_rules.proofs.Common.{change_pair, Check, false, filter, Has, has_number, if◌then◌else◌, inl, inr, is_awaiting, is_nominated}
+use Rattle.is_rules.proofs.Common.{is_numbered, is_placed, is_triggered, IsAwaiting, IsGreatest, keeps_check, KeepsKeys, length, List}
+use Rattle.is_rules.proofs.Common.{list_all, list_any, map, moved_up, nat_lt, nat_tests, nominated, nominated_by_peer, nominated_by_self}
+use Rattle.is_rules.proofs.Common.{None, not, numbered, numbered_by_peer, Option, PairRecord, refl, renominated, RequestRecord, served}
+use Rattle.is_rules.proofs.Common.{Some, sym, taking_over, triggered, true, validated, validated_by_peer, with_request, without, ℕ}
 use Rattle.is_rules.proofs.PairLists.PairsByNumber.{both}
 use Rattle.is_rules.proofs.PairLists.RemovedInTurn.{Removes, RemovesInTurn}
 
@@ -57,9 +50,6 @@ module _ {X : Type 0} (q : X → Bool) where
   pub mapped-there : {Y : Type 0} (f g : X → Y) → ((x : X) → q x ≡ true → f x ≡ g x) → (xs : List X) → list_all q xs ≡ true → map f xs ≡ map g xs
   mapped-there f g same [] all = refl
   mapped-there f g same (y ∷ ys) all = let b = both (q y) (list_all q ys) all in rw (same y b.0, mapped-there f g same ys b.1) refl
-
-  passes-there : (test : X → Bool) (x : X) → q x ≡ true → q x && test x ≡ test x
-  passes-there test x its = rw (its) refl
 
 pub greatest-there : (q test : PairRecord → Bool) (ps : List PairRecord) (top : Option PairRecord) → list_all q ps ≡ true
     → IsGreatest (λ p. q p && test p) ps top → IsGreatest test ps top
@@ -208,7 +198,7 @@ request-places controlling lite q modern at =
       remote = λ p. own.remote (triggered modern at p) ∙ first.remote p;
     }
 
--- the same of what a checklist finds its pairs by
+-- serving a request keeps what a checklist finds its pairs by
 
 abbrev keys-of : PairRecord → ℕ × ℕ × List Check
 keys-of p = (p.number, p.priority, p.checks)

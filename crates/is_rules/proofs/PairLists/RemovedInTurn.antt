@@ -1,14 +1,7 @@
 -- Pairs that are removed one after another until a limit holds, by whatever rule they are chosen.
-use Rattle.std.proofs.Common.{if◌then◌else◌, ◌≡◌, ℕ, suc, ◌<◌, ◌≤◌, Bool, true, false, not, List, [], ◌∷◌, length, inl, inr, ap, arith}
-use Rattle.std.proofs.lemmas.Bool.{eq-eqb}
-use Rattle.std.proofs.lemmas.List.Sums.{length-filter, count_by-le-length}
-use Rattle.std.specs.Prelude.{MatchBool}
-use Rattle.is_proto.specs.Lists.{Has}
-use Rattle.is_pair.specs.Pairs.{PairRecord}
-use Rattle.is_pair.specs.Multiset.{is_numbered, without, Evicts, EvictsInTurn}
-use Rattle.is_rules.specs.Evicting.{EvictsOfMost, EvictsOfMostInTurn}
-use Rattle.is_rules.specs.Forming.{SidesRecord, EvictsFor}
-use Rattle.is_rules.specs.Kinds.{kind_of}
+use Rattle.is_rules.proofs.Common.{[], ◌<◌, ◌∷◌, ◌≡◌, ◌≤◌, ap, arith, Bool, count_by-le-length, eq-eqb, Evicts, EvictsFor, EvictsInTurn}
+use Rattle.is_rules.proofs.Common.{EvictsOfMost, EvictsOfMostInTurn, false, Has, if◌then◌else◌, inl, inr, is_numbered, kind_of, length}
+use Rattle.is_rules.proofs.Common.{length-filter, List, MatchBool, not, PairRecord, SidesRecord, suc, true, without, ℕ}
 
 -- each is one of the pairs, and the list is over the limit until then
 abbrev pub RemovesInTurn : ℕ → List PairRecord → List PairRecord → List PairRecord → Type 0

@@ -1,10 +1,6 @@
 -- Numbers that rise along the list of pairs, and numbers below a bound, as statements about each pair.
-use Rattle.std.proofs.Common.{◌≡◌, ℕ, ◌<◌, Bool, true, List, [], ◌∷◌, nat_lt, inl, inr, refl, sym, ap, arith, ◌∙◌}
-use Rattle.std.proofs.lemmas.Bool.Decides.{nat_tests}
-use Rattle.std.specs.List.{list_all}
-use Rattle.is_proto.specs.Lists.{Has}
-use Rattle.is_pair.specs.Pairs.{PairRecord}
-use Rattle.is_pair.specs.Multiset.{are_below, rises}
+use Rattle.is_rules.proofs.Common.{[], ◌<◌, ◌∙◌, ◌∷◌, ◌≡◌, ap, are_below, arith, Bool, Has, inl, inr, List, list_all, nat_lt, nat_tests}
+use Rattle.is_rules.proofs.Common.{PairRecord, refl, rises, sym, true, ℕ}
 use Rattle.is_rules.proofs.PairLists.PairsByNumber.{both}
 
 abbrev pub AreRising : List PairRecord → Type 0

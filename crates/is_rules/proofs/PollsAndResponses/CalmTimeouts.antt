@@ -1,33 +1,18 @@
 -- A `handle_timeout` call without an early request selects a path if one may be selected, and sends the nomination that is due.
-use Rattle.std.proofs.Common.{if◌then◌else◌, ◌≡◌, ◌==◌, ℕ, ◌&&◌, ◌||◌, ◌⊎◌, Bool, true, false, not, List, [], ◌∷◌, find, map, is_some, Option, Some, None, inl, inr, refl, sym, ap, subst, ◌∙◌}
-use Rattle.std.proofs.lemmas.Bool.{eq-eqb, eqb-true}
-use Rattle.std.specs.Prelude.{MatchOption}
-use Rattle.std.specs.List.{list_any}
-use Rattle.std.specs.Option.{option_map_or}
-use Rattle.rand_core.specs.Stream.{Stream}
-use Rattle.is_proto.specs.Lists.{Has}
-use Rattle.is_stun.specs.declared.timing.StunTiming.{StunTiming}
 use Rattle.is_pair.specs.declared.pair.states.CheckState.{CheckState}
 use Rattle.is_pair.specs.declared.pair.states.CheckState.TheVariants.{Waiting, InProgress, Succeeded}
 use Rattle.is_pair.specs.declared.pair.states.NominationState.{NominationState}
 use Rattle.is_pair.specs.declared.pair.states.NominationState.TheVariants.{None as Unnominated, Nominated, Attempt, Success}
 use Rattle.is_pair.specs.States.{is_nominated_state, is_valid_state, nomination_once_sent, state_once_sent}
-use Rattle.is_pair.specs.Pairs.{PairRecord, checked, nominated, renominated}
-use Rattle.is_pair.specs.Due.{asked}
-use Rattle.is_pair.specs.Multiset.{change_pair, has_number, is_numbered}
-use Rattle.is_rules.specs.declared.credentials.IceCreds.{IceCreds}
-use Rattle.is_rules.specs.declared.emitted.Emitted.{Emitted}
-use Rattle.is_rules.specs.declared.emitted.Issued.{Issued}
-use Rattle.is_rules.specs.declared.emitted.Path.{Path}
-use Rattle.is_rules.specs.Agent.{AgentRecord}
-use Rattle.is_rules.specs.Checking.{all_asked, check_sent, is_selected_number, ChecksTop, IsNextToCheck, MayCheck}
-use Rattle.is_rules.specs.Forming.{sides_of}
-use Rattle.is_rules.specs.Nominating.{followed, is_eligible, is_pressing, nominated_by_self, nominated_emitted, nominates_at_once, numbers, pair_selected}
-use Rattle.is_rules.specs.Nominating.{remains, selection_of, with_selection, IsChosen, NamesTop, Nominates, Selection}
-use Rattle.is_rules.specs.Leaving.{path_left}
-use Rattle.is_rules.specs.Request.{RequestRecord}
-use Rattle.is_rules.specs.Timeouts.{at_request, at_timeout, expired_gone, is_expired, timeout_begun, MaintainsPairs, RemovesExpired, ServesQueued}
 use Rattle.is_rules.specs.TimeoutTimes.{NominationsAreSent}
+use Rattle.is_rules.proofs.Common.{[], ◌&&◌, ◌==◌, ◌||◌, ◌∙◌, ◌∷◌, ◌≡◌, ◌⊎◌, AgentRecord, all_scheduled, ap, scheduled, at_request, at_timeout}
+use Rattle.is_rules.proofs.Common.{Bool, change_pair, check_sent, checked, ChecksTop, Emitted, eq-eqb, eqb-true, expired_gone, false, find}
+use Rattle.is_rules.proofs.Common.{followed, Has, has_number, IceCreds, if◌then◌else◌, inl, inr, is_eligible, is_expired, is_numbered}
+use Rattle.is_rules.proofs.Common.{is_pressing, is_selected_number, is_some, IsChosen, IsNextToCheck, Issued, List, list_any}
+use Rattle.is_rules.proofs.Common.{MaintainsPairs, map, MatchOption, MayCheck, NamesTop, nominated, nominated_by_self, nominated_emitted}
+use Rattle.is_rules.proofs.Common.{Nominates, nominates_at_once, None, not, numbers, Option, option_map_or, pair_selected, PairRecord, Path}
+use Rattle.is_rules.proofs.Common.{path_left, refl, remains, RemovesExpired, renominated, RequestRecord, Selection, selection_of}
+use Rattle.is_rules.proofs.Common.{ServesQueued, sides_of, Some, Stream, StunTiming, subst, sym, timeout_begun, true, with_selection, ℕ}
 use Rattle.is_rules.proofs.PairLists.ChosenPair.{chosen-able, chosen-none, found-in, named-by, no-some}
 use Rattle.is_rules.proofs.PairLists.PairsByNumber.{has-any, none-any}
 use Rattle.is_rules.proofs.PollsAndResponses.NextTimeout.{either}
@@ -80,16 +65,16 @@ changed-able c n f keeps (p ∷ ps) =
       | false ↦ ap (λ b. is_eligible c p || b) rest
     ]
 
-asked-names : (number : Option ℕ) (now : ℕ) (t : StunTiming) (ps : List PairRecord) → names_one number (map (asked now t) ps) ≡ names_one number ps
-asked-names None now t ps = refl
-asked-names (Some n) now t ps = over ps where
-  over : (ps : List PairRecord) → has_number n (map (asked now t) ps) ≡ has_number n ps
+scheduled-names : (number : Option ℕ) (now : ℕ) (t : StunTiming) (ps : List PairRecord) → names_one number (map (scheduled now t) ps) ≡ names_one number ps
+scheduled-names None now t ps = refl
+scheduled-names (Some n) now t ps = over ps where
+  over : (ps : List PairRecord) → has_number n (map (scheduled now t) ps) ≡ has_number n ps
   over [] = refl
   over (p ∷ ps) = ap (λ b. is_numbered n p || b) (over ps)
 
-asked-able : (c : Bool) (now : ℕ) (t : StunTiming) (ps : List PairRecord) → list_any (is_eligible c) (map (asked now t) ps) ≡ list_any (is_eligible c) ps
-asked-able c now t [] = refl
-asked-able c now t (p ∷ ps) = ap (λ b. is_eligible c p || b) (asked-able c now t ps)
+scheduled-able : (c : Bool) (now : ℕ) (t : StunTiming) (ps : List PairRecord) → list_any (is_eligible c) (map (scheduled now t) ps) ≡ list_any (is_eligible c) ps
+scheduled-able c now t [] = refl
+scheduled-able c now t (p ∷ ps) = ap (λ b. is_eligible c p || b) (scheduled-able c now t ps)
 
 valid-sent : (state : CheckState) → is_valid_state (state_once_sent state) ≡ is_valid_state state
 valid-sent Waiting = refl
@@ -221,10 +206,10 @@ module _ {H P : Type 0} where
       (λ _ k. subst (λ (a : AgentRecord H P). Settled a) (sym k.2) (nominates-settled (expired_gone now old) k.0 path k.1))
       (λ _ k. subst (λ (a : AgentRecord H P). Settled a) (sym k.1) settled)
 
-  asked-settled : (now : ℕ) (a : AgentRecord H P) → Settled a → Settled (all_asked now a)
-  asked-settled now a (inl h) =
-      inl (selected-there a.selected_pair (map (asked now a.timing) a.pairs) ∙ asked-names a.selected_pair now a.timing a.pairs ∙ sym (selected-there a.selected_pair a.pairs) ∙ h)
-  asked-settled now a (inr none) = inr (asked-able a.controlling now a.timing a.pairs ∙ none)
+  scheduled-settled : (now : ℕ) (a : AgentRecord H P) → Settled a → Settled (all_scheduled now a)
+  scheduled-settled now a (inl h) =
+      inl (selected-there a.selected_pair (map (scheduled now a.timing) a.pairs) ∙ scheduled-names a.selected_pair now a.timing a.pairs ∙ sym (selected-there a.selected_pair a.pairs) ∙ h)
+  scheduled-settled now a (inr none) = inr (scheduled-able a.controlling now a.timing a.pairs ∙ none)
 
   module _ (mac : H → List ℕ → List ℕ → List ℕ) where
     -- ---- after the check of a pair
@@ -291,10 +276,10 @@ module _ {H P : Type 0} where
     checks-calm now (Some remote) old new s t issued full known settled h = either old.lite h
         (λ lite _. (let wrong : true ≡ false = sym lite ∙ full in absurd (cc)))
         (λ _ k. next k.0 k.1 k.2) where
-          next : (pair : Option PairRecord) → IsNextToCheck now (all_asked now old) pair → ChecksTop mac now remote pair (all_asked now old) s issued new t → is_pressing new ≡ false
-          next pair is top = either (nominates_at_once (all_asked now old)) is
-              (λ due same. at-once now remote (all_asked now old) new s t issued pair (asked-settled now old settled) due same top)
-              (λ off _. in-turn now remote (all_asked now old) new s t issued pair (asked-settled now old settled) off top)
+          next : (pair : Option PairRecord) → IsNextToCheck now (all_scheduled now old) pair → ChecksTop mac now remote pair (all_scheduled now old) s issued new t → is_pressing new ≡ false
+          next pair is top = either (nominates_at_once (all_scheduled now old)) is
+              (λ due same. at-once now remote (all_scheduled now old) new s t issued pair (scheduled-settled now old settled) due same top)
+              (λ off _. in-turn now remote (all_scheduled now old) new s t issued pair (scheduled-settled now old settled) off top)
 
     -- nomination, removal of failed pairs, and a check: nothing is left to be selected or nominated
     pub calm-after : (now : ℕ) (old new : AgentRecord H P) (s t : Stream) (emitted : Emitted) → old.lite ≡ false → is_some old.remote_creds ≡ true

@@ -1,35 +1,17 @@
 -- With the profile `Modern` there is a last time after each successful `handle_timeout` call.
-use Rattle.std.proofs.Common.{◌≡◌, ℕ, ◌&&◌, Bool, true, false, List, length, Option, Some, None, Ok, refl, ap, subst, ◌∙◌, arith}
-use Rattle.std.specs.Prelude.{MatchOption, is_some}
-use Rattle.std.specs.List.{list_any}
-use Rattle.rand_core.specs.Stream.{Stream}
-use Rattle.is_stun.specs.Timing.{is_modern}
-use Rattle.is_candidate.specs.Candidates.{candidate_at}
-use Rattle.is_pair.specs.Pairs.{PairRecord}
-use Rattle.is_pair.specs.Multiset.{is_valid_at}
-use Rattle.is_rules.specs.declared.credentials.IceCreds.{IceCreds}
-use Rattle.is_rules.specs.declared.emitted.Emitted.{Emitted}
-use Rattle.is_rules.specs.declared.emitted.Issued.{Issued}
-use Rattle.is_rules.specs.declared.emitted.Path.{Path}
-use Rattle.is_rules.specs.declared.places.RemotePlace.{RemotePlace}
-use Rattle.is_rules.specs.declared.places.RemotePlace.TheVariants.{Known, Barred, Unknown, Vacant, Full}
-use Rattle.is_rules.specs.declared.roles.Conflict.{Conflict}
-use Rattle.is_rules.specs.declared.roles.Conflict.TheVariants.{Absent, Send487, SwitchRole}
-use Rattle.is_rules.specs.Agent.{AgentRecord}
-use Rattle.is_rules.specs.Checking.{all_asked, ChecksTop, MayCheck}
-use Rattle.is_rules.specs.Forming.{formed, with_pair}
-use Rattle.is_rules.specs.Nominating.{nominated_emitted, with_selection, Nominates, NominatesWhere}
-use Rattle.is_rules.specs.Places.{local_place}
 use Rattle.is_rules.specs.Queue.{request_at}
-use Rattle.is_rules.specs.Leaving.{path_left}
-use Rattle.is_rules.specs.Request.{RequestRecord}
-use Rattle.is_rules.specs.Roles.{conflict_of, switched}
-use Rattle.is_rules.specs.Serving.{is_misled, is_for_other_peer, pair_served, request_counted, selects_at_requests, with_sender, with_sender_at, Drops}
-use Rattle.is_rules.specs.Serving.{AddsUnknownSender, CountsAndServes, FindsOrAddsPair, RecordsAndResponds, ResolvesRoleConflict, ResolvesRoleConflictBy, Serves}
 use Rattle.is_rules.specs.TimeoutTimes.{CallsAreFollowed, CallsAreNoted}
-use Rattle.is_rules.specs.Timeouts.{at_request, at_timeout, expired_gone, is_expired, timeout_begun, MaintainsPairs, RemovesExpired, ServesQueued, TimesOut}
-use Rattle.is_rules.specs.Polls.{NextTimeoutFrom}
+use Rattle.is_rules.proofs.Common.{◌&&◌, ◌∙◌, ◌≡◌, Absent, AgentRecord, all_scheduled, ap, arith, at_request, at_timeout, Barred, Bool}
+use Rattle.is_rules.proofs.Common.{candidate_at, ChecksTop, Conflict, conflict_of, Drops, Emitted, expired_gone, false, formed, Full}
+use Rattle.is_rules.proofs.Common.{IceCreds, is_expired, is_for_other_peer, is_misled, is_modern, is_some, is_valid_at, Issued, Known}
+use Rattle.is_rules.proofs.Common.{length, List, list_any, local_place, MaintainsPairs, MatchOption, MayCheck, NextTimeoutFrom}
+use Rattle.is_rules.proofs.Common.{nominated_emitted, Nominates, NominatesWhere, None, Ok, Option, pair_served, PairRecord, Path, path_left}
+use Rattle.is_rules.proofs.Common.{refl, RemotePlace, RemovesExpired, request_counted, RequestRecord, selects_at_requests, Send487, Serves}
+use Rattle.is_rules.proofs.Common.{ServesQueued, Some, Stream, subst, switched, SwitchRole, timeout_begun, TimesOut, true, Unknown, Vacant}
+use Rattle.is_rules.proofs.Common.{with_pair, with_selection, with_sender, with_sender_at, ℕ}
 use Rattle.is_rules.proofs.PollsAndResponses.NextTimeout.{either, paced, paced-from}
+use Rattle.is_rules.proofs.ServedRequests.RulesInTurn.{in_turn, AddsUnknownSender, CountsAndServes, FindsOrAddsPair, RecordsAndResponds}
+use Rattle.is_rules.proofs.ServedRequests.RulesInTurn.{ResolvesRoleConflict, ResolvesRoleConflictBy}
 
 either-request : (o : Option RequestRecord) {A R : Type 0} {B : RequestRecord → Type 0} → MatchOption o A B → (A → R) → ((q : RequestRecord) → B q → R) → R
 either-request None h f g = f h
@@ -69,7 +51,7 @@ module _ {H P : Type 0} where
     checks now (Some remote) old new s t issued h = either old.lite h
         (λ _ k. ap (λ (a : AgentRecord H P). a.last_time) k.1)
         (λ _ k. top k.0 k.2) where
-          top : (next : Option PairRecord) → ChecksTop mac now remote next (all_asked now old) s issued new t → Keeps old new
+          top : (next : Option PairRecord) → ChecksTop mac now remote next (all_scheduled now old) s issued new t → Keeps old new
           top None k = ap (λ (a : AgentRecord H P). a.last_time) k.1
           top (Some p) (id, drawn, values, is, made) = ap (λ (a : AgentRecord H P). a.last_time) made
 
@@ -107,7 +89,7 @@ module _ {H P : Type 0} where
       here (Some l) s new emitted h = resolves (conflict_of s q) l s new emitted h
 
       serves : (s new : AgentRecord H P) (emitted : Emitted) → Serves mac q s emitted new → Keeps s new
-      serves s new emitted h = either (is_for_other_peer s q) h (λ _ k. same s new k.1) (λ _ k. here (local_place s.local q) s new emitted k)
+      serves s new emitted h = either (is_for_other_peer s q) (in_turn mac q s new emitted h) (λ _ k. same s new k.1) (λ _ k. here (local_place s.local q) s new emitted k)
 
     -- ---- the call
 

@@ -1,17 +1,12 @@
 -- The next timeout of an agent: after the last `handle_timeout` call, and no later than the time at which a
 -- pair is due or its consent ends, except for the pacing interval.
-use Rattle.std.proofs.Common.{if◌then◌else◌, ◌≡◌, ℕ, ◌*◌, ◌<◌, ◌≤◌, ◌||◌, Bool, true, false, not, List, [], ◌∷◌, map, fold, min, max, nat_le, is_some, Option, Some, None, IsSomeAnd, inl, inr, refl, ap, ◌∙◌, subst, arith}
-use Rattle.std.proofs.lemmas.Bool.Decides.{nat_tests}
-use Rattle.std.specs.Prelude.{MatchBool}
-use Rattle.is_proto.specs.Lists.{Has, is_empty}
-use Rattle.is_proto.specs.Times.{MAX, SECOND, later}
-use Rattle.is_pair.specs.Pairs.{PairRecord}
-use Rattle.is_pair.specs.Due.{asked, call_time_of}
-use Rattle.is_rules.specs.Agent.{AgentRecord}
 use Rattle.is_rules.specs.Charging.{CHARGE, EARLY_TA, has_credit}
-use Rattle.is_rules.specs.Nominating.{is_pressing}
-use Rattle.is_rules.specs.Polls.{early_ta, is_early, pacing_of, PollsTimeout, NextTimeoutFrom, NextTimeouts, WaitingTimeout, IdleTimeout, is_waiting, is_idle, soon, earliest_call}
 use Rattle.is_rules.specs.TimeoutTimes.{soonest, TimeoutIsAhead, TimeoutIsInTime, TimeoutIsGiven, TimeoutIsSoon}
+use Rattle.is_rules.proofs.Common.{[], ◌*◌, ◌<◌, ◌||◌, ◌∙◌, ◌∷◌, ◌≡◌, ◌≤◌, AgentRecord, ap, arith, scheduled, Bool, call_time_of, earliest_call}
+use Rattle.is_rules.proofs.Common.{early_ta, false, fold, Has, IdleTimeout, if◌then◌else◌, inl, inr, is_early, is_empty, is_idle}
+use Rattle.is_rules.proofs.Common.{is_pressing, is_some, is_waiting, IsSomeAnd, later, List, map, MatchBool, MAX, max, min, nat_le}
+use Rattle.is_rules.proofs.Common.{nat_tests, NextTimeoutFrom, NextTimeouts, None, not, Option, pacing_of, PairRecord, PollsTimeout, refl}
+use Rattle.is_rules.proofs.Common.{SECOND, Some, soon, subst, true, WaitingTimeout, ℕ}
 
 pub either : (b : Bool) {P Q R : Type 0} → MatchBool b P Q → (b ≡ true → P → R) → (b ≡ false → Q → R) → R
 either true h f g = f refl h
@@ -137,12 +132,12 @@ module _ {H P : Type 0} where
       ap (λ ps. not (is_empty ps) || not (is_empty a.queue) || is_pressing a) no_packets ∙ ap (λ qs. not (is_empty qs) || is_pressing a) no_queue ∙ calm
 
   -- if no request is stored, no path is to be selected or nominated at once, and there is a pair to check, the due times of all pairs are fixed
-  pub all-are-asked : (old new : AgentRecord H P) (last deadline : ℕ) → old.last_time ≡ Some last → old.lite ≡ false → old.packets ≡ [] → old.queue ≡ []
+  pub all-are-scheduled : (old new : AgentRecord H P) (last deadline : ℕ) → old.last_time ≡ Some last → old.lite ≡ false → old.packets ≡ [] → old.queue ≡ []
       → is_pressing old ≡ false → is_empty old.pairs ≡ false → PollsTimeout old (Some deadline) new
-      → (deadline ≡ max (earliest_call old last) (soon old last)) × (new ≡ record old { pairs = map (asked last old.timing) old.pairs })
-  all-are-asked old new last deadline is full no_packets no_queue calm some h =
+      → (deadline ≡ max (earliest_call old last) (soon old last)) × (new ≡ record old { pairs = map (scheduled last old.timing) old.pairs })
+  all-are-scheduled old new last deadline is full no_packets no_queue calm some h =
       let w : IdleTimeout old last deadline new =
       subst (λ b. MatchBool b (WaitingTimeout old last deadline new) (IdleTimeout old last deadline new)) (not-waiting old no_packets no_queue calm) (timeouts-from old new last deadline is h) in
       subst (λ b. MatchBool b ((deadline ≡ later last (3 * SECOND)) × (new ≡ old))
-      ((deadline ≡ max (earliest_call old last) (soon old last)) × (new ≡ record old { pairs = map (asked last old.timing) old.pairs })))
+      ((deadline ≡ max (earliest_call old last) (soon old last)) × (new ≡ record old { pairs = map (scheduled last old.timing) old.pairs })))
       (not-idle old.lite old.pairs full some) w

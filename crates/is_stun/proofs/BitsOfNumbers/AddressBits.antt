@@ -1,13 +1,8 @@
 -- An address that is read from its bits is the one with these bits.
-use Rattle.std.proofs.Common.{◌≡◌, ℕ, List, ap, ◌∙◌}
 use Rattle.std.specs.declared.net.ipv4_addr.Ipv4Addr.{Ipv4Addr}
 use Rattle.std.specs.declared.net.ipv6_addr.Ipv6Addr.{Ipv6Addr}
-use Rattle.std.specs.declared.net.socket_addr.SocketAddr.TheVariants.{V4, V6}
-use Rattle.std.specs.declared.net.socket_addr.SocketAddrV4.{SocketAddrV4}
-use Rattle.std.specs.declared.net.socket_addr.SocketAddrV6.{SocketAddrV6}
-use Rattle.std.specs.Net.Addr.{IsIpv4OfBits, IsIpv6OfBits}
-use Rattle.std.specs.Net.Socket.{v4_ip, v4_port, v6_ip, v6_port, v6_flowinfo, v6_scope_id}
-use Rattle.is_stun.specs.Address.{ipv4_socket, ipv6_socket}
+use Rattle.is_stun.proofs.Common.{◌∙◌, ◌≡◌, ap, ipv4_socket, ipv6_socket, IsIpv4OfBits, IsIpv6OfBits, List, SocketAddrV4, SocketAddrV6, V4}
+use Rattle.is_stun.proofs.Common.{v4_ip, v4_port, V6, v6_flowinfo, v6_ip, v6_port, v6_scope_id, ℕ}
 
 pub ipv4_socket-is : (bits port : ℕ) (s : SocketAddrV4) (a : Ipv4Addr) → IsIpv4OfBits a bits → v4_ip s ≡ a → v4_port s ≡ port → V4 s ≡ ipv4_socket bits port
 unfolding IsIpv4OfBits

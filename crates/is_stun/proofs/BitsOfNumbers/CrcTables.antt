@@ -1,13 +1,10 @@
 -- Bit steps are linear, so that those of a whole byte can be looked up.
-use Rattle.std.proofs.Common.{◌≡◌, ℕ, zero, suc, ◌+◌, ◌*◌, ◌/◌, ◌%◌, ◌^◌, ◌-◌, ◌<◌, ◌≤◌, take, drop, List, [], ◌∷◌, ◌++◌, get_or, length, refl, sym, ap, ◌∙◌, arith, add-zero, zero-add, mod-lt, pow_pos, pow-suc, mul_assoc, add_comm, bit_xor}
-use Rattle.std.proofs.lemmas.Nat.{xor_shr, xor_mod, xor_comm}
-use Rattle.std.specs.List.{AllByRecursion}
-use Rattle.std.specs.Int.{w64, byte_at, from_le_bytes}
-use Rattle.std.proofs.lemmas.List.{take_all, drop_all, drop_more}
-use Rattle.std.proofs.lemmas.List.Concat.{flat_map-append}
 use lib.Bits.{xor_shifted, xor_assoc, xor_zero_r, xor_self}
 use lib.Pow.{split}
-use Rattle.is_stun.specs.Crc.{shifted, crc_bit, crc_bits, low_bits, bits_of, stepped}
+use Rattle.is_stun.proofs.Common.{[], ◌%◌, ◌*◌, ◌++◌, ◌+◌, ◌-◌, ◌/◌, ◌<◌, ◌^◌, ◌∙◌, ◌∷◌, ◌≡◌, ◌≤◌, add-zero, add_comm, AllByRecursion, ap}
+use Rattle.is_stun.proofs.Common.{arith, bit_xor, bits_of, byte_at, crc_bit, crc_bits, drop, drop_all, drop_more, flat_map-append}
+use Rattle.is_stun.proofs.Common.{from_le_bytes, get_or, length, List, low_bits, mod-lt, mul_assoc, pow-suc, pow_pos, refl, shifted}
+use Rattle.is_stun.proofs.Common.{stepped, suc, sym, take, take_all, w64, xor_comm, xor_mod, xor_shr, zero, zero-add, ℕ}
 use Rattle.is_stun.proofs.BitsOfNumbers.CrcOfConcatenation.{crc_bits-append}
 
 -- ---- one bit step

@@ -1,8 +1,7 @@
 -- Lists of bytes are equal as far as no bit differs.
-use Rattle.std.proofs.Common.{◌≡◌, ◌↔◌, ℕ, ◌+◌, ◌<◌, List, length, take, get_or, bit_or, bit_xor, refl, ap, sym, ◌∙◌, arith}
-use Rattle.std.proofs.lemmas.Nat.{and_le_l, and_le_r, le_or_l, le_or_r}
-use Rattle.std.proofs.lemmas.List.{take_more, get_or-take, take-take}
 use lib.Bits.{xor_add_and, xor_self}
+use Rattle.is_stun.proofs.Common.{◌+◌, ◌<◌, ◌↔◌, ◌∙◌, ◌≡◌, and_le_l, and_le_r, ap, arith, bit_or, bit_xor, get_or, get_or-take, le_or_l}
+use Rattle.is_stun.proofs.Common.{le_or_r, length, List, refl, sym, take, take-take, take_more, ℕ}
 
 no-difference : (a b : ℕ) → bit_xor a b ≡ 0 → a ≡ b
 no-difference a b none = omega (arith, none, xor_add_and a b, and_le_l a b, and_le_r a b)

@@ -1,13 +1,11 @@
 -- Delays that double without losing bits, and what they come to.
-use Rattle.std.proofs.Common.{◌≡◌, ℕ, ◌+◌, ◌-◌, ◌*◌, ◌/◌, ◌^◌, ◌<◌, ◌≤◌, ◌⊎◌, min, inl, inr, refl, [], ◌∷◌, ◌++◌, zero, suc, sum_by, sym, ◌∙◌, ap, arith, zero-mul, zero-add, add-zero, suc-add}
-use Rattle.std.proofs.lemmas.Bool.{cases_lt}
 use Rattle.std.proofs.lemmas.Bool.Decides.{nat_tests}
 use Rattle.std.proofs.Math.Nat.{pow-le-pow_right, le-mul_of_pos_right, mul-le-mul_left, min-eq_left}
 use Rattle.std.proofs.lemmas.List.Sums.{sum_by-append, sum_by-cons}
-use Rattle.std.specs.List.{range_with_len}
-use Rattle.is_proto.specs.Times.{MAX, MILLISECOND, later}
 use Rattle.is_stun.specs.declared.timing.StunTiming.{StunTiming}
-use Rattle.is_stun.specs.Timing.{delay_millis, resend_delay, last_resend_delay, timeout_of}
+use Rattle.is_stun.proofs.Common.{[], ◌*◌, ◌++◌, ◌+◌, ◌-◌, ◌/◌, ◌<◌, ◌^◌, ◌∙◌, ◌∷◌, ◌≡◌, ◌≤◌, ◌⊎◌, add-zero, ap, arith, cases_lt}
+use Rattle.is_stun.proofs.Common.{delay_millis, inl, inr, last_resend_delay, later, MAX, MILLISECOND, min, range_with_len, refl}
+use Rattle.is_stun.proofs.Common.{resend_delay, suc, suc-add, sum_by, sym, timeout_of, zero, zero-add, zero-mul, ℕ}
 
 -- so many doublings take any number but zero past so many bits
 pub doubled_past : (a k j m : ℕ) → m < 2 ^ j → 0 < a → j ≤ k → m < a * 2 ^ k

@@ -1,8 +1,7 @@
 -- Numbers of 128 bits by their two halves.
-use Rattle.std.proofs.Common.{◌≡◌, ℕ, ◌+◌, ◌*◌, ◌/◌, ◌%◌, ◌^◌, ◌<◌, List, [], ◌∷◌, ◌++◌, get_or, refl, sym, ap, ◌∙◌, arith}
-use Rattle.std.specs.Int.{w64, w128, from_be_bytes, to_be_bytes}
-use Rattle.std.proofs.lemmas.Nat.{from_be_bytes-to_be_bytes_8, be_bytes_8}
 use native.Mathlib.Nat as nat
+use Rattle.is_stun.proofs.Common.{[], ◌%◌, ◌*◌, ◌++◌, ◌+◌, ◌/◌, ◌<◌, ◌^◌, ◌∙◌, ◌∷◌, ◌≡◌, ap, arith, be_bytes_8, from_be_bytes}
+use Rattle.is_stun.proofs.Common.{from_be_bytes-to_be_bytes_8, get_or, List, refl, sym, to_be_bytes, w128, w64, ℕ}
 
 -- byte k of a number is byte k - 8 of its high half, or byte k of its low one
 byte_15 : (n : ℕ) → n / 1329227995784915872903807060280344576 % 256 ≡ n / 18446744073709551616 / 72057594037927936 % 256

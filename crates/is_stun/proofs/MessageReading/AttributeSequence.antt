@@ -1,10 +1,9 @@
 -- How the attributes follow one another.
-use Rattle.std.proofs.Common.{◌≡◌, ℕ, zero, suc, ◌+◌, ◌<◌, ◌≤◌, min, Bool, true, false, cond, ltb, List, [], ◌∷◌, length, take, drop, get_or, refl, sym, ap, ◌∙◌, arith, inl, inr, add-zero, Some, None, ◌⊎◌, subst, length-take}
-use Rattle.std.proofs.lemmas.List.{drop_all}
-use Rattle.std.proofs.lemmas.Bool.{cases_lt, lt-ltb, le-ltb}
 use Rattle.std.proofs.lemmas.Grind.{common_steps}
-use Rattle.is_stun.specs.Tlv.{Tlv, padded_len, u16_of, tlv_at, tlvs_after, tlvs_of}
-use Rattle.is_stun.specs.Integrity.{is_integrity, first_integrity}
+use Rattle.is_stun.proofs.Common.{[], ◌+◌, ◌<◌, ◌∙◌, ◌∷◌, ◌≡◌, ◌≤◌, ◌⊎◌, add-zero, ap, arith, Bool, cases_lt, cond, drop, drop_all, false}
+use Rattle.is_stun.proofs.Common.{first_integrity, get_or, inl, inr, is_integrity, le-ltb, length, length-take, List, lt-ltb, ltb, min}
+use Rattle.is_stun.proofs.Common.{None, padded_len, refl, Some, subst, suc, sym, take, Tlv, tlv_at, tlvs_after, tlvs_of, true, u16_of, zero}
+use Rattle.is_stun.proofs.Common.{ℕ}
 
 -- fewer than four bytes are no attribute
 pub tlvs_short : (place : ℕ) (bytes : List ℕ) → length bytes < 4 → tlvs_after 0 place bytes ≡ []

@@ -1,26 +1,18 @@
 -- What is read is what the bytes encode.
-use Rattle.std.proofs.Common.{◌≡◌, ℕ, ◌+◌, ◌%◌, Bool, true, false, not, ◌&&◌, cond, eqb, List, [], ◌∷◌, length, Option, Some, None, Result, Ok, Err, refl, sym, ap, subst, ◌∙◌}
-use Rattle.std.specs.Prelude.{is_none, is_some, IsSome, MatchOption}
-use Rattle.std.specs.Option.{option_or}
-use Rattle.std.specs.Result.{result_ok}
-use Rattle.std.specs.List.{AllByRecursion}
-use Rattle.std.proofs.lemmas.Bool.{le-ltb, ltb-false, eqb-true, eq-eqb}
-use Rattle.is_proto.specs.declared.error.ParseFault.{ParseFault}
-use Rattle.is_proto.specs.declared.error.ParseFault.TheVariants.{AttributeLength, LifetimeLength, PriorityLength, UseCandidateLength, FingerprintLength, ControlledLength, ControllingLength}
-use Rattle.std.specs.Int.{w32, w64}
-use Rattle.is_stun.specs.Numbers.{USERNAME, ERROR_CODE, CHANNEL_NUMBER, LIFETIME, XOR_PEER_ADDRESS, REALM, NONCE, XOR_RELAYED_ADDRESS, XOR_MAPPED_ADDRESS, SOFTWARE, PRIORITY, USE_CANDIDATE, FINGERPRINT, ICE_CONTROLLED, ICE_CONTROLLING, USERNAME_LIMIT, TEXT_LIMIT, HEADER_LEN, MAGIC}
-use Rattle.is_stun.specs.declared.header.Class.{Class}
 use Rattle.is_stun.specs.declared.header.Class.TheVariants as classes
-use Rattle.is_stun.specs.declared.header.Method.{Method}
 use Rattle.is_stun.specs.declared.header.Method.TheVariants as methods
-use Rattle.is_stun.specs.Tlv.{Tlv, tlvs_of}
-use Rattle.is_stun.specs.Header.{header_fault, length_field, magic_of, body_of}
-use Rattle.is_stun.specs.Kinds.{text, number, bytes_of_len, error_code, channel_number, value_fault, fault_in}
-use Rattle.is_stun.specs.Address.{address_in}
-use Rattle.is_stun.specs.Integrity.{is_integrity, before_integrity, up_to_integrity, after_integrity}
-use Rattle.is_stun.specs.Message.{AttributesRecord, Message, split_username}
-use Rattle.is_stun.specs.Reading.{is_skipped, counts, last_of, fault_at, first_fault, attributes_fault, value_in, attributes_of, id_of, message_of, demand_fault, demand_fault_of, Reads, fault_of}
-use Rattle.is_stun.specs.Spells.{HasHeader, IsWellFormed, IsReading, AreSpelled, HasDemanded, Spells}
+use Rattle.is_stun.proofs.Common.{[], ◌%◌, ◌&&◌, ◌+◌, ◌∙◌, ◌∷◌, ◌≡◌, address_in, after_integrity, AllByRecursion, ap, AreSpelled}
+use Rattle.is_stun.proofs.Common.{AttributeLength, attributes_fault, attributes_of, AttributesRecord, before_integrity, body_of, Bool}
+use Rattle.is_stun.proofs.Common.{bytes_of_len, CHANNEL_NUMBER, channel_number, Class, cond, ControlledLength, ControllingLength, counts}
+use Rattle.is_stun.proofs.Common.{demand_fault, demand_fault_of, eq-eqb, eqb, eqb-true, Err, ERROR_CODE, error_code, false, fault_at}
+use Rattle.is_stun.proofs.Common.{fault_in, fault_of, FINGERPRINT, FingerprintLength, first_fault, HasDemanded, HasHeader, header_fault}
+use Rattle.is_stun.proofs.Common.{HEADER_LEN, ICE_CONTROLLED, ICE_CONTROLLING, id_of, is_integrity, is_none, is_skipped, is_some, IsReading}
+use Rattle.is_stun.proofs.Common.{IsSome, IsWellFormed, last_of, le-ltb, length, length_field, LIFETIME, LifetimeLength, List, ltb-false}
+use Rattle.is_stun.proofs.Common.{MAGIC, magic_of, MatchOption, Message, message_of, Method, NONCE, None, not, number, Ok, Option}
+use Rattle.is_stun.proofs.Common.{option_or, ParseFault, PRIORITY, PriorityLength, Reads, REALM, refl, Result, result_ok, SOFTWARE, Some}
+use Rattle.is_stun.proofs.Common.{Spells, split_username, subst, sym, text, TEXT_LIMIT, Tlv, tlvs_of, true, up_to_integrity, USE_CANDIDATE}
+use Rattle.is_stun.proofs.Common.{UseCandidateLength, USERNAME, USERNAME_LIMIT, value_fault, value_in, w32, w64, XOR_MAPPED_ADDRESS}
+use Rattle.is_stun.proofs.Common.{XOR_PEER_ADDRESS, XOR_RELAYED_ADDRESS, ℕ}
 use Rattle.is_stun.proofs.MessageReading.FirstAttribute.{none_parts}
 use Rattle.is_stun.proofs.MessageReading.ReadMessages.{fault_of-parts, rejected_or, not_false}
 use Rattle.is_stun.proofs.RoundTrips.Attributes.{address_fault-is}

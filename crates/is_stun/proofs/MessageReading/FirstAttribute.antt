@@ -1,14 +1,9 @@
 -- One step of a walk over the attributes: l is what was left, and c its first.
-use Rattle.std.proofs.Common.{◌≡◌, ℕ, Bool, true, false, ◌||◌, cond, eqb, ltb, List, [], ◌∷◌, Option, Some, None, Ok, Err, length, refl, ap, sym, subst, ◌∙◌, inl, inr}
-use Rattle.std.specs.Option.{option_or}
-use Rattle.std.proofs.lemmas.Bool.{eq-eqb, ne_eqb, eqb-true}
-use Rattle.is_proto.specs.declared.error.ParseFault.{ParseFault}
-use Rattle.is_proto.specs.declared.error.ParseFault.TheVariants.{AttributeLength, IntegrityLength}
-use Rattle.is_stun.specs.Tlv.{Tlv}
-use Rattle.is_stun.specs.Kinds.{fault_in, value_fault}
+use Rattle.is_stun.proofs.Common.{[], ◌||◌, ◌∙◌, ◌∷◌, ◌≡◌, after_integrity, ap, AttributeLength, attributes_fault, before_integrity, Bool}
+use Rattle.is_stun.proofs.Common.{cond, eq-eqb, eqb, eqb-true, Err, false, fault_at, fault_in, first_fault, first_integrity, inl, inr}
+use Rattle.is_stun.proofs.Common.{IntegrityLength, is_integrity, length, List, ltb, ne_eqb, None, Ok, Option, option_or, ParseFault, refl}
+use Rattle.is_stun.proofs.Common.{Some, subst, sym, Tlv, true, up_to_integrity, value_fault, ℕ}
 use Rattle.is_stun.proofs.MessageReading.AttributeSequence.{cond_cases}
-use Rattle.is_stun.specs.Reading.{fault_at, first_fault, attributes_fault}
-use Rattle.is_stun.specs.Integrity.{is_integrity, before_integrity, first_integrity, up_to_integrity, after_integrity}
 
 is_integrity_at : (c : Tlv) → c.code ≡ 8 → is_integrity c ≡ true
 is_integrity_at c e = eq-eqb c.code 8 e

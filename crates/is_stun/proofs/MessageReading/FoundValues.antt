@@ -1,10 +1,6 @@
 -- One pass for one type: what is left, over what was found so far, is the value.
-use Rattle.std.proofs.Common.{◌≡◌, ℕ, Bool, true, false, cond, eqb, List, [], ◌∷◌, Option, Some, None, refl, sym, ap, ◌∙◌}
-use Rattle.std.proofs.lemmas.Bool.{eq-eqb, ne_eqb}
-use Rattle.std.specs.Option.{option_or}
-use Rattle.is_stun.specs.Tlv.{Tlv}
-use Rattle.is_stun.specs.Integrity.{before_integrity}
-use Rattle.is_stun.specs.Finding.{last_value}
+use Rattle.is_stun.proofs.Common.{[], ◌∙◌, ◌∷◌, ◌≡◌, ap, before_integrity, Bool, cond, eq-eqb, eqb, false, last_value, List, ne_eqb, None}
+use Rattle.is_stun.proofs.Common.{Option, option_or, refl, Some, sym, Tlv, true, ℕ}
 use Rattle.is_stun.proofs.MessageReading.FirstAttribute.{before_integrity-here, before_integrity-past}
 
 -- the value that is left, or else what was found so far

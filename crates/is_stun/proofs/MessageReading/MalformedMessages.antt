@@ -1,11 +1,7 @@
 -- The parts of the fault of bytes that encode no message.
-use Rattle.std.proofs.Common.{◌≡◌, ℕ, List, Option, Some, None, refl}
-use Rattle.std.specs.Option.{option_or}
-use Rattle.is_proto.specs.declared.error.ParseFault.{ParseFault}
-use Rattle.is_stun.specs.Tlv.{tlvs_of}
-use Rattle.is_stun.specs.Header.{header_fault, body_of}
-use Rattle.is_stun.specs.Reading.{attributes_fault, message_of, demand_fault, fault_of}
 use Rattle.is_stun.specs.Form.{form_fault}
+use Rattle.is_stun.proofs.Common.{◌≡◌, attributes_fault, body_of, demand_fault, fault_of, header_fault, List, message_of, None, Option}
+use Rattle.is_stun.proofs.Common.{option_or, ParseFault, refl, Some, tlvs_of, ℕ}
 
 pub form_fault-parts : (bytes : List ℕ) (header attributes : Option ParseFault) → header ≡ header_fault bytes → attributes ≡ attributes_fault (tlvs_of (body_of bytes))
     → form_fault bytes ≡ option_or header attributes

@@ -1,22 +1,17 @@
 -- One pass: what is left, read over what was read so far, is what all attributes say.
-use Rattle.std.proofs.Common.{◌≡◌, ℕ, Bool, true, false, ◌||◌, cond, eqb, List, [], ◌∷◌, Option, Some, None, Result, length, ◌+◌, ◌≤◌, refl, ap, sym, ◌∙◌, arith}
-use Rattle.std.specs.Prelude.{IfSome, is_some, option_and_then}
-use Rattle.std.specs.Option.{option_or, option_map}
-use Rattle.std.specs.Result.{result_ok}
-use Rattle.std.specs.Int.{w32, w64}
-use Rattle.std.proofs.lemmas.Bool.{eqb-true}
-use Rattle.is_proto.specs.declared.error.ParseFault.{ParseFault}
-use Rattle.is_proto.specs.declared.error.ParseFault.TheVariants.{LifetimeLength, PriorityLength, UseCandidateLength, FingerprintLength, ControlledLength, ControllingLength}
-use Rattle.is_stun.specs.Numbers.{USERNAME, ERROR_CODE, CHANNEL_NUMBER, LIFETIME, XOR_PEER_ADDRESS, DATA, REALM, NONCE, XOR_RELAYED_ADDRESS, XOR_MAPPED_ADDRESS, SOFTWARE, PRIORITY, USE_CANDIDATE, FINGERPRINT, ICE_CONTROLLED, ICE_CONTROLLING, NETWORK_COST, NOMINATION, USERNAME_LIMIT, TEXT_LIMIT}
-use Rattle.is_stun.specs.Tlv.{Tlv, tlvs_of}
-use Rattle.is_stun.specs.Kinds.{text, number, bytes_of_len, error_code, channel_number, network_cost, nomination}
-use Rattle.is_stun.specs.Address.{address_in}
-use Rattle.is_stun.specs.Integrity.{is_integrity, before_integrity, first_integrity}
-use Rattle.is_stun.specs.Message.{AttributesRecord, no_attributes}
-use Rattle.is_stun.specs.Reading.{counts, last_of, value_in, attributes_of, attributes_fault, fault_at}
 use Rattle.is_stun.specs.Pass.{kept, kept_after, kept_at, integrity_with}
+use Rattle.is_stun.proofs.Common.{[], ◌+◌, ◌||◌, ◌∙◌, ◌∷◌, ◌≡◌, ◌≤◌, address_in, ap, arith, attributes_fault, attributes_of}
+use Rattle.is_stun.proofs.Common.{AttributesRecord, before_integrity, Bool, bytes_of_len, CHANNEL_NUMBER, channel_number, cond}
+use Rattle.is_stun.proofs.Common.{ControlledLength, ControllingLength, counts, DATA, eqb, eqb-true, ERROR_CODE, error_code, false, fault_at}
+use Rattle.is_stun.proofs.Common.{FINGERPRINT, FingerprintLength, first_integrity, ICE_CONTROLLED, ICE_CONTROLLING, IfSome, is_integrity}
+use Rattle.is_stun.proofs.Common.{is_some, last_of, length, LIFETIME, LifetimeLength, List, NETWORK_COST, network_cost, no_attributes}
+use Rattle.is_stun.proofs.Common.{NOMINATION, nomination, NONCE, None, number, Option, option_and_then, option_map, option_or, ParseFault}
+use Rattle.is_stun.proofs.Common.{PRIORITY, PriorityLength, REALM, refl, Result, result_ok, SOFTWARE, Some, sym, text, TEXT_LIMIT, Tlv}
+use Rattle.is_stun.proofs.Common.{tlvs_of, true, USE_CANDIDATE, UseCandidateLength, USERNAME, USERNAME_LIMIT, value_in, w32, w64}
+use Rattle.is_stun.proofs.Common.{XOR_MAPPED_ADDRESS, XOR_PEER_ADDRESS, XOR_RELAYED_ADDRESS, ℕ}
 use Rattle.is_stun.proofs.MessageReading.AttributeSequence.{first_integrity-ends}
-use Rattle.is_stun.proofs.MessageReading.FirstAttribute.{fault_left, fault_left-past, fault_left-found, fault_left-nil, faultless-integrity, option_or-none}
+use Rattle.is_stun.proofs.MessageReading.FirstAttribute.{fault_left, fault_left-past, fault_left-found, fault_left-nil, faultless-integrity}
+use Rattle.is_stun.proofs.MessageReading.FirstAttribute.{option_or-none}
 
 -- ---- one field
 

@@ -1,15 +1,7 @@
 -- Bytes have one reading, and a message is authentic if and only if it is signed.
-use Rattle.std.proofs.Common.{◌≡◌, ℕ, List, Option, Some, None, refl, sym, ◌∙◌, inl, inr, ◌⊎◌, subst, ◌↔◌}
-use Rattle.std.specs.Prelude.{IsSomeAnd}
-use Rattle.std.specs.Option.{option_map}
-use Rattle.is_proto.specs.declared.error.ParseFault.{ParseFault}
-use Rattle.is_stun.specs.Tlv.{Tlv, tlvs_of}
-use Rattle.is_stun.specs.Message.{Message}
-use Rattle.is_stun.specs.Reading.{Fault, fault_of, message_of}
-use Rattle.is_stun.specs.Integrity.{IsSignedBy, IsAuthentic, first_integrity, integrity_of}
-use Rattle.is_stun.specs.Header.{body_of}
-use Rattle.is_stun.specs.Spells.{Spells}
-use Rattle.is_stun.specs.Theorems.{ReadsOrFails, SignedIffAuthentic}
+use Rattle.is_stun.proofs.Common.{◌↔◌, ◌∙◌, ◌≡◌, ◌⊎◌, body_of, Fault, fault_of, first_integrity, inl, inr, integrity_of, IsAuthentic}
+use Rattle.is_stun.proofs.Common.{IsSignedBy, IsSomeAnd, List, Message, message_of, None, Option, option_map, ParseFault, ReadsOrFails}
+use Rattle.is_stun.proofs.Common.{refl, SignedIffAuthentic, Some, Spells, subst, sym, Tlv, tlvs_of, ℕ}
 use Rattle.is_stun.proofs.MessageReading.EncodedMessages.{reads_spells, spells_reads}
 
 either_of : (bytes : List ℕ) (o : Option ParseFault) → fault_of bytes ≡ o → ((m : Message) × Spells bytes m) ⊎ ((f : ParseFault) × Fault bytes f)

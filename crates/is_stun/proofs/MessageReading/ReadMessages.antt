@@ -1,10 +1,6 @@
 -- The parts of what a message's bytes encode.
-use Rattle.std.proofs.Common.{◌≡◌, ℕ, Bool, true, false, not, cond, List, Option, Some, None, refl}
-use Rattle.std.specs.Option.{option_or}
-use Rattle.is_proto.specs.declared.error.ParseFault.{ParseFault}
-use Rattle.is_stun.specs.Tlv.{tlvs_of}
-use Rattle.is_stun.specs.Header.{header_fault, body_of}
-use Rattle.is_stun.specs.Reading.{attributes_fault, message_of, demand_fault, fault_of}
+use Rattle.is_stun.proofs.Common.{◌≡◌, attributes_fault, body_of, Bool, cond, demand_fault, false, fault_of, header_fault, List, message_of}
+use Rattle.is_stun.proofs.Common.{None, not, Option, option_or, ParseFault, refl, Some, tlvs_of, true, ℕ}
 
 -- the first fault, by those of the three parts
 pub fault_of-parts : (bytes : List ℕ) (header attributes demand : Option ParseFault) → header ≡ header_fault bytes → attributes ≡ attributes_fault (tlvs_of (body_of bytes)) → demand ≡ demand_fault (message_of bytes)

@@ -1,12 +1,9 @@
 -- A value is read as text if and only if it is UTF-8, and a text may be split at a colon.
-use Rattle.std.proofs.Common.{◌≡◌, ℕ, ◌≤◌, ◌+◌, ◌==◌, get_or, List, length, Option, Some, None, Ok, Err, refl, sym, false, arith}
-use Rattle.std.specs.Prelude.{IfSome, position}
-use Rattle.std.specs.Str.{IsUtf8, is_utf8, IsCharBoundary}
-use Rattle.std.proofs.lemmas.Bool.{le-ltb, false_from_ne_true, eqb-true}
 use Rattle.std.proofs.lemmas.List.Quantifiers.{position-Some}
 use Rattle.std.proofs.lemmas.Str.{IsUtf8-from_is_utf8, is_utf8-from_IsUtf8, IsCharBoundary-before_ascii, IsCharBoundary-after_ascii}
-use Rattle.is_proto.specs.declared.error.ParseFault.TheVariants.{TextNotUtf8}
-use Rattle.is_stun.specs.Kinds.{text}
+use Rattle.is_stun.proofs.Common.{◌+◌, ◌==◌, ◌≡◌, ◌≤◌, arith, eqb-true, Err, false, false_from_ne_true, get_or, IfSome, is_utf8}
+use Rattle.is_stun.proofs.Common.{IsCharBoundary, IsUtf8, le-ltb, length, List, None, Ok, Option, position, refl, Some, sym, text}
+use Rattle.is_stun.proofs.Common.{TextNotUtf8, ℕ}
 
 pub text_of : (limit : ℕ) (value : List ℕ) → length value ≤ limit → IsUtf8 value → text limit value ≡ Ok value
 text_of limit value within utf8 = rw (le-ltb limit (length value) within, is_utf8-from_IsUtf8 value utf8) refl

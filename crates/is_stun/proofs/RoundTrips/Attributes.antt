@@ -1,25 +1,19 @@
 -- The attributes of a message that was written round-trip.
-use Rattle.std.proofs.Common.{◌≡◌, ℕ, ◌^◌, ◌<◌, ◌≤◌, Bool, true, false, ◌||◌, cond, ltb, List, length, Option, Some, None, Ok, Err, refl, ap, ◌∙◌, arith}
-use Rattle.std.specs.Prelude.{IfSome, is_some, option_and_then}
-use Rattle.std.specs.Option.{option_map}
-use Rattle.std.specs.List.{AllByRecursion}
-use Rattle.std.specs.Str.{IsUtf8}
-use Rattle.std.specs.Int.{w32, w64, to_be_bytes}
-use Rattle.std.proofs.lemmas.Bool.{ltb-false}
-use Rattle.is_proto.specs.declared.error.ParseFault.TheVariants.{XorAddress, LifetimeLength, PriorityLength, UseCandidateLength, ControlledLength, ControllingLength}
-use Rattle.is_stun.specs.Kinds.{text, number, bytes_of_len, error_code, channel_number, network_cost, nomination, value_fault, address_fault, fault_in}
-use Rattle.is_stun.specs.Address.{xor_address, address_in, is_ipv4_value, is_ipv6_value}
-use Rattle.is_stun.specs.ErrorCode.{error_value}
-use Rattle.is_stun.specs.Message.{AttributesRecord}
-use Rattle.is_stun.specs.Writing.{Row, rows_of, if_set, channel_value, network_cost_value, is_longer, has_long_value, is_bad_code}
-use Rattle.is_stun.specs.Theorems.{IsId, HasReadableValues}
-use Rattle.is_stun.specs.Numbers.{DATA_LIMIT, TEXT_LIMIT, USERNAME_LIMIT, WRITTEN_TEXT_LIMIT, WRITTEN_USERNAME_LIMIT}
-use Rattle.is_stun.specs.Reading.{value_in}
+use Rattle.is_stun.proofs.Common.{◌<◌, ◌^◌, ◌||◌, ◌∙◌, ◌≡◌, ◌≤◌, address_fault, address_in, AllByRecursion, ap, arith, AttributesRecord}
+use Rattle.is_stun.proofs.Common.{Bool, bytes_of_len, channel_number, channel_value, cond, ControlledLength, ControllingLength, DATA_LIMIT}
+use Rattle.is_stun.proofs.Common.{Err, error_code, error_value, false, fault_in, has_long_value, HasReadableValues, if_set, IfSome}
+use Rattle.is_stun.proofs.Common.{is_bad_code, is_ipv4_value, is_ipv6_value, is_longer, is_some, IsId, IsUtf8, length, LifetimeLength, List}
+use Rattle.is_stun.proofs.Common.{ltb, ltb-false, network_cost, network_cost_value, nomination, None, number, Ok, Option, option_and_then}
+use Rattle.is_stun.proofs.Common.{option_map, PriorityLength, refl, Row, rows_of, Some, text, TEXT_LIMIT, to_be_bytes, true}
+use Rattle.is_stun.proofs.Common.{UseCandidateLength, USERNAME_LIMIT, value_fault, value_in, w32, w64, WRITTEN_TEXT_LIMIT}
+use Rattle.is_stun.proofs.Common.{WRITTEN_USERNAME_LIMIT, xor_address, XorAddress, ℕ}
 use Rattle.is_stun.proofs.MessageReading.FirstAttribute.{option_or-none}
 use Rattle.is_stun.proofs.RoundTrips.Rows.{FitsRow, last_row}
 use Rattle.is_stun.proofs.RoundTrips.MessageParts.{row_attributes}
 use Rattle.is_stun.proofs.RoundTrips.XorAddresses.{address_trips}
-use Rattle.is_stun.proofs.RoundTrips.ValuesByKind.{Trips, text_trips, u32_trips, u64_trips, channel_trips, error_trips, if_both, if_all, fits_row, comes_back, text_fits, text_back, data_fits, flag_fits, flag_back, cost_fits, cost_back, nomination_fits, nomination_back}
+use Rattle.is_stun.proofs.RoundTrips.ValuesByKind.{Trips, text_trips, u32_trips, u64_trips, channel_trips, error_trips, if_both, if_all}
+use Rattle.is_stun.proofs.RoundTrips.ValuesByKind.{fits_row, comes_back, text_fits, text_back, data_fits, flag_fits, flag_back, cost_fits}
+use Rattle.is_stun.proofs.RoundTrips.ValuesByKind.{cost_back, nomination_fits, nomination_back}
 
 -- ---- values that are written
 

@@ -1,17 +1,8 @@
 -- The rows of a message that was written are found by their types.
-use Rattle.std.proofs.Common.{◌≡◌, ℕ, ◌+◌, cond, List, [], ◌∷◌, ◌++◌, length, Option, Some, None, refl, sym, ap, ◌∙◌, arith, append_assoc}
-use Rattle.std.specs.Prelude.{bit_xor}
-use Rattle.std.specs.List.{AllByRecursion}
-use Rattle.std.specs.Int.{w32, to_be_bytes}
-use Rattle.std.proofs.lemmas.Bool.{ne_eqb}
-use Rattle.std.proofs.lemmas.List.{append-nil}
-use Rattle.is_stun.specs.Crc.{crc32}
-use Rattle.is_stun.specs.Numbers.{FINGERPRINT_MASK}
-use Rattle.is_stun.specs.Tlv.{Tlv, tlvs_after}
-use Rattle.is_stun.specs.Header.{header}
-use Rattle.is_stun.specs.Integrity.{before_integrity, signed_text}
-use Rattle.is_stun.specs.Finding.{last_value, last_written, value_of, IsPlainRow, WrittenIsFound}
-use Rattle.is_stun.specs.Writing.{Row, attribute, rows_text, body_len, front_of, sealed_of, written_rows, fingerprint_text}
+use Rattle.is_stun.proofs.Common.{[], ◌++◌, ◌+◌, ◌∙◌, ◌∷◌, ◌≡◌, AllByRecursion, ap, append-nil, append_assoc, arith, attribute}
+use Rattle.is_stun.proofs.Common.{before_integrity, bit_xor, body_len, cond, crc32, FINGERPRINT_MASK, fingerprint_text, front_of, header}
+use Rattle.is_stun.proofs.Common.{IsPlainRow, last_value, last_written, length, List, ne_eqb, None, Option, refl, Row, rows_text, sealed_of}
+use Rattle.is_stun.proofs.Common.{signed_text, Some, sym, Tlv, tlvs_after, to_be_bytes, value_of, w32, written_rows, WrittenIsFound, ℕ}
 use Rattle.is_stun.proofs.MessageReading.AttributeSequence.{tlvs_short}
 use Rattle.is_stun.proofs.MessageReading.FirstAttribute.{before_integrity-here}
 use Rattle.is_stun.proofs.RoundTrips.Rows.{tlv_of, tlvs-attribute, value_in_rows}

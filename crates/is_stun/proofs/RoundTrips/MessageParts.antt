@@ -1,27 +1,18 @@
 -- A message that was written with a key round-trips.
-use Rattle.std.proofs.Common.{◌≡◌, ℕ, ◌+◌, ◌%◌, ◌^◌, ◌<◌, ◌≤◌, true, false, List, [], ◌∷◌, ◌++◌, length, take, drop, Option, Some, None, refl, sym, ap, ◌∙◌, arith, append_assoc, length-append}
-use Rattle.std.specs.Option.{option_map}
-use Rattle.std.specs.List.{AllByRecursion}
-use Rattle.std.specs.Int.{w32, w64}
-use Rattle.std.proofs.lemmas.Bool.{eq-eqb, le-ltb}
-use Rattle.std.proofs.lemmas.List.{take_at, drop_at, append-nil}
-use Rattle.std.proofs.lemmas.Nat.{from_be_bytes-to_be_bytes_2}
-use Rattle.std.specs.Prelude.{is_some, option_and_then}
-use Rattle.is_stun.specs.Address.{address_in}
-use Rattle.is_proto.specs.declared.error.ParseFault.TheVariants.{LifetimeLength, PriorityLength, UseCandidateLength, ControlledLength, ControllingLength}
-use Rattle.is_stun.specs.Numbers.{MAGIC, TEXT_LIMIT, USERNAME_LIMIT}
-use Rattle.is_stun.specs.Tlv.{Tlv, attribute_len, tlvs_after, tlvs_of}
-use Rattle.is_stun.specs.Kinds.{value_fault, text, number, bytes_of_len, error_code, channel_number, network_cost, nomination}
-use Rattle.is_stun.specs.Message.{AttributesRecord}
-use Rattle.is_stun.specs.Writing.{Row, attribute, row_text, rows_text, optional_attribute}
-use Rattle.is_stun.specs.Header.{header, header_fault, length_field, magic_of, type_of, body_of, method_of, class_of}
-use Rattle.is_stun.specs.Finding.{IsPlainRow}
-use Rattle.is_stun.specs.Integrity.{signed_text, integrity_of, first_integrity, before_integrity}
-use Rattle.is_stun.specs.Reading.{attributes_fault, first_fault, last_of, value_in, attributes_of, message_of}
+use Rattle.is_stun.proofs.Common.{[], ◌%◌, ◌++◌, ◌+◌, ◌<◌, ◌^◌, ◌∙◌, ◌∷◌, ◌≡◌, ◌≤◌, address_in, AllByRecursion, ap, append-nil}
+use Rattle.is_stun.proofs.Common.{append_assoc, arith, attribute, attribute_len, attributes_fault, attributes_of, AttributesRecord}
+use Rattle.is_stun.proofs.Common.{before_integrity, body_of, bytes_of_len, channel_number, class_of, ControlledLength, ControllingLength}
+use Rattle.is_stun.proofs.Common.{drop, drop_at, eq-eqb, error_code, false, first_fault, first_integrity, from_be_bytes-to_be_bytes_2}
+use Rattle.is_stun.proofs.Common.{header, header_fault, integrity_of, is_some, IsPlainRow, last_of, le-ltb, length, length-append}
+use Rattle.is_stun.proofs.Common.{length_field, LifetimeLength, List, MAGIC, magic_of, message_of, method_of, network_cost, nomination}
+use Rattle.is_stun.proofs.Common.{None, number, Option, option_and_then, option_map, optional_attribute, PriorityLength, refl, Row}
+use Rattle.is_stun.proofs.Common.{row_text, rows_text, signed_text, Some, sym, take, take_at, text, TEXT_LIMIT, Tlv, tlvs_after, tlvs_of}
+use Rattle.is_stun.proofs.Common.{true, type_of, UseCandidateLength, USERNAME_LIMIT, value_fault, value_in, w32, w64, ℕ}
 use Rattle.is_stun.proofs.MessageReading.AttributeSequence.{tlvs_short}
 use Rattle.is_stun.proofs.MessageReading.FirstAttribute.{attributes_fault-cons, first_integrity-here, before_integrity-here}
 use Rattle.is_stun.proofs.WrittenMessages.ConsecutiveRows.{attribute_length, header_length}
-use Rattle.is_stun.proofs.RoundTrips.Rows.{tlv_of, tlvs_of_rows, FitsRow, all_plain, tlvs-attribute, rows_are_tlvs, first_in_rows, last_in_rows, fault_at-written, last_row}
+use Rattle.is_stun.proofs.RoundTrips.Rows.{tlv_of, tlvs_of_rows, FitsRow, all_plain, tlvs-attribute, rows_are_tlvs, first_in_rows}
+use Rattle.is_stun.proofs.RoundTrips.Rows.{last_in_rows, fault_at-written, last_row}
 
 -- the bytes of a message by its parts
 unfoldable pub bytes_of : ℕ → ℕ → List ℕ → List Row → List ℕ → List ℕ → List ℕ

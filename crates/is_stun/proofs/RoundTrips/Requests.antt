@@ -1,20 +1,11 @@
 -- What a message requests comes back, and nothing else of it changes.
-use Rattle.std.proofs.Common.{◌≡◌, ℕ, ◌+◌, ◌≤◌, true, List, [], ◌∷◌, ◌++◌, Option, Some, None, refl, sym, subst, ◌∙◌, arith}
-use Rattle.std.specs.Prelude.{IfSome}
-use Rattle.std.specs.List.{AllByRecursion}
-use Rattle.std.specs.Option.{option_map}
-use Rattle.std.proofs.lemmas.Bool.{ltb-false}
 use Rattle.is_stun.specs.declared.requested.AddressFamily.{AddressFamily}
 use Rattle.is_stun.specs.declared.requested.AddressFamily.TheVariants.{Ipv4, Ipv6}
-use Rattle.is_stun.specs.declared.requested.Requested.{Requested}
-use Rattle.is_stun.specs.Finding.{last_written}
-use Rattle.is_stun.specs.Header.{class_bits, method_bits}
-use Rattle.is_stun.specs.Integrity.{IsSignedBy}
-use Rattle.is_stun.specs.Kinds.{value_fault}
-use Rattle.is_stun.specs.Message.{AttributesRecord, Message}
-use Rattle.is_stun.specs.Requested.{with_reserved, family_value, transport_in, family_in, requested_rows, rows_with, rejection_with, written_with, RequestIsRead, RequestIsSkipped}
-use Rattle.is_stun.specs.Theorems.{SameMessage}
-use Rattle.is_stun.specs.Writing.{Row, rows_of, rows_rejection, value_rejection, body_len, is_known}
+use Rattle.is_stun.proofs.Common.{[], ◌++◌, ◌+◌, ◌∙◌, ◌∷◌, ◌≡◌, ◌≤◌, AllByRecursion, arith, AttributesRecord, body_len, class_bits}
+use Rattle.is_stun.proofs.Common.{family_in, family_value, IfSome, is_known, IsSignedBy, last_written, List, ltb-false, Message}
+use Rattle.is_stun.proofs.Common.{method_bits, None, Option, option_map, refl, rejection_with, Requested, requested_rows, RequestIsRead}
+use Rattle.is_stun.proofs.Common.{RequestIsSkipped, Row, rows_of, rows_rejection, rows_with, SameMessage, Some, subst, sym, transport_in}
+use Rattle.is_stun.proofs.Common.{true, value_fault, value_rejection, with_reserved, written_with, ℕ}
 use Rattle.is_stun.proofs.MessageReading.FirstAttribute.{none_parts, option_or-none}
 use Rattle.is_stun.proofs.MessageReading.ReadMessages.{rejected_or, not_false}
 use Rattle.is_stun.proofs.RoundTrips.Attributes.{HasShortValues, short_values, all_trip, rows_fit, attributes_back}

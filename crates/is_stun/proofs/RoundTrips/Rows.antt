@@ -1,23 +1,13 @@
 -- What was written is read: the attributes of rows that were written.
-use Rattle.std.proofs.Common.{◌≡◌, ℕ, ◌+◌, ◌-◌, ◌^◌, ◌<◌, Bool, true, false, cond, eqb, ltb, List, [], ◌∷◌, ◌++◌, length, take, Option, Some, None, refl, sym, ap, subst, ◌∙◌, arith, append_assoc, length-append, replicate, add-zero}
-use Rattle.std.specs.Prelude.{IfSome}
-use Rattle.std.proofs.lemmas.Nat.{from_be_bytes-to_be_bytes_2}
-use Rattle.is_stun.specs.Kinds.{value_fault}
-use Rattle.std.specs.Option.{option_or}
-use Rattle.std.specs.Int.{w16, from_be_bytes, to_be_bytes}
-use Rattle.std.proofs.lemmas.Bool.{ne_eqb, le-ltb}
-use Rattle.std.proofs.lemmas.List.{take_at, drop_at, length-replicate}
-use Rattle.is_proto.specs.declared.error.ParseFault.{ParseFault}
-use Rattle.is_stun.specs.Tlv.{Tlv, padded_len, attribute_len, tlv_at, tlvs_after}
-use Rattle.is_stun.specs.Writing.{Row, attribute, optional_attribute, row_text, rows_text}
-use Rattle.is_stun.specs.Reading.{is_skipped, counts, last_of, fault_at, attributes_fault}
-use Rattle.is_stun.specs.Integrity.{before_integrity, first_integrity}
-use Rattle.is_stun.specs.Finding.{last_value, last_written, IsPlainRow}
+use Rattle.is_stun.proofs.Common.{[], ◌&&◌, ◌++◌, ◌+◌, ◌-◌, ◌<◌, ◌^◌, ◌∙◌, ◌∷◌, ◌≡◌, add-zero, AllByRecursion, ap, append_assoc, arith}
+use Rattle.is_stun.proofs.Common.{attribute, attribute_len, AttributeLength, attributes_fault, before_integrity, Bool, cond, counts}
+use Rattle.is_stun.proofs.Common.{drop_at, eqb, false, fault_at, first_integrity, from_be_bytes, from_be_bytes-to_be_bytes_2, IfSome}
+use Rattle.is_stun.proofs.Common.{is_skipped, IsPlainRow, last_of, last_value, last_written, le-ltb, length, length-append}
+use Rattle.is_stun.proofs.Common.{length-replicate, List, ltb, ne_eqb, None, not, Option, option_or, optional_attribute, padded_len}
+use Rattle.is_stun.proofs.Common.{ParseFault, refl, replicate, Row, row_text, rows_text, Some, subst, sym, take, take_at, Tlv, tlv_at}
+use Rattle.is_stun.proofs.Common.{tlvs_after, to_be_bytes, true, value_fault, w16, ℕ}
 use Rattle.is_stun.proofs.MessageReading.AttributeSequence.{tlvs_after-drop}
 use Rattle.is_stun.proofs.MessageReading.FirstAttribute.{first_integrity-past, before_integrity-past, option_or-none, attributes_fault-cons}
-use Rattle.std.specs.List.{AllByRecursion}
-use Rattle.std.specs.Prelude.{not, ◌&&◌}
-use Rattle.is_proto.specs.declared.error.ParseFault.TheVariants.{AttributeLength}
 use Rattle.is_stun.proofs.WrittenMessages.ConsecutiveRows.{attribute_length}
 
 -- the attribute that a row is read as

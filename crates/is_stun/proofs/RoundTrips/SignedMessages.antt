@@ -1,28 +1,17 @@
 -- A message that was written with a key round-trips.
-use Rattle.std.proofs.Common.{◌≡◌, ℕ, ◌+◌, ◌^◌, ◌<◌, ◌≤◌, true, false, List, ◌++◌, length, take, drop, Option, Some, None, Result, Ok, Err, refl, sym, ap, subst, ◌∙◌, arith, append_assoc}
-use Rattle.std.specs.Prelude.{IsSomeAnd, IfSome, IfOk, OnOk, is_none, bit_xor}
-use Rattle.std.specs.Option.{option_map}
-use Rattle.std.specs.declared.net.socket_addr.SocketAddr.{SocketAddr}
-use Rattle.std.specs.Int.{w32, to_be_bytes}
-use Rattle.std.proofs.lemmas.Bool.{ltb-false}
-use Rattle.std.proofs.lemmas.List.{take_at}
-use Rattle.is_proto.specs.declared.error.StunError.{StunError}
-use Rattle.is_stun.specs.Numbers.{FINGERPRINT_MASK}
-use Rattle.is_stun.specs.declared.header.Class.{Class}
 use Rattle.is_stun.specs.declared.header.Class.TheVariants as classes
-use Rattle.is_stun.specs.declared.header.Method.{Method}
 use Rattle.is_stun.specs.declared.header.Method.TheVariants as methods
-use Rattle.is_stun.specs.Crc.{crc32}
-use Rattle.is_stun.specs.Tlv.{tlvs_of}
-use Rattle.is_stun.specs.Header.{header, header_fault, class_bits, method_bits, class_of, method_of, body_of}
-use Rattle.is_stun.specs.Message.{AttributesRecord, Integrity, Message, split_username}
-use Rattle.is_stun.specs.Integrity.{IsSignedBy, signed_text}
-use Rattle.is_stun.specs.Reading.{Reads, attributes_fault, demand_fault, demand_fault_of, message_of}
-use Rattle.is_stun.specs.Writing.{Row, attribute, rows_text, rows_of, body_len, front_of, sealed_of, written_rows, written, rejection, value_rejection, rows_rejection, is_known, WritesOr, HasMacOfRows}
-use Rattle.is_stun.specs.Theorems.{IsClass, IsId, IsChannelNumber, HasReadableValues, IsCarried, SameMessage, ReadsBack, WrittenIsRead, WrittenIsReadAlike, RoundTripsAs, sealed, plain, plain_address}
+use Rattle.is_stun.proofs.Common.{◌++◌, ◌+◌, ◌<◌, ◌^◌, ◌∙◌, ◌≡◌, ◌≤◌, AllByRecursion, ap, append_assoc, arith, attribute, attributes_fault}
+use Rattle.is_stun.proofs.Common.{AttributesRecord, bit_xor, body_len, body_of, Class, class_bits, class_of, crc32, demand_fault}
+use Rattle.is_stun.proofs.Common.{demand_fault_of, drop, Err, false, FINGERPRINT_MASK, front_of, HasMacOfRows, HasReadableValues, header}
+use Rattle.is_stun.proofs.Common.{header_fault, IfOk, IfSome, Integrity, is_known, is_none, IsCarried, IsChannelNumber, IsClass, IsId}
+use Rattle.is_stun.proofs.Common.{IsSignedBy, IsSomeAnd, length, List, ltb-false, Message, message_of, Method, method_bits, method_of, None}
+use Rattle.is_stun.proofs.Common.{Ok, OnOk, Option, option_map, plain, plain_address, Reads, ReadsBack, refl, rejection, Result}
+use Rattle.is_stun.proofs.Common.{RoundTripsAs, Row, rows_of, rows_rejection, rows_text, SameMessage, sealed, sealed_of, signed_text}
+use Rattle.is_stun.proofs.Common.{SocketAddr, Some, split_username, StunError, subst, sym, take, take_at, tlvs_of, to_be_bytes, true}
+use Rattle.is_stun.proofs.Common.{value_rejection, w32, WritesOr, written, written_rows, WrittenIsRead, WrittenIsReadAlike, ℕ}
 use Rattle.is_stun.proofs.MessageReading.FirstAttribute.{none_parts}
 use Rattle.is_stun.proofs.MessageReading.ReadMessages.{fault_of-parts, rejected_or, not_false}
-use Rattle.std.specs.List.{AllByRecursion}
 use Rattle.is_stun.proofs.RoundTrips.Rows.{FitsRow, all_plain, sound_in_rows}
 use Rattle.is_stun.proofs.RoundTrips.MessageParts.{bytes_of, header_parts, body_is, tail_tlvs, tail_sound, row_attributes, spelled_by}
 use Rattle.is_stun.proofs.WrittenMessages.MessagesByParts.{writes_message}

@@ -1,19 +1,11 @@
 -- What was written of each kind of value is read.
-use Rattle.std.proofs.Common.{◌≡◌, ℕ, ◌+◌, ◌*◌, ◌/◌, ◌%◌, ◌^◌, ◌<◌, ◌≤◌, Bool, true, false, ◌||◌, cond, ltb, List, length, Option, Some, None, Ok, Err, Result, refl, ap, ◌∙◌, arith}
-use Rattle.std.specs.Prelude.{IfSome, is_some, option_and_then}
-use Rattle.std.specs.Str.{IsUtf8}
-use Rattle.std.specs.Option.{option_map}
-use Rattle.std.specs.Result.{result_ok}
-use Rattle.std.specs.Int.{w16, w32, w64, from_be_bytes, to_be_bytes}
-use Rattle.std.proofs.lemmas.Bool.{le-ltb, eq-eqb}
-use Rattle.std.proofs.lemmas.Nat.{from_be_bytes-to_be_bytes_2, from_be_bytes-to_be_bytes_4, from_be_bytes-to_be_bytes_8}
-use Rattle.is_proto.specs.declared.error.ParseFault.{ParseFault}
-use Rattle.is_proto.specs.declared.error.ParseFault.TheVariants.{ChannelRange, UseCandidateLength}
-use Rattle.is_stun.specs.Kinds.{text, number, bytes_of_len, error_code, channel_number, network_cost, nomination, fault_in, value_fault}
-use Rattle.is_stun.specs.ErrorCode.{error_value}
-use Rattle.is_stun.specs.Writing.{row, channel_value, network_cost_value, if_set}
-use Rattle.is_stun.specs.Numbers.{DATA_LIMIT, TEXT_LIMIT, WRITTEN_TEXT_LIMIT}
-use Rattle.is_stun.specs.Reading.{is_skipped, value_in}
+use Rattle.is_stun.proofs.Common.{◌%◌, ◌*◌, ◌+◌, ◌/◌, ◌<◌, ◌^◌, ◌||◌, ◌∙◌, ◌≡◌, ◌≤◌, ap, arith, Bool, bytes_of_len, channel_number}
+use Rattle.is_stun.proofs.Common.{channel_value, ChannelRange, cond, DATA_LIMIT, eq-eqb, Err, error_code, error_value, false, fault_in}
+use Rattle.is_stun.proofs.Common.{from_be_bytes, from_be_bytes-to_be_bytes_2, from_be_bytes-to_be_bytes_4, from_be_bytes-to_be_bytes_8}
+use Rattle.is_stun.proofs.Common.{if_set, IfSome, is_skipped, is_some, IsUtf8, le-ltb, length, List, ltb, network_cost, network_cost_value}
+use Rattle.is_stun.proofs.Common.{nomination, None, number, Ok, Option, option_and_then, option_map, ParseFault, refl, Result, result_ok}
+use Rattle.is_stun.proofs.Common.{row, Some, text, TEXT_LIMIT, to_be_bytes, true, UseCandidateLength, value_fault, value_in, w16, w32, w64}
+use Rattle.is_stun.proofs.Common.{WRITTEN_TEXT_LIMIT, ℕ}
 use Rattle.is_stun.proofs.MessageReading.TextValues.{text_of}
 use Rattle.is_stun.proofs.RoundTrips.Rows.{tlv_of, FitsRow}
 

@@ -1,11 +1,8 @@
 -- ChannelData that was written is read.
-use Rattle.std.proofs.Common.{◌≡◌, ℕ, ◌≤◌, Bool, true, false, cond, ◌&&◌, List, ◌++◌, length, take, Option, Some, None, refl, ap, ◌∙◌, arith, length-append}
-use Rattle.std.specs.Prelude.{nat_le}
-use Rattle.std.specs.Int.{w16, to_be_bytes, from_be_bytes}
-use Rattle.std.proofs.lemmas.Bool.{leb-true, le-leb}
-use Rattle.std.proofs.lemmas.List.{take_at}
-use Rattle.std.proofs.lemmas.Nat.{from_be_bytes-to_be_bytes_2}
 use Rattle.is_stun.specs.ChannelData.{is_channel, channel_data_of, ChannelDataIsRead}
+use Rattle.is_stun.proofs.Common.{◌&&◌, ◌++◌, ◌∙◌, ◌≡◌, ◌≤◌, ap, arith, Bool, cond, false, from_be_bytes, from_be_bytes-to_be_bytes_2}
+use Rattle.is_stun.proofs.Common.{le-leb, leb-true, length, length-append, List, nat_le, None, Option, refl, Some, take, take_at}
+use Rattle.is_stun.proofs.Common.{to_be_bytes, true, w16, ℕ}
 
 and_right : (b c : Bool) → (b && c) ≡ true → c ≡ true
 and_right true c e = e

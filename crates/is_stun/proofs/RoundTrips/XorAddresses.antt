@@ -1,18 +1,11 @@
 -- An XOR address that was written is read.
-use Rattle.std.proofs.Common.{◌≡◌, ℕ, zero, suc, ◌+◌, ◌*◌, ◌/◌, ◌%◌, ◌^◌, ◌<◌, List, [], ◌∷◌, length, get_or, Ok, refl, sym, ap, subst, ◌∙◌, arith}
-use Rattle.std.specs.Prelude.{bit_xor, slice_index}
-use Rattle.std.specs.Int.{w16, w32, w128, from_be_bytes, to_be_bytes}
 use Rattle.std.specs.Int.Bits.{xor_assoc, xor_self, xor_zero_r}
-use Rattle.std.proofs.lemmas.Nat.{xor_lt, be_bytes_4, from_be_bytes-to_be_bytes_2, from_be_bytes-to_be_bytes_4}
-use Rattle.std.specs.Net.Addr.{ipv4_bits, ipv6_bits, ipv4_octets, ipv6_segments, segments_of, octets_of, IsIpv4OfBits, IsIpv6OfBits}
-use Rattle.std.specs.Net.Socket.{v4_ip, v4_port, v6_ip, v6_port, v6_flowinfo, v6_scope_id, IsSocketAddrV4, IsSocketAddrV6}
-use Rattle.std.specs.declared.net.socket_addr.SocketAddr.{SocketAddr}
-use Rattle.std.specs.declared.net.socket_addr.SocketAddr.TheVariants.{V4, V6}
-use Rattle.std.specs.declared.net.socket_addr.SocketAddrV4.{SocketAddrV4}
-use Rattle.std.specs.declared.net.socket_addr.SocketAddrV6.{SocketAddrV6}
-use Rattle.is_stun.specs.Numbers.{MAGIC, PORT_MASK}
-use Rattle.is_stun.specs.Address.{xor_address, address_in, mask_of, ipv4_socket, ipv6_socket}
-use Rattle.is_stun.specs.Theorems.{IsId, IsPlainAddress}
+use Rattle.is_stun.proofs.Common.{[], ◌%◌, ◌*◌, ◌+◌, ◌/◌, ◌<◌, ◌^◌, ◌∙◌, ◌∷◌, ◌≡◌, address_in, ap, arith, be_bytes_4, bit_xor}
+use Rattle.is_stun.proofs.Common.{from_be_bytes, from_be_bytes-to_be_bytes_2, from_be_bytes-to_be_bytes_4, get_or, ipv4_bits, ipv4_octets}
+use Rattle.is_stun.proofs.Common.{ipv4_socket, ipv6_bits, ipv6_segments, ipv6_socket, IsId, IsIpv4OfBits, IsIpv6OfBits, IsPlainAddress}
+use Rattle.is_stun.proofs.Common.{IsSocketAddrV4, IsSocketAddrV6, length, List, MAGIC, mask_of, octets_of, Ok, PORT_MASK, refl, segments_of}
+use Rattle.is_stun.proofs.Common.{slice_index, SocketAddr, SocketAddrV4, SocketAddrV6, subst, suc, sym, to_be_bytes, V4, v4_ip, v4_port, V6}
+use Rattle.is_stun.proofs.Common.{v6_flowinfo, v6_ip, v6_port, v6_scope_id, w128, w16, w32, xor_address, xor_lt, zero, ℕ}
 use Rattle.is_stun.proofs.BitsOfNumbers.AddressBits.{ipv4_socket-is, ipv6_socket-is}
 use Rattle.is_stun.proofs.BitsOfNumbers.WideNumbers.{AreBytes, small_8, from_be_bytes_16, be_bytes_16, from_be_bytes-to_be_bytes_16}
 use Rattle.is_stun.proofs.RoundTrips.ValuesByKind.{Trips}

@@ -1,13 +1,9 @@
 -- Rows one after another.
-use Rattle.std.proofs.Common.{◌≡◌, ℕ, ◌+◌, ◌-◌, ◌<◌, ◌≤◌, List, [], ◌∷◌, ◌++◌, length, map, take, drop, get_or, Some, refl, sym, ap, ◌∙◌, arith, replicate, length-append}
-use Rattle.std.proofs.lemmas.List.{take_more, map-append, append-nil, take-append-drop, length-replicate}
-use Rattle.std.proofs.lemmas.List.Concat.{flat_map-append}
-use Rattle.std.proofs.Common.{Bor}
 use Rattle.is_stun.specs.declared.writing.Row.{Row as RawRow}
-use Rattle.is_stun.specs.Tlv.{padded_len, attribute_len}
-use Rattle.is_stun.specs.RowView.{row_view}
-use Rattle.is_stun.specs.Writing.{Row, attribute, row_text, rows_text}
-use Rattle.is_stun.specs.Header.{header}
+use Rattle.is_stun.proofs.Common.{[], ◌++◌, ◌+◌, ◌-◌, ◌<◌, ◌∙◌, ◌∷◌, ◌≡◌, ◌≤◌, ap, append-nil, arith, attribute, attribute_len, Bor, drop}
+use Rattle.is_stun.proofs.Common.{flat_map-append, get_or, header, length, length-append, length-replicate, List, map, map-append}
+use Rattle.is_stun.proofs.Common.{padded_len, refl, replicate, Row, row_text, row_view, rows_text, Some, sym, take, take-append-drop}
+use Rattle.is_stun.proofs.Common.{take_more, ℕ}
 
 pub attribute_length : (code : ℕ) (value : List ℕ) → length (attribute code value) ≡ attribute_len (length value)
 unfolding attribute

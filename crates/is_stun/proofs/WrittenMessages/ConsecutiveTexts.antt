@@ -1,8 +1,7 @@
 -- Texts that are put one after another.
-use Rattle.std.proofs.Common.{◌≡◌, ℕ, ◌+◌, ◌≤◌, List, [], ◌++◌, length, take, drop, sym, ap, ◌∙◌, arith, append_assoc, length-append, add-zero, length-take, length-drop}
-use Rattle.std.proofs.lemmas.List.{take_at, take-append-drop}
 use Rattle.std.proofs.lemmas.Slice.{drop-append-drop}
-use Rattle.is_stun.specs.Writing.{splice, Puts}
+use Rattle.is_stun.proofs.Common.{[], ◌++◌, ◌+◌, ◌∙◌, ◌≡◌, ◌≤◌, add-zero, ap, append_assoc, arith, drop, length, length-append, length-drop}
+use Rattle.is_stun.proofs.Common.{length-take, List, Puts, splice, sym, take, take-append-drop, take_at, ℕ}
 
 pub length-splice : (xs text : List ℕ) (at : ℕ) → at + length text ≤ length xs → length (splice xs at text) ≡ length xs
 unfolding splice

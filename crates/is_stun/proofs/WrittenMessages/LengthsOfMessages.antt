@@ -1,19 +1,12 @@
 -- How long replies and checks are.
-use Rattle.std.proofs.Common.{◌≡◌, ℕ, ◌+◌, ◌≤◌, Bool, true, false, cond, ltb, List, [], ◌++◌, length, Option, Some, None, refl, ap, subst, ◌∙◌, arith, length-append}
-use Rattle.std.specs.Option.{option_or}
-use Rattle.std.specs.Int.{w32, w64, to_be_bytes}
-use Rattle.std.specs.declared.net.socket_addr.SocketAddr.{SocketAddr}
-use Rattle.std.specs.declared.net.socket_addr.SocketAddr.TheVariants.{V4, V6}
-use Rattle.std.proofs.lemmas.Bool.{le-ltb, lt-ltb}
-use Rattle.is_proto.specs.declared.error.StunError.{StunError}
 use Rattle.is_proto.specs.declared.error.StunError.TheVariants.{BufferTooShort}
-use Rattle.is_stun.specs.Numbers.{USERNAME, ICE_CONTROLLED, ICE_CONTROLLING, PRIORITY, USE_CANDIDATE, NOMINATION, WRITTEN_USERNAME_LIMIT}
-use Rattle.is_stun.specs.Address.{xor_address}
 use Rattle.is_stun.specs.Checks.{binding_request, binding_reply, binding_role_conflict_reply, with_nomination}
-use Rattle.is_stun.specs.Message.{Message}
-use Rattle.is_stun.specs.Tlv.{padded_len}
-use Rattle.is_stun.specs.Writing.{Row, attribute, rows_text, rows_of, value_rejection, rows_rejection, rejection}
-use Rattle.is_stun.specs.Theorems.{TakesBytes, FitsInto, CheckTakes, LONGEST_CHECK, LONGEST_NUMBERED_CHECK, LONGEST_REPLY, reply_len, check_len}
+use Rattle.is_stun.proofs.Common.{[], ◌++◌, ◌+◌, ◌∙◌, ◌≡◌, ◌≤◌, ap, arith, attribute, Bool, check_len, CheckTakes, cond, false, FitsInto}
+use Rattle.is_stun.proofs.Common.{ICE_CONTROLLED, ICE_CONTROLLING, le-ltb, length, length-append, List, LONGEST_CHECK}
+use Rattle.is_stun.proofs.Common.{LONGEST_NUMBERED_CHECK, LONGEST_REPLY, lt-ltb, ltb, Message, NOMINATION, None, Option, option_or}
+use Rattle.is_stun.proofs.Common.{padded_len, PRIORITY, refl, rejection, reply_len, Row, rows_of, rows_rejection, rows_text, SocketAddr}
+use Rattle.is_stun.proofs.Common.{Some, StunError, subst, TakesBytes, to_be_bytes, true, USE_CANDIDATE, USERNAME, V4, V6, value_rejection}
+use Rattle.is_stun.proofs.Common.{w32, w64, WRITTEN_USERNAME_LIMIT, xor_address, ℕ}
 use Rattle.is_stun.proofs.WrittenMessages.ConsecutiveRows.{attribute_length}
 
 -- rows of n bytes want n + 52 bytes of room: header, integrity and fingerprint

@@ -1,10 +1,8 @@
 -- A message that was put part by part.
-use Rattle.std.proofs.Common.{◌≡◌, ℕ, ◌+◌, List, ◌++◌, length, take, drop, Option, Some, None, Result, arith, ap, sym, ◌∙◌, subst}
-use Rattle.is_stun.specs.Writing.{Row, splice, Puts, body_len, front_of, sealed_of, written_rows, rows_text, integrity_text, fingerprint_text, rows_of, value_rejection, rows_rejection, rejection, written, WritesOr, HasMacOf, HasMacOfRows}
-use Rattle.is_stun.specs.Header.{header, class_bits, method_bits}
-use Rattle.is_stun.specs.Message.{Message}
-use Rattle.std.specs.Option.{option_or}
-use Rattle.is_proto.specs.declared.error.StunError.{StunError}
+use Rattle.is_stun.proofs.Common.{◌++◌, ◌+◌, ◌∙◌, ◌≡◌, ap, arith, body_len, class_bits, drop, fingerprint_text, front_of, HasMacOf}
+use Rattle.is_stun.proofs.Common.{HasMacOfRows, header, integrity_text, length, List, Message, method_bits, None, Option, option_or, Puts}
+use Rattle.is_stun.proofs.Common.{rejection, Result, Row, rows_of, rows_rejection, rows_text, sealed_of, Some, splice, StunError, subst}
+use Rattle.is_stun.proofs.Common.{sym, take, value_rejection, WritesOr, written, written_rows, ℕ}
 use Rattle.is_stun.proofs.WrittenMessages.ConsecutiveTexts.{Puts-then, take-Puts}
 
 -- a text after another one, of which it is a function

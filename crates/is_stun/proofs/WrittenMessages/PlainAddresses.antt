@@ -1,14 +1,7 @@
 -- Flow and scope of addresses are not written.
-use Rattle.std.proofs.Common.{◌≡◌, ℕ, ◌+◌, List, Option, Some, None, refl, ap}
-use Rattle.std.specs.Option.{option_map}
-use Rattle.std.specs.declared.net.socket_addr.SocketAddr.{SocketAddr}
-use Rattle.std.specs.declared.net.socket_addr.SocketAddr.TheVariants.{V4, V6}
-use Rattle.is_stun.specs.Address.{xor_address}
-use Rattle.is_stun.specs.Header.{class_bits, method_bits}
-use Rattle.is_stun.specs.Message.{Message}
-use Rattle.is_stun.specs.Writing.{Row, rows_of, rows_rejection, value_rejection, rejection, written_rows, written}
-use Rattle.is_stun.specs.Theorems.{plain_address, plain, IsWrittenPlain, PlainReply}
-use Rattle.std.specs.Option.{option_or}
+use Rattle.is_stun.proofs.Common.{◌+◌, ◌≡◌, ap, class_bits, IsWrittenPlain, List, Message, method_bits, None, Option, option_map, option_or}
+use Rattle.is_stun.proofs.Common.{plain, plain_address, PlainReply, refl, rejection, Row, rows_of, rows_rejection, SocketAddr, Some, V4, V6}
+use Rattle.is_stun.proofs.Common.{value_rejection, written, written_rows, xor_address, ℕ}
 
 xor_plain : (id : List ℕ) (a : SocketAddr) → xor_address id a ≡ xor_address id (plain_address a)
 unfolding xor_address

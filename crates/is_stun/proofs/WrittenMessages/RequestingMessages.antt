@@ -1,15 +1,9 @@
 -- Messages that request something are put as others are.
-use Rattle.std.proofs.Common.{◌≡◌, ℕ, ◌+◌, List, ◌++◌, length, Option, Some, None, Result, refl, ap, sym, subst, ◌∙◌}
-use Rattle.std.specs.List.{flat_map}
-use Rattle.std.specs.Option.{option_or}
-use Rattle.std.proofs.lemmas.List.{append-nil}
-use Rattle.std.proofs.lemmas.Grind.{flat_map-append}
-use Rattle.is_proto.specs.declared.error.StunError.{StunError}
-use Rattle.is_stun.specs.declared.requested.Requested.{Requested}
-use Rattle.is_stun.specs.Header.{class_bits, method_bits}
-use Rattle.is_stun.specs.Message.{Message}
-use Rattle.is_stun.specs.Requested.{rows_with, requested_rows, nothing_requested, rejection_with, written_with, RequestsNothing}
-use Rattle.is_stun.specs.Writing.{Row, row_text, rows_text, rows_of, front_of, sealed_of, written_rows, written, value_rejection, rows_rejection, rejection, WritesOr}
+use Rattle.is_stun.proofs.Common.{◌++◌, ◌+◌, ◌∙◌, ◌≡◌, ap, append-nil, class_bits, flat_map, flat_map-append, front_of, length, List}
+use Rattle.is_stun.proofs.Common.{Message, method_bits, None, nothing_requested, Option, option_or, refl, rejection, rejection_with}
+use Rattle.is_stun.proofs.Common.{Requested, requested_rows, RequestsNothing, Result, Row, row_text, rows_of, rows_rejection, rows_text}
+use Rattle.is_stun.proofs.Common.{rows_with, sealed_of, Some, StunError, subst, sym, value_rejection, WritesOr, written, written_rows}
+use Rattle.is_stun.proofs.Common.{written_with, ℕ}
 
 pub rejected_at_once : (key : Option (List ℕ)) (room : ℕ) (m : Message) (asked : Requested) (error : StunError) → Some error ≡ value_rejection m → rejection_with key room m asked ≡ Some error
 unfolding rejection_with

@@ -1,11 +1,7 @@
 -- Candidates by their indices.
-use Rattle.std.proofs.Common.{◌≡◌, ℕ, ◌<◌, Bool, true, List, [], ◌∷◌, ◌++◌, length, position, Some}
-use Rattle.std.proofs.lemmas.List.{get_or_append_left}
-use Rattle.std.proofs.lemmas.List.Quantifiers.{position-Some}
-use Rattle.std.proofs.Math.Seq.{get_or-append_seam}
-use Rattle.is_proto.specs.Lists.{Has}
-use Rattle.is_candidate.specs.Candidates.{CandidateRecord, candidate_at, nowhere}
 use Rattle.is_rules.proofs.PairLists.CombinationsInLists.{Has-at}
+use Rattle.is_theorems.proofs.Common.{[], ◌++◌, ◌<◌, ◌∷◌, ◌≡◌, Bool, candidate_at, CandidateRecord, get_or-append_seam, get_or_append_left}
+use Rattle.is_theorems.proofs.Common.{Has, length, List, nowhere, position, position-Some, Some, true, ℕ}
 
 pub is-listed : (cs : List CandidateRecord) (k : ℕ) → k < length cs → Has cs (candidate_at cs k)
 is-listed cs k lt = Has-at cs k nowhere lt

@@ -1,16 +1,10 @@
 -- The Boolean tests of addresses and protocols decide equality.
-use Rattle.std.proofs.Common.{◌≡◌, ℕ, zero, suc, ◌==◌, ◌&&◌, Bool, true, false, List, bytes_eq, refl, ap, sym, ◌∙◌}
-use Rattle.std.proofs.lemmas.Bool.{eq-eqb, eqb-true}
-use Rattle.std.proofs.lemmas.Slice.Eq.{bytes_eq-Decides}
 use Rattle.std.specs.declared.net.socket_addr.SocketAddrV4.{SocketAddrV4}
 use Rattle.std.specs.declared.net.socket_addr.SocketAddrV6.{SocketAddrV6}
-use Rattle.std.specs.declared.net.socket_addr.SocketAddr.{SocketAddr}
-use Rattle.std.specs.declared.net.socket_addr.SocketAddr.TheVariants.{V4, V6}
-use Rattle.std.specs.Net.Addr.{ipv4_octets, ipv6_segments}
-use Rattle.std.specs.Net.Socket.{v4_ip, v4_port, v6_ip, v6_port, v6_flowinfo, v6_scope_id}
-use Rattle.is_proto.specs.declared.proto.Protocol.{Protocol}
-use Rattle.is_proto.specs.declared.proto.Protocol.TheVariants.{Udp, Tcp, SslTcp, Tls}
-use Rattle.is_candidate.specs.Addresses.{protocol_number, same_protocol, same_address}
+use Rattle.is_theorems.proofs.Common.{◌&&◌, ◌==◌, ◌∙◌, ◌≡◌, ap, Bool, bytes_eq, bytes_eq-Decides, eq-eqb, eqb-true, false, ipv4_octets}
+use Rattle.is_theorems.proofs.Common.{ipv6_segments, List, Protocol, protocol_number, refl, same_address, same_protocol, SocketAddr, SslTcp}
+use Rattle.is_theorems.proofs.Common.{suc, sym, Tcp, Tls, true, Udp, V4, v4_ip, v4_port, V6, v6_flowinfo, v6_ip, v6_port, v6_scope_id, zero}
+use Rattle.is_theorems.proofs.Common.{ℕ}
 
 -- two tests hold
 pub both : (a b : Bool) → (a && b) ≡ true → (a ≡ true) × (b ≡ true)

@@ -1,14 +1,8 @@
 -- A list is contained in another one as a multiset, if no test passes more of its elements.
-use Rattle.std.proofs.Common.{◌≡◌, ℕ, ◌+◌, ◌≤◌, ◌&&◌, Bool, true, false, List, [], ◌∷◌, ◌++◌, bytes_eq, refl, ap, sym, ◌∙◌, arith}
-use Rattle.std.proofs.lemmas.Bool.{eq-eqb}
-use Rattle.std.proofs.lemmas.Slice.Eq.{bytes_eq-Decides}
-use Rattle.std.specs.declared.net.socket_addr.SocketAddr.{SocketAddr}
-use Rattle.std.specs.declared.net.socket_addr.SocketAddr.TheVariants.{V4, V6}
-use Rattle.std.specs.Net.Addr.{ipv4_octets, ipv6_segments}
-use Rattle.std.specs.Net.Socket.{v4_ip, v4_port, v6_ip, v6_port, v6_flowinfo, v6_scope_id}
-use Rattle.is_proto.specs.declared.proto.Protocol.{Protocol}
-use Rattle.is_candidate.specs.Addresses.{protocol_number, same_protocol, same_address}
-use Rattle.is_rules.specs.Owed.{Transaction, one_if, count, AreAmong}
+use Rattle.is_theorems.proofs.Common.{[], ◌&&◌, ◌++◌, ◌+◌, ◌∙◌, ◌∷◌, ◌≡◌, ◌≤◌, ap, AreAmong, arith, Bool, bytes_eq, bytes_eq-Decides, count}
+use Rattle.is_theorems.proofs.Common.{eq-eqb, false, ipv4_octets, ipv6_segments, List, one_if, Protocol, protocol_number, refl}
+use Rattle.is_theorems.proofs.Common.{same_address, same_protocol, SocketAddr, sym, Transaction, true, V4, v4_ip, v4_port, V6, v6_flowinfo}
+use Rattle.is_theorems.proofs.Common.{v6_ip, v6_port, v6_scope_id, ℕ}
 use Rattle.is_theorems.proofs.BasicLemmas.EqualAddresses.{both, same_address-sound, same_protocol-sound}
 
 -- ---- whether two transactions are one

@@ -1,24 +1,12 @@
 -- The pair that is checked next, whether it goes ahead or not, and what its check leaves of the pairs.
-use Rattle.std.proofs.Common.{◌≡◌, ℕ, ◌&&◌, Bool, true, false, not, List, [], ◌∷◌, Option, Some, None, is_some, inl, inr, ◌⊎◌, refl, ap, sym, ◌∙◌, subst, if◌then◌else◌}
-use Rattle.std.specs.Prelude.{MatchBool, MatchOption}
-use Rattle.is_proto.specs.Lists.{Has, NonePass}
-use Rattle.is_stun.specs.declared.timing.StunTiming.{StunTiming}
-use Rattle.is_pair.specs.declared.pair.silence.Span.{Span}
-use Rattle.is_pair.specs.Due.{is_due, IsNextDue}
-use Rattle.is_pair.specs.Silence.{silence_until}
-use Rattle.is_pair.specs.Multiset.{change_at, change_pair, is_numbered}
-use Rattle.is_pair.specs.Pairs.{PairRecord, checked, is_nominated, renominated}
-use Rattle.is_pair.specs.States.{is_nominated_state, nomination_again, nomination_once_sent}
-use Rattle.is_pair.specs.declared.pair.states.NominationState.{NominationState}
-use Rattle.is_pair.specs.declared.pair.states.NominationState.TheVariants.{None as Unnominated, Nominated, Attempt, Success}
-use Rattle.is_rules.proofs.PairLists.ChosenPair.{found-in}
-use Rattle.is_rules.specs.declared.credentials.IceCreds.{IceCreds}
-use Rattle.is_rules.specs.Agent.{AgentRecord}
-use Rattle.is_rules.specs.Checking.{check_sent, is_ahead_turn, precedence, GoesAhead, IsNextInTurn, IsNextToCheck}
-use Rattle.is_rules.specs.Connecting.{is_connected}
-use Rattle.is_rules.specs.Kinds.{IsNextAhead}
-use Rattle.is_rules.specs.Leaving.{has_urgent, is_asked_along, late_since, IsAskedAlong, IsAskedNext}
-use Rattle.is_rules.specs.Nominating.{nominates_at_once, numbers, pair_selected}
+use Rattle.is_pair.specs.declared.pair.states.NominationState.TheVariants.{None as Unnominated}
+use Rattle.is_theorems.proofs.Common.{[], ◌&&◌, ◌∙◌, ◌∷◌, ◌≡◌, ◌⊎◌, AgentRecord, ap, Attempt, Bool, change_at, change_pair, check_sent}
+use Rattle.is_theorems.proofs.Common.{checked, false, found-in, GoesAhead, Has, has_urgent, IceCreds, if◌then◌else◌, inl, inr}
+use Rattle.is_theorems.proofs.Common.{is_ahead_turn, is_asked_along, is_connected, is_due, is_nominated, is_nominated_state, is_numbered}
+use Rattle.is_theorems.proofs.Common.{is_some, IsAskedAlong, IsAskedNext, IsNextAhead, IsNextDue, IsNextInTurn, IsNextToCheck, late_since}
+use Rattle.is_theorems.proofs.Common.{List, MatchBool, MatchOption, Nominated, nominates_at_once, nomination_again, nomination_once_sent}
+use Rattle.is_theorems.proofs.Common.{NominationState, None, NonePass, not, numbers, Option, pair_selected, PairRecord, precedence, refl}
+use Rattle.is_theorems.proofs.Common.{renominated, silence_until, Some, Span, StunTiming, subst, Success, sym, true, ℕ}
 
 -- ---- which pair
 

@@ -1,17 +1,7 @@
 -- A request as the agent takes it, and the number that its pair keeps.
-use Rattle.std.proofs.Common.{◌≡◌, ℕ, ◌<◌, zero, suc, ◌==◌, ◌||◌, Bool, true, false, not, Option, Some, None, is_some, refl, ap, ◌∙◌, arith}
-use Rattle.std.specs.Option.{option_map_or}
-use Rattle.std.proofs.lemmas.Bool.{eqb-true}
-use Rattle.std.proofs.lemmas.Bool.Decides.{nat_tests}
-use Rattle.is_pair.specs.Pairs.{PairRecord, numbered}
-use Rattle.is_rules.specs.Request.{RequestRecord}
-use Rattle.is_rules.specs.Serving.{as_taken, numbered_by_peer}
-
--- only what it says of nomination differs
-pub taken-by : (Holds : RequestRecord → Type 0) (numbers : Bool) (q : RequestRecord)
-    → ((nominates : Bool) (number : Option ℕ) → Holds (record q { use_candidate = nominates; nomination = number })) → Holds (as_taken numbers q)
-taken-by Holds true q all = all (as_taken true q).use_candidate q.nomination
-taken-by Holds false q all = all q.use_candidate None
+use Rattle.is_theorems.proofs.Common.{◌<◌, ◌==◌, ◌||◌, ◌∙◌, ◌≡◌, ap, arith, as_taken, Bool, eqb-true, false, is_some, nat_tests, None, not}
+use Rattle.is_theorems.proofs.Common.{numbered, numbered_by_peer, Option, option_map_or, PairRecord, refl, RequestRecord, Some, suc, true}
+use Rattle.is_theorems.proofs.Common.{zero, ℕ}
 
 pub taken-time : (numbers : Bool) (q : RequestRecord) → (as_taken numbers q).time ≡ q.time
 taken-time true q = refl

@@ -1,18 +1,11 @@
 -- At which colon a USERNAME splits, and the first candidate that passes a test.
-use Rattle.std.proofs.Common.{◌≡◌, ℕ, ◌+◌, ◌<◌, ◌==◌, ◌||◌, Bool, true, false, nat_lt, List, [], ◌∷◌, ◌++◌, length, position, Some, refl, subst, arith, inl, inr}
-use Rattle.std.specs.List.{list_any, position_or_len}
-use Rattle.std.proofs.lemmas.Bool.{lt-ltb}
-use Rattle.std.proofs.lemmas.List.{length-append}
-use Rattle.std.proofs.Math.Seq.{take-append_seam, drop-append-add}
-use Rattle.is_proto.specs.Lists.{Has, is_empty}
-use Rattle.is_stun.specs.Message.{split_at_colon}
+use Rattle.is_theorems.proofs.Common.{[], ◌++◌, ◌+◌, ◌<◌, ◌==◌, ◌||◌, ◌∷◌, ◌≡◌, arith, Bool, drop-append-add, false, Has, inl, inr}
+use Rattle.is_theorems.proofs.Common.{is_empty, length, length-append, List, list_any, lt-ltb, nat_lt, position, position_or_len, refl}
+use Rattle.is_theorems.proofs.Common.{Some, split_at_colon, subst, take-append_seam, true, ℕ}
 
 pub neither : (a b : Bool) → (a || b) ≡ false → (a ≡ false) × (b ≡ false)
 neither true b h = absurd (cc)
 neither false b h = (refl, h)
-
-is_colon : ℕ → Bool
-is_colon b = b == 58
 
 -- the first index of a colon is the one after a text without any
 colon_at : (u v : List ℕ) → list_any (λ b. b == 58) u ≡ false → position_or_len (λ b. b == 58) (u ++ 58 ∷ v) ≡ length u

@@ -1,17 +1,8 @@
 -- An unknown sender that gets a vacant index: the remote candidates of all pairs stay.
-use Rattle.std.proofs.Common.{◌≡◌, ℕ, zero, suc, ◌+◌, ◌<◌, Bool, true, false, not, List, [], ◌∷◌, ◌++◌, length, Option, refl, sym, subst, ap, ◌∙◌, arith}
-use Rattle.std.specs.Prelude.{slice_set}
-use Rattle.std.specs.List.{list_any}
-use Rattle.std.proofs.lemmas.Bool.{eq-eqb}
-use Rattle.std.proofs.lemmas.List.{length-append}
-use Rattle.is_proto.specs.Lists.{Has}
-use Rattle.is_candidate.specs.Candidates.{CandidateRecord, candidate_at}
-use Rattle.is_candidate.specs.Equality.{is_temporary}
-use Rattle.is_pair.specs.Pairs.{PairRecord}
-use Rattle.is_rules.specs.declared.places.RemotePlace.TheVariants.{Known, Barred, Unknown, Vacant, Full}
-use Rattle.is_rules.specs.Request.{RequestRecord}
-use Rattle.is_rules.specs.Places.{IsRemotePlace}
-use Rattle.is_rules.specs.Limit.{has_room, is_on, is_vacant, IsPlaceOf}
+use Rattle.is_theorems.proofs.Common.{[], ◌++◌, ◌+◌, ◌<◌, ◌∙◌, ◌∷◌, ◌≡◌, ap, arith, Barred, Bool, candidate_at, CandidateRecord, eq-eqb}
+use Rattle.is_theorems.proofs.Common.{false, Full, Has, has_room, is_on, is_temporary, is_vacant, IsPlaceOf, IsRemotePlace, Known, length}
+use Rattle.is_theorems.proofs.Common.{length-append, List, list_any, not, Option, PairRecord, refl, RequestRecord, slice_set, subst, suc}
+use Rattle.is_theorems.proofs.Common.{sym, true, Unknown, Vacant, zero, ℕ}
 use Rattle.is_theorems.proofs.BasicLemmas.EqualAddresses.{both}
 use Rattle.is_theorems.proofs.RuleEffects.UnchangedSettings.{either}
 use Rattle.is_theorems.proofs.BasicLemmas.UsernamesAndFirstMatches.{any_has}

@@ -1,19 +1,10 @@
 -- What the calls change before pairs are formed, and what they form.
-use Rattle.std.proofs.Common.{◌≡◌, ℕ, ◌<◌, nat_lt, length, map, position, Option, Some, None, Ok, Err, refl}
-use Rattle.is_proto.specs.declared.error.IceError.{IceError}
-use Rattle.is_proto.specs.declared.error.IceError.TheVariants.{PriorityTooHigh}
-use Rattle.is_stun.specs.Timing.{is_modern}
-use Rattle.is_candidate.specs.Candidates.{CandidateRecord, IsBased, candidate_at}
-use Rattle.is_candidate.specs.Priorities.{candidate_priority}
-use Rattle.is_candidate.specs.Equality.{is_same_place, is_temporary}
-use Rattle.is_candidate.specs.Addresses.{same_address}
-use Rattle.is_pair.specs.Due.{asked}
-use Rattle.is_rules.specs.Agent.{AgentRecord}
-use Rattle.is_rules.specs.Discarding.{local_discarded}
-use Rattle.is_rules.specs.Forming.{local_combinations, remote_combinations, FormsAll}
-use Rattle.is_rules.specs.Local.{is_too_high, is_unwanted, comes_again, enabled, preferred, as_own, appended, enabled_again, EnrolsAt, AddsLocal}
-use Rattle.is_rules.specs.Remote.{as_remote, is_ignored, is_placeholder, with_remote, StoresAt, AddsRemote}
-use Rattle.is_rules.specs.Polls.{is_waiting, is_idle, WaitingTimeout, NextTimeouts, NextTimeoutFrom, PollsTimeout}
+use Rattle.is_theorems.proofs.Common.{◌<◌, ◌≡◌, AddsLocal, AddsRemote, AgentRecord, appended, as_own, as_remote, scheduled, candidate_at}
+use Rattle.is_theorems.proofs.Common.{candidate_priority, CandidateRecord, comes_again, enabled, enabled_again, EnrolsAt, Err, FormsAll}
+use Rattle.is_theorems.proofs.Common.{IceError, is_idle, is_ignored, is_modern, is_placeholder, is_same_place, is_temporary, is_too_high}
+use Rattle.is_theorems.proofs.Common.{is_unwanted, is_waiting, IsBased, length, local_combinations, local_discarded, map, nat_lt}
+use Rattle.is_theorems.proofs.Common.{NextTimeoutFrom, NextTimeouts, None, Ok, Option, PollsTimeout, position, preferred, PriorityTooHigh}
+use Rattle.is_theorems.proofs.Common.{refl, remote_combinations, same_address, Some, StoresAt, WaitingTimeout, with_remote, ℕ}
 use Rattle.is_theorems.proofs.BasicLemmas.EqualAddresses.{both, same_address-sound}
 use Rattle.is_theorems.proofs.RuleEffects.UnchangedSettings.{either}
 use Rattle.is_theorems.proofs.BasicLemmas.CandidatesByIndex.{found-at}
@@ -78,20 +69,20 @@ module _ {H P : Type 0} {R : Type 0} (old new : AgentRecord H P) where
   -- ---- `poll_timeout`
 
   -- while something waits
-  pub by_waiting : (last w : ℕ) → WaitingTimeout old last w new → (new ≡ old → R) → (new ≡ record old { pairs = map (asked last old.timing) old.pairs } → R) → R
+  pub by_waiting : (last w : ℕ) → WaitingTimeout old last w new → (new ≡ old → R) → (new ≡ record old { pairs = map (scheduled last old.timing) old.pairs } → R) → R
   by_waiting last w h stays asks = either (is_modern old.timing) h.1 (λ _ made. asks made) (λ _ made. stays made)
 
   -- after a `handle_timeout` call at time `last`
-  pub by_deadline : (last w : ℕ) → NextTimeouts old last w new → (new ≡ old → R) → (new ≡ record old { pairs = map (asked last old.timing) old.pairs } → R) → R
+  pub by_deadline : (last w : ℕ) → NextTimeouts old last w new → (new ≡ old → R) → (new ≡ record old { pairs = map (scheduled last old.timing) old.pairs } → R) → R
   by_deadline last w h stays asks = either (is_waiting old) h
       (λ _ k. by_waiting last w k stays asks)
       (λ _ k. either (is_idle old) k (λ _ n. stays n.1) (λ _ n. asks n.1))
 
-  timeout_from : (last deadline : Option ℕ) → NextTimeoutFrom last old deadline new → (new ≡ old → R) → ((at : ℕ) → new ≡ record old { pairs = map (asked at old.timing) old.pairs } → R) → R
+  timeout_from : (last deadline : Option ℕ) → NextTimeoutFrom last old deadline new → (new ≡ old → R) → ((at : ℕ) → new ≡ record old { pairs = map (scheduled at old.timing) old.pairs } → R) → R
   timeout_from None deadline h stays asks = stays h.1
   timeout_from (Some last) None h stays asks = absurd h
   timeout_from (Some last) (Some w) h stays asks = by_deadline last w h stays (λ made. asks last made)
 
   -- nothing changes, or the due time of each pair is fixed
-  pub by_waking : (deadline : Option ℕ) → PollsTimeout old deadline new → (new ≡ old → R) → ((at : ℕ) → new ≡ record old { pairs = map (asked at old.timing) old.pairs } → R) → R
+  pub by_waking : (deadline : Option ℕ) → PollsTimeout old deadline new → (new ≡ old → R) → ((at : ℕ) → new ≡ record old { pairs = map (scheduled at old.timing) old.pairs } → R) → R
   by_waking deadline h stays asks = timeout_from old.last_time deadline h stays asks

@@ -1,29 +1,22 @@
 -- Calls that are neither packets nor `handle_timeout` calls: they issue nothing. They also select no path, and leave `selected_pair`,
 -- unless a candidate is added or invalidated.
-use Rattle.std.proofs.Common.{◌≡◌, ℕ, zero, suc, ◌<◌, ◌==◌, Bool, true, false, List, [], ◌∷◌, ◌++◌, Option, Some, None, Result, Ok, Err, inl, inr, refl, ap, sym, ◌∙◌, subst, arith}
-use Rattle.std.specs.Prelude.{MatchBool}
-use Rattle.rand_core.specs.Stream.{Stream}
-use Rattle.is_proto.specs.declared.error.IceError.{IceError}
-use Rattle.is_candidate.specs.Candidates.{CandidateRecord, IsBased, candidate_at}
-use Rattle.is_stun.specs.declared.timing.StunTiming.{StunTiming}
-use Rattle.is_rules.specs.Steps.{Answer, Done, Flag, Polled, Happened, NextTimeout, NotCalled, Rejected, Entry, quiet, added, answer_by, done}
-use Rattle.is_rules.specs.declared.emitted.Emitted.{Emitted}
-use Rattle.is_rules.specs.declared.emitted.Path.{Path}
-use Rattle.is_rules.specs.Emitted.{nothing_emitted, selected_only}
-use Rattle.is_rules.specs.Sound.{KeepsChecks}
-use Rattle.is_rules.specs.Agent.{AgentRecord}
-use Rattle.is_rules.specs.Forming.{Combination, FormsAll}
-use Rattle.is_rules.specs.Settings.{with_consent, with_profile, SetsMtu, with_rtos, with_retransmits, with_lite_timeout}
-use Rattle.is_rules.specs.Credentials.{SetsLocal, SetsRemote}
-use Rattle.is_rules.specs.Discarding.{change_place, discarded, local_discarded, remote_discarded, local_to_discard, remote_to_discard, InvalidatesAt, Invalidates}
-use Rattle.is_rules.specs.Nominating.{with_selection, nominated_emitted}
-use Rattle.is_rules.specs.Settling.{loses_selected, Reselects}
-use Rattle.is_rules.specs.Local.{enabled, enabled_again, appended, AddsLocal}
-use Rattle.is_rules.specs.Remote.{as_remote, with_remote, AddsRemote}
-use Rattle.is_rules.specs.Restarting.{with_ufrag, kept_local, restarted, emptied, Restarts, Recreates}
-use Rattle.is_rules.specs.Steps.{Call, SetMtu, SetControlTieBreaker, SetMaxCandidatePairs, SetMaxDiscovered, SetIceLite, SetRenomination, SetConsent, SetProfile, SetTimingAdvance, SetInitialStunRto, SetMaxStunRto, SetMaxStunRetransmits, SetLiteTimeout, SetLocalPreference, SetControlling, SetLocalCredentials, SetRemoteCredentials, SkipPairIds, AddLocalCandidate, AddRemoteCandidate, InvalidateCandidate, RestartIce, RecreateCandidatePairs, ReceivePacket, HandleTimeout, PollTransmit, PollTimeout, PollEvent, Becomes, MayDo, MaySelect, Step}
-use Rattle.is_rules.specs.Sound.{GivesBased}
-use Rattle.is_theorems.proofs.CallEffects.FailedCallsAndNewAgents.{mtu_kept, local_kept, remote_kept, restart_kept, recreation_kept, enrolment_kept, storing_kept}
+use Rattle.is_theorems.proofs.Common.{[], ◌++◌, ◌<◌, ◌==◌, ◌∙◌, ◌∷◌, ◌≡◌, added, AddLocalCandidate, AddRemoteCandidate, AddsLocal}
+use Rattle.is_theorems.proofs.Common.{AddsRemote, AgentRecord, Answer, answer_by, ap, appended, arith, as_remote, Becomes, Bool, Call}
+use Rattle.is_theorems.proofs.Common.{candidate_at, CandidateRecord, change_place, Combination, discarded, Done, done, Emitted, emptied}
+use Rattle.is_theorems.proofs.Common.{enabled, enabled_again, Entry, Err, false, Flag, FormsAll, GivesBased, HandleTimeout, Happened}
+use Rattle.is_theorems.proofs.Common.{IceError, inl, inr, InvalidateCandidate, Invalidates, InvalidatesAt, IsBased, KeepsChecks, kept_local}
+use Rattle.is_theorems.proofs.Common.{List, local_discarded, local_to_discard, loses_selected, MatchBool, MayDo, MaySelect, NextTimeout}
+use Rattle.is_theorems.proofs.Common.{nominated_emitted, None, NotCalled, nothing_emitted, Ok, Option, Path, Polled, PollEvent, PollTimeout}
+use Rattle.is_theorems.proofs.Common.{PollTransmit, quiet, ReceivePacket, RecreateCandidatePairs, Recreates, refl, Rejected}
+use Rattle.is_theorems.proofs.Common.{remote_discarded, remote_to_discard, Reselects, restarted, RestartIce, Restarts, Result}
+use Rattle.is_theorems.proofs.Common.{selected_only, SetConsent, SetControlling, SetControlTieBreaker, SetIceLite, SetInitialStunRto}
+use Rattle.is_theorems.proofs.Common.{SetLiteTimeout, SetLocalCredentials, SetLocalPreference, SetMaxCandidatePairs, SetMaxDiscovered}
+use Rattle.is_theorems.proofs.Common.{SetMaxStunRetransmits, SetMaxStunRto, SetMtu, SetProfile, SetRemoteCredentials, SetRenomination}
+use Rattle.is_theorems.proofs.Common.{SetsLocal, SetsMtu, SetsRemote, SetTimingAdvance, SkipPairIds, Some, Step, Stream, StunTiming, subst}
+use Rattle.is_theorems.proofs.Common.{suc, sym, true, with_consent, with_lite_timeout, with_profile, with_remote, with_retransmits}
+use Rattle.is_theorems.proofs.Common.{with_rtos, with_selection, with_ufrag, zero, ℕ}
+use Rattle.is_theorems.proofs.CallEffects.FailedCallsAndNewAgents.{mtu_kept, local_kept, remote_kept, restart_kept, recreation_kept}
+use Rattle.is_theorems.proofs.CallEffects.FailedCallsAndNewAgents.{enrolment_kept, storing_kept}
 use Rattle.is_theorems.proofs.CallEffects.AddedCandidates.{by_adding_local, by_adding_remote, by_waking}
 use Rattle.is_theorems.proofs.RuleEffects.EarlierAndNewPairs.{Has-push}
 use Rattle.is_theorems.proofs.RuleEffects.ChangedPairs.{Has-map}

@@ -1,23 +1,12 @@
 -- The effects of changed candidates on pairs, and forming with these candidates.
-use Rattle.std.proofs.Common.{not, ◌≡◌, ℕ, zero, suc, ◌+◌, ◌<◌, ◌==◌, ◌&&◌, ◌||◌, Bool, true, false, List, [], ◌∷◌, ◌++◌, map, length, Option, Some, None, Result, Ok, Err, inl, refl, ap, sym, ◌∙◌, subst, arith, if◌then◌else◌}
-use Rattle.std.specs.Prelude.{slice_set}
-use Rattle.std.proofs.lemmas.List.{length-append}
-use Rattle.is_proto.specs.Lists.{Has}
-use Rattle.is_proto.specs.declared.error.IceError.{IceError}
-use Rattle.is_candidate.specs.Candidates.{CandidateRecord, base_of, candidate_at}
-use Rattle.is_pair.specs.Pairs.{PairRecord, undue}
-use Rattle.is_rules.specs.declared.emitted.Path.{Path}
-use Rattle.is_rules.specs.Agent.{AgentRecord}
-use Rattle.is_rules.specs.Forming.{Combination, live_places, is_alive, local_combinations, remote_combinations, live_combinations, sides_of, formed_of, FormsAll}
-use Rattle.is_rules.specs.Discarding.{discarded, change_place, is_local_at, is_remote_at, local_discarded, remote_discarded, local_to_discard, remote_to_discard, Invalidates, InvalidatesAt}
-use Rattle.is_rules.specs.Local.{AddsLocal, appended, enabled, enabled_again}
-use Rattle.is_rules.specs.Remote.{AddsRemote, as_remote, with_remote}
-use Rattle.is_rules.specs.Restarting.{Recreates, emptied, restarted, kept_local}
-use Rattle.is_rules.specs.Settings.{numbers_skipped, with_rtos}
-use Rattle.is_rules.specs.Settling.{Reselects}
-use Rattle.is_rules.specs.Polls.{PollsTimeout}
-use Rattle.is_pair.specs.Due.{asked}
-use Rattle.is_rules.specs.declared.credentials.IceCreds.{IceCreds}
+use Rattle.is_theorems.proofs.Common.{[], ◌&&◌, ◌++◌, ◌+◌, ◌<◌, ◌==◌, ◌||◌, ◌∙◌, ◌∷◌, ◌≡◌, AddsLocal, AddsRemote, AgentRecord, ap, appended}
+use Rattle.is_theorems.proofs.Common.{arith, as_remote, scheduled, base_of, Bool, candidate_at, CandidateRecord, change_place, Combination}
+use Rattle.is_theorems.proofs.Common.{discarded, emptied, enabled, enabled_again, Err, false, formed_of, FormsAll, Has, IceCreds, IceError}
+use Rattle.is_theorems.proofs.Common.{if◌then◌else◌, inl, Invalidates, InvalidatesAt, is_alive, is_local_at, is_remote_at, kept_local}
+use Rattle.is_theorems.proofs.Common.{length, length-append, List, live_combinations, live_places, local_combinations, local_discarded}
+use Rattle.is_theorems.proofs.Common.{local_to_discard, map, None, not, numbers_skipped, Ok, Option, PairRecord, Path, PollsTimeout}
+use Rattle.is_theorems.proofs.Common.{Recreates, refl, remote_combinations, remote_discarded, remote_to_discard, Reselects, restarted}
+use Rattle.is_theorems.proofs.Common.{Result, sides_of, slice_set, Some, subst, suc, sym, true, undue, with_remote, with_rtos, zero, ℕ}
 use Rattle.is_theorems.proofs.CallEffects.AddedCandidates.{by_adding_local, by_adding_remote, by_waking}
 use Rattle.is_rules.proofs.PairLists.CombinationsInLists.{in_places, own_places, their_places, all_places}
 use Rattle.is_theorems.proofs.RuleEffects.EarlierAndNewPairs.{Parts, path_in, Fit, Onward, here, stays, onward, thinned, forms}
@@ -265,4 +254,4 @@ module _ (asks : Path → ℕ → Type 0) (met : Path → Type 0) (sent : Path �
     polls_goes old new deadline fit h = by_waking old new deadline h
         (λ same. same_goes old new fit same)
         (λ at made. subst (λ (a : AgentRecord H P). Goes old a) (sym made)
-        (mapped asks met sent (parts_of asks met sent old) (asked at old.timing) fit (λ p has. asked_changes asks met sent (path_in (parts_of asks met sent old) p) at old.timing p)))
+        (mapped asks met sent (parts_of asks met sent old) (scheduled at old.timing) fit (λ p has. asked_changes asks met sent (path_in (parts_of asks met sent old) p) at old.timing p)))

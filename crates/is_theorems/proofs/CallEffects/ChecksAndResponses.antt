@@ -1,41 +1,22 @@
 -- The effects of checks and responses on pairs, and the effects of `handle_timeout` calls and success responses.
-use Rattle.std.proofs.Common.{◌≡◌, ℕ, zero, suc, ◌+◌, ◌<◌, Bool, true, false, List, [], ◌∷◌, ◌++◌, drop, length, Option, Some, None, inl, inr, ◌⊎◌, refl, ap, sym, ◌∙◌, subst, arith, if◌then◌else◌, ◌||◌}
-use Rattle.std.specs.Prelude.{slice_set, slice_get}
-use Rattle.std.proofs.lemmas.List.{length-append}
-use Rattle.rand_core.specs.Stream.{Stream}
-use Rattle.is_proto.specs.Lists.{Has}
-use Rattle.is_candidate.specs.Candidates.{CandidateRecord, base_of, candidate_at}
-use Rattle.is_stun.specs.Message.{Message}
-use Rattle.is_pair.specs.declared.pair.states.CheckState.{CheckState}
-use Rattle.is_pair.specs.declared.pair.states.CheckState.TheVariants.{Waiting, InProgress, Succeeded}
-use Rattle.is_pair.specs.declared.pair.states.NominationState.{NominationState}
-use Rattle.is_pair.specs.declared.pair.states.NominationState.TheVariants.{None as Unnominated, Nominated, Attempt, Success}
-use Rattle.is_pair.specs.States.{is_valid_state, is_nominated_state, state_once_sent, state_once_answered, nomination_once_sent, nomination_again, nomination_once_answered}
-use Rattle.is_pair.specs.Checks.{Check, answered_at, IsCheckAt}
-use Rattle.is_pair.specs.Pairs.{PairRecord, check_of, checked, answered, heard, heard_at, renominated}
-use Rattle.is_pair.specs.Due.{asked}
-use Rattle.is_rules.specs.declared.credentials.IceCreds.{IceCreds}
-use Rattle.is_rules.specs.declared.emitted.Path.{Path}
-use Rattle.is_rules.specs.declared.emitted.Issued.{Issued}
+use Rattle.is_pair.specs.declared.pair.states.NominationState.TheVariants.{None as Unnominated}
 use Rattle.is_stun.specs.declared.header.Class.TheVariants as class
-use Rattle.is_rules.specs.Agent.{AgentRecord}
-use Rattle.is_rules.specs.Emitted.{issued_as}
-use Rattle.std.specs.declared.net.socket_addr.SocketAddr.{SocketAddr}
-use Rattle.std.proofs.lemmas.Bool.{eqb-true, eq-eqb}
-use Rattle.is_stun.specs.declared.timing.StunTiming.{StunTiming}
-use Rattle.is_pair.specs.Multiset.{is_numbered, change_pair}
-use Rattle.is_rules.proofs.PairLists.RisingNumbers.{AreRising}
-use Rattle.is_rules.specs.Sending.{path_of}
-use Rattle.is_rules.specs.Sound.{is_started_state}
-use Rattle.is_rules.specs.Answers.{is_left_out, mapped_candidate, mapped_added, success_counted, keeps_check_on, Records}
-use Rattle.is_rules.specs.Checking.{all_asked, IsNextToCheck, ChecksTop, MayCheck}
+use Rattle.is_theorems.proofs.Common.{[], ◌++◌, ◌+◌, ◌<◌, ◌||◌, ◌∙◌, ◌∷◌, ◌≡◌, ◌⊎◌, AgentRecord, all_scheduled, answered, answered_at, ap}
+use Rattle.is_theorems.proofs.Common.{AreRising, arith, scheduled, Attempt, base_of, Bool, candidate_at, CandidateRecord, change_pair, Check}
+use Rattle.is_theorems.proofs.Common.{check_of, checked, CheckState, ChecksTop, drop, eq-eqb, eqb-true, false, Has, heard, heard_at}
+use Rattle.is_theorems.proofs.Common.{IceCreds, if◌then◌else◌, inl, InProgress, inr, is_left_out, is_nominated_state, is_numbered}
+use Rattle.is_theorems.proofs.Common.{is_started_state, is_valid_state, IsCheckAt, IsNextToCheck, Issued, issued_as, keeps_check_on, length}
+use Rattle.is_theorems.proofs.Common.{length-append, List, mapped_added, mapped_candidate, MayCheck, Message, Nominated, nominates_at_once}
+use Rattle.is_theorems.proofs.Common.{nomination_again, nomination_once_answered, nomination_once_sent, NominationState, None, Option}
+use Rattle.is_theorems.proofs.Common.{PairRecord, Path, path_of, Records, refl, renominated, slice_get, slice_set, SocketAddr, Some}
+use Rattle.is_theorems.proofs.Common.{state_once_answered, state_once_sent, Stream, StunTiming, subst, suc, Succeeded, Success}
+use Rattle.is_theorems.proofs.Common.{success_counted, sym, true, Waiting, zero, ℕ}
 use Rattle.is_theorems.proofs.RuleEffects.UnchangedSettings.{either}
 use Rattle.is_theorems.proofs.RuleEffects.SelectedPaths.{one_pair, some_is}
 use Rattle.is_theorems.proofs.RuleEffects.EarlierAndNewPairs.{Parts, path_in, Fit, Onward, here, onward, Has-push}
 use Rattle.is_theorems.proofs.RuleEffects.ChangedPairs.{Changed, unchanged, mapped, one_changed, parts_of}
 use Rattle.is_theorems.proofs.BasicLemmas.CandidatesByIndex.{at-append}
 use Rattle.is_theorems.proofs.BasicLemmas.PairsInTurn.{at-once-controls, next-has, sent_at, sent-pairs}
-use Rattle.is_rules.specs.Nominating.{nominates_at_once}
 
 pub Has-drop : {X : Type 0} (n : ℕ) (xs : List X) (x : X) → Has (drop n xs) x → Has xs x
 Has-drop zero xs x h = h
@@ -219,7 +200,7 @@ module _ (asks : Path → ℕ → Type 0) (met : Path → Type 0) (sent : Path �
   }
   heard_changes path now (Some at) p = unchanged asks met sent path p
 
-  pub asked_changes : (path : Path) (now : ℕ) (t : StunTiming) (p : PairRecord) → Changed asks met sent path p (asked now t p)
+  pub asked_changes : (path : Path) (now : ℕ) (t : StunTiming) (p : PairRecord) → Changed asks met sent path p (scheduled now t p)
   asked_changes path now t p = record {
     number = refl;
     local = refl;
@@ -305,15 +286,15 @@ module _ (asks : Path → ℕ → Type 0) (met : Path → Type 0) (sent : Path �
           x : Parts
           x = parts_of asks met sent old
 
-          asks_all : Onward asks met sent (parts_of asks met sent old) (parts_of asks met sent (all_asked now old))
-          asks_all = mapped asks met sent (parts_of asks met sent old) (asked now old.timing) fit (λ p has. asked_changes (path_of old p) now old.timing p)
+          asks_all : Onward asks met sent (parts_of asks met sent old) (parts_of asks met sent (all_scheduled now old))
+          asks_all = mapped asks met sent (parts_of asks met sent old) (scheduled now old.timing) fit (λ p has. asked_changes (path_of old p) now old.timing p)
 
-          next : (top : Option PairRecord) → IsNextToCheck now (all_asked now old) top → ChecksTop mac now remote top (all_asked now old) s issued new t
+          next : (top : Option PairRecord) → IsNextToCheck now (all_scheduled now old) top → ChecksTop mac now remote top (all_scheduled now old) s issued new t
               → Onward asks met sent (parts_of asks met sent old) (parts_of asks met sent new)
           next None none (is, made, drawn) =
               subst (λ (a : AgentRecord H P). Onward asks met sent (parts_of asks met sent old) (parts_of asks met sent a)) (sym made) asks_all
           next (Some p) chosen (id, drawn, values, is, made) =
-              let all : AgentRecord H P = all_asked now old in
+              let all : AgentRecord H P = all_scheduled now old in
               let has : Has all.pairs p = next-has now all p chosen in
               let begins : Bool = nominates_at_once all in
               let change : PairRecord → PairRecord = sent_at begins now old.timing old.controlling id in

@@ -1,41 +1,21 @@
 -- The guarantees for the agent at the other end, from the two theorems about effects only.
-use Rattle.std.proofs.Common.{◌≡◌, ℕ, suc, ◌&&◌, ◌||◌, Bool, true, false, not, nat_lt, nat_le, List, [], ◌∷◌, ◌++◌, map, Option, Some, None, is_some, option_map, inl, inr, ◌⊎◌, refl, ap, sym, ◌∙◌, subst, arith, if◌then◌else◌}
-use Rattle.std.specs.Option.{option_map_or}
-use Rattle.std.proofs.lemmas.Bool.Decides.{leb_tells}
-use Rattle.is_candidate.specs.Addresses.{same_address}
-use Rattle.is_stun.specs.Message.{AttributesRecord}
-use Rattle.is_rules.specs.declared.emitted.Emitted.{Emitted}
-use Rattle.is_rules.specs.declared.roles.Conflict.TheVariants.{Absent, Send487, SwitchRole}
-use Rattle.is_rules.specs.Roles.{conflict_by, keeps_role, rival}
-use Rattle.is_rules.specs.Serving.{is_for_other_peer}
-use Rattle.is_rules.specs.Issuing.{Says, IsIssued, via_out}
+use Rattle.is_theorems.proofs.Common.{[], ◌&&◌, ◌++◌, ◌||◌, ◌∙◌, ◌∷◌, ◌≡◌, ◌⊎◌, Absent, AgentRecord, Answer, ap, arith, AttributesRecord}
+use Rattle.is_theorems.proofs.Common.{Bool, Brings, Call, CandidateRecord, Check, Class, conflict_by, Done, Emitted, Entry, false, fault_of}
+use Rattle.is_theorems.proofs.Common.{Flag, HandleTimeout, Has, IceCreds, if◌then◌else◌, inl, inr, is_for_other_peer, is_some, is_valid}
+use Rattle.is_theorems.proofs.Common.{IsAnswered, IsBrought, IsIssued, IsKept, IsRejectedBy, IsRoleSet, IsServing, IsValidOn, keeps_role}
+use Rattle.is_theorems.proofs.Common.{leb_tells, List, lite_set_by, local_place, map, Message, message_of, nat_le, nat_lt, None, not}
+use Rattle.is_theorems.proofs.Common.{Option, option_map, option_map_or, Packet, PairRecord, ParseFault, Path, path_of, PathEffect, Reads}
+use Rattle.is_theorems.proofs.Common.{ReceivePacket, refl, request_at, request_in, RequestRecord, rival, role_once, same_address}
+use Rattle.is_theorems.proofs.Common.{SameMessage, Says, Send487, SetControlling, SetControlTieBreaker, SetIceLite, Some, subst, suc}
+use Rattle.is_theorems.proofs.Common.{SwitchRole, sym, tie_set_by, TradeEffect, true, via_out, ℕ}
 use Rattle.is_theorems.proofs.CallEffects.PathAndTradeEffects.{path_theorem, trade_theorem}
-use Rattle.is_proto.specs.Lists.{Has}
-use Rattle.is_proto.specs.Packets.{Packet}
-use Rattle.is_proto.specs.declared.error.ParseFault.{ParseFault}
-use Rattle.is_candidate.specs.Candidates.{CandidateRecord}
-use Rattle.is_pair.specs.Checks.{Check}
-use Rattle.is_pair.specs.Pairs.{PairRecord, is_valid}
-use Rattle.is_stun.specs.declared.header.Class.{Class}
 use Rattle.is_stun.specs.declared.header.Class.TheVariants as class
-use Rattle.is_stun.specs.Theorems.{SameMessage}
-use Rattle.is_stun.specs.Message.{Message}
-use Rattle.is_stun.specs.Reading.{Reads, fault_of, message_of}
 use Rattle.is_theorems.proofs.BasicLemmas.EqualAddresses.{both, same_address-sound}
-use Rattle.is_rules.specs.declared.credentials.IceCreds.{IceCreds}
-use Rattle.is_rules.specs.declared.emitted.Path.{Path}
-use Rattle.is_rules.specs.Places.{local_place}
-use Rattle.is_rules.specs.Request.{RequestRecord, request_in}
-use Rattle.is_rules.specs.Steps.{Answer, Done, Flag, Entry}
 use Rattle.is_theorems.specs.RoleState as roles
 use Rattle.is_theorems.specs.RoleState.{Mail, Kept, Sent, RoleEvent, RoleEffect}
-use Rattle.is_rules.specs.Agent.{AgentRecord}
-use Rattle.is_rules.specs.Sending.{path_of}
-use Rattle.is_rules.specs.Steps.{Call, SetControlTieBreaker, SetIceLite, SetControlling, ReceivePacket, HandleTimeout}
-use Rattle.is_rules.specs.Queue.{request_at}
-use Rattle.is_rules.specs.Brought.{Brings, IsBrought, IsServing, IsKept, IsValidOn, IsAnswered, IsRejectedBy, IsRoleSet, role_once}
-use Rattle.is_rules.specs.Effects.{tie_set_by, lite_set_by, PathEffect, TradeEffect}
-use Rattle.is_theorems.specs.RoleView.{mail_of, mail_unless, mail_read, mail_in, kept_as, all_kept, all_valid, role_state_of, when_accepted, when_done, request_when, sent_as, some_paths, sets_role, sets_lite, RoleTheorem, packet_path, accepted_by, served_by, role_event_of, FreshIsNew}
+use Rattle.is_theorems.specs.RoleView.{mail_of, mail_unless, mail_read, mail_in, kept_as, all_kept, all_valid, role_state_of, when_accepted}
+use Rattle.is_theorems.specs.RoleView.{when_done, request_when, sent_as, some_paths, sets_role, sets_lite, RoleTheorem, packet_path}
+use Rattle.is_theorems.specs.RoleView.{accepted_by, served_by, role_event_of, FreshIsNew}
 use Rattle.is_theorems.proofs.RuleEffects.ChangedPairs.{Has-map}
 use Rattle.is_theorems.proofs.CallEffects.ServedRequests.{Has-mapped}
 use Rattle.is_theorems.proofs.RuleEffects.SelectedPaths.{some_is}

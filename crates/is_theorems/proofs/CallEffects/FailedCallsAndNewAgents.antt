@@ -1,28 +1,19 @@
 -- A call that fails keeps the abstract state and the stream, and a newly created agent is sound.
-use Rattle.std.proofs.Common.{◌≡◌, ℕ, ◌==◌, ◌&&◌, not, Bool, true, false, List, Option, Some, None, Result, Ok, Err, inl, inr, refl, ap, sym, subst, ◌∙◌, arith}
-use Rattle.std.specs.Prelude.{MatchBool, nat_lt, position, length}
-use Rattle.rand_core.specs.Stream.{Stream}
-use Rattle.is_proto.specs.declared.error.IceError.{IceError}
-use Rattle.is_proto.specs.declared.error.IceError.TheVariants.{BadCandidate, OutOfMemory, PairIdsExhausted, MtuTooSmall, CredentialsTooLong, PriorityTooHigh, LiteStaysControlled}
-use Rattle.is_candidate.specs.Candidates.{CandidateRecord}
-use Rattle.is_rules.specs.declared.credentials.IceCreds.{IceCreds}
-use Rattle.is_rules.specs.declared.emitted.Path.{Path}
-use Rattle.is_rules.specs.Emitted.{nothing_emitted, selected_only}
-use Rattle.is_rules.specs.Steps.{Answer, Done, Flag, Polled, Happened, NextTimeout, NotCalled, Entry, quiet, done, added, answer_by, is_rejection}
-use Rattle.is_rules.specs.Agent.{AgentRecord}
-use Rattle.is_rules.specs.Settings.{SetsMtu, with_retransmits}
-use Rattle.is_rules.specs.Credentials.{SetsLocal, SetsRemote}
-use Rattle.is_rules.specs.Remote.{as_remote, is_ignored, JoinsRemote, AddsRemote}
-use Rattle.is_rules.specs.Restarting.{Restarts, Recreates}
-use Rattle.is_rules.specs.Steps.{Call, SetMtu, SetControlTieBreaker, SetMaxCandidatePairs, SetMaxDiscovered, SetIceLite, SetRenomination, SetConsent, SetProfile, SetTimingAdvance, SetInitialStunRto, SetMaxStunRto, SetMaxStunRetransmits, SetLiteTimeout, SetLocalPreference, SetControlling, SetLocalCredentials, SetRemoteCredentials, SkipPairIds, AddLocalCandidate, AddRemoteCandidate, InvalidateCandidate, RestartIce, RecreateCandidatePairs, ReceivePacket, HandleTimeout, PollTransmit, PollTimeout, PollEvent, Becomes, MayDo, MaySelect, Receives, Step}
-use Rattle.is_rules.specs.Sound.{FreshIsSound}
-use Rattle.is_rules.specs.Effects.{RejectionKeeps}
-use Rattle.is_candidate.specs.Candidates.{candidate_at}
-use Rattle.is_candidate.specs.Priorities.{candidate_priority}
-use Rattle.is_candidate.specs.Equality.{is_same_place}
-use Rattle.is_rules.specs.Discarding.{local_discarded}
-use Rattle.is_rules.specs.Local.{is_too_high, is_unwanted, comes_again, enabled, enabled_again, appended, as_own, preferred, Enters, EnrolsAt, AddsLocal}
-use Rattle.is_rules.specs.Settling.{settles, has_selected, loses_selected, Reselects}
+use Rattle.is_theorems.proofs.Common.{◌&&◌, ◌==◌, ◌∙◌, ◌≡◌, added, AddLocalCandidate, AddRemoteCandidate, AddsLocal, AddsRemote}
+use Rattle.is_theorems.proofs.Common.{AgentRecord, Answer, answer_by, ap, appended, arith, as_own, as_remote, BadCandidate, Becomes, Bool}
+use Rattle.is_theorems.proofs.Common.{Call, candidate_at, candidate_priority, CandidateRecord, comes_again, CredentialsTooLong, Done, done}
+use Rattle.is_theorems.proofs.Common.{enabled, enabled_again, EnrolsAt, Enters, Entry, Err, false, Flag, FreshIsSound, HandleTimeout}
+use Rattle.is_theorems.proofs.Common.{Happened, has_selected, IceCreds, IceError, inl, inr, InvalidateCandidate, is_ignored, is_rejection}
+use Rattle.is_theorems.proofs.Common.{is_same_place, is_too_high, is_unwanted, JoinsRemote, length, List, LiteStaysControlled}
+use Rattle.is_theorems.proofs.Common.{local_discarded, loses_selected, MatchBool, MayDo, MaySelect, MtuTooSmall, nat_lt, NextTimeout, None}
+use Rattle.is_theorems.proofs.Common.{not, NotCalled, nothing_emitted, Ok, Option, OutOfMemory, PairIdsExhausted, Path, Polled, PollEvent}
+use Rattle.is_theorems.proofs.Common.{PollTimeout, PollTransmit, position, preferred, PriorityTooHigh, quiet, ReceivePacket, Receives}
+use Rattle.is_theorems.proofs.Common.{RecreateCandidatePairs, Recreates, refl, RejectionKeeps, Reselects, RestartIce, Restarts, Result}
+use Rattle.is_theorems.proofs.Common.{selected_only, SetConsent, SetControlling, SetControlTieBreaker, SetIceLite, SetInitialStunRto}
+use Rattle.is_theorems.proofs.Common.{SetLiteTimeout, SetLocalCredentials, SetLocalPreference, SetMaxCandidatePairs, SetMaxDiscovered}
+use Rattle.is_theorems.proofs.Common.{SetMaxStunRetransmits, SetMaxStunRto, SetMtu, SetProfile, SetRemoteCredentials, SetRenomination}
+use Rattle.is_theorems.proofs.Common.{SetsLocal, SetsMtu, SetsRemote, SetTimingAdvance, updates_late, SkipPairIds, Some, Step, Stream, subst}
+use Rattle.is_theorems.proofs.Common.{sym, true, with_retransmits, ℕ}
 use Rattle.is_theorems.proofs.RuleEffects.UnchangedSettings.{either}
 
 never : {A : Type 0} → false ≡ true → A
@@ -121,7 +112,7 @@ module _ {H P : Type 0} where
 
   -- a call that changes nothing selects no path
   loses-none : (a : AgentRecord H P) → loses_selected a a ≡ false
-  loses-none a = by (settles a) (has_selected a) where
+  loses-none a = by (updates_late a) (has_selected a) where
     by : (rule has : Bool) → (rule && has && not has) ≡ false
     by true true = refl
     by true false = refl

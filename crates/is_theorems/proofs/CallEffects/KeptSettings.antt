@@ -1,46 +1,29 @@
 -- Each transition leaves the settings, except that a setter sets its own. What mutants/specifications changes is read by tactics.
-use Rattle.std.proofs.Common.{◌≡◌, ℕ, ◌==◌, Bool, true, false, List, Option, Some, None, Ok, Err, inl, inr, ap, sym, subst, ◌∙◌, ◌&&◌, if◌then◌else◌, refl}
-use Rattle.std.specs.List.{list_any}
-use Rattle.std.specs.Prelude.{MatchBool, MatchOption}
-use Rattle.rand_core.specs.Stream.{Stream}
-use Rattle.is_candidate.specs.Candidates.{CandidateRecord, candidate_at}
-use Rattle.is_pair.specs.Multiset.{is_valid_at}
-use Rattle.is_pair.specs.Pairs.{PairRecord}
-use Rattle.is_stun.specs.declared.header.Class.{Class}
 use Rattle.is_stun.specs.declared.header.Class.TheVariants as class
-use Rattle.is_stun.specs.Message.{Message}
-use Rattle.is_rules.specs.Accepting.{Takes}
-use Rattle.is_proto.specs.declared.error.IceError.{IceError}
-use Rattle.is_rules.specs.Agent.{AgentRecord}
-use Rattle.is_rules.specs.Answers.{HandlesSuccess, HandlesFailure}
-use Rattle.is_rules.specs.Checking.{all_asked, ChecksTop, MayCheck}
-use Rattle.is_rules.specs.declared.credentials.IceCreds.{IceCreds}
-use Rattle.is_rules.specs.declared.places.RemotePlace.{RemotePlace}
-use Rattle.is_rules.specs.declared.places.RemotePlace.TheVariants.{Known, Barred, Unknown, Vacant, Full}
-use Rattle.is_rules.specs.declared.roles.Conflict.{Conflict}
-use Rattle.is_rules.specs.declared.roles.Conflict.TheVariants.{Absent, Send487, SwitchRole}
-use Rattle.is_rules.specs.declared.emitted.Emitted.{Emitted}
-use Rattle.is_rules.specs.declared.emitted.Issued.{Issued}
-use Rattle.is_rules.specs.declared.emitted.Path.{Path}
-use Rattle.is_rules.specs.Discarding.{local_to_discard, remote_to_discard, InvalidatesAt}
-use Rattle.is_rules.specs.Forming.{formed, with_pair, Combination, FormsAll}
-use Rattle.is_rules.specs.Nominating.{followed, remains, selection_of, Nominates}
-use Rattle.is_rules.specs.Places.{local_place}
-use Rattle.is_rules.specs.Request.{RequestRecord, request_in}
-use Rattle.is_rules.specs.Roles.{conflict_of, switched}
-use Rattle.is_rules.specs.Settling.{loses_selected, Reselects}
-use Rattle.is_rules.specs.Serving.{is_misled, is_for_other_peer, pair_served, request_counted, selects_at_requests, with_sender, with_sender_at, Drops, Queues, RecordsAndResponds, FindsOrAddsPair, AddsUnknownSender, CountsAndServes, ResolvesRoleConflictBy, ResolvesRoleConflict, Serves}
-use Rattle.is_rules.specs.Steps.{SetMtu, SetControlTieBreaker, SetMaxCandidatePairs, SetMaxDiscovered, SetIceLite, SetRenomination, SetProfile, SetConsent, SetTimingAdvance, SetInitialStunRto, SetMaxStunRto, SetMaxStunRetransmits, SetLiteTimeout, SetLocalPreference, SetControlling, SetLocalCredentials, SetRemoteCredentials, SkipPairIds, AddLocalCandidate, AddRemoteCandidate, InvalidateCandidate, RestartIce, RecreateCandidatePairs, ReceivePacket, HandleTimeout, PollTransmit, PollTimeout, PollEvent, Entry, Becomes, Receives, NotCalled, Done, Rejected, is_done, quiet}
-use Rattle.is_rules.specs.Settings.{settings_of, with_retransmits}
-use Rattle.is_rules.specs.Timeouts.{at_request, at_timeout, is_expired, expired_gone, timeout_begun, RemovesExpired, MaintainsPairs, ServesQueued}
-use Rattle.is_rules.specs.Queue.{request_at}
+use Rattle.is_theorems.proofs.Common.{◌&&◌, ◌==◌, ◌∙◌, ◌≡◌, Absent, AddLocalCandidate, AddRemoteCandidate, AddsUnknownSender, AgentRecord}
+use Rattle.is_theorems.proofs.Common.{all_scheduled, all_settings_of, ap, at_request, at_timeout, Barred, Becomes, Bool, candidate_at}
+use Rattle.is_theorems.proofs.Common.{CandidateRecord, ChecksTop, Class, Combination, Conflict, conflict_of, CountsAndServes, Done, Drops}
+use Rattle.is_theorems.proofs.Common.{Emitted, Entry, Err, expired_gone, false, FindsOrAddsPair, followed, formed, FormsAll, Full}
+use Rattle.is_theorems.proofs.Common.{HandlesFailure, HandlesSuccess, HandleTimeout, IceCreds, IceError, if◌then◌else◌, in_turn, inl, inr}
+use Rattle.is_theorems.proofs.Common.{InvalidateCandidate, InvalidatesAt, is_done, is_expired, is_for_other_peer, is_misled, is_valid_at}
+use Rattle.is_theorems.proofs.Common.{Issued, Known, List, list_any, local_place, local_to_discard, loses_selected, MaintainsPairs}
+use Rattle.is_theorems.proofs.Common.{MatchBool, MatchOption, MayCheck, Message, Nominates, None, NotCalled, Ok, Option, pair_served}
+use Rattle.is_theorems.proofs.Common.{PairRecord, Path, path_left, PollEvent, PollTimeout, PollTransmit, Queues, quiet, ReceivePacket}
+use Rattle.is_theorems.proofs.Common.{Receives, RecordsAndResponds, RecreateCandidatePairs, refl, Rejected, remains, remote_to_discard}
+use Rattle.is_theorems.proofs.Common.{RemotePlace, RemovesExpired, request_at, request_counted, request_in, RequestRecord, Reselects}
+use Rattle.is_theorems.proofs.Common.{ResolvesRoleConflict, ResolvesRoleConflictBy, RestartIce, selection_of, selects_at_requests, Send487}
+use Rattle.is_theorems.proofs.Common.{Serves, ServesQueued, SetConsent, SetControlling, SetControlTieBreaker, SetIceLite, SetInitialStunRto}
+use Rattle.is_theorems.proofs.Common.{SetLiteTimeout, SetLocalCredentials, SetLocalPreference, SetMaxCandidatePairs, SetMaxDiscovered}
+use Rattle.is_theorems.proofs.Common.{SetMaxStunRetransmits, SetMaxStunRto, SetMtu, SetProfile, SetRemoteCredentials, SetRenomination}
+use Rattle.is_theorems.proofs.Common.{SetTimingAdvance, settings_of, SettingsAreSet, SettingsRecord, SkipPairIds, Some, Stream, subst}
+use Rattle.is_theorems.proofs.Common.{switched, SwitchRole, sym, Takes, timeout_begun, true, Unknown, Vacant, with_pair, with_retransmits}
+use Rattle.is_theorems.proofs.Common.{with_sender, with_sender_at, ℕ}
 use Rattle.is_theorems.proofs.CallEffects.AddedCandidates.{by_adding_local, by_adding_remote, by_waking}
 use Rattle.is_theorems.proofs.RuleEffects.UnchangedSettings.{either}
 use Rattle.is_theorems.proofs.RuleEffects.NominatedPairs.{SelectsPath, selects_path}
-use Rattle.is_theorems.proofs.CallEffects.FailedCallsAndNewAgents.{mtu_kept, local_kept, remote_kept, restart_kept, recreation_kept, enrolment_kept, storing_kept}
-use Rattle.is_theorems.specs.Settings.{SettingsRecord, all_settings_of, SettingsAreSet}
+use Rattle.is_theorems.proofs.CallEffects.FailedCallsAndNewAgents.{mtu_kept, local_kept, remote_kept, restart_kept, recreation_kept}
+use Rattle.is_theorems.proofs.CallEffects.FailedCallsAndNewAgents.{enrolment_kept, storing_kept}
 use Rattle.is_theorems.proofs.RuleEffects.NotedErrors.{by_failure}
-use Rattle.is_rules.specs.Leaving.{path_left}
 
 module _ {H P : Type 0} where
   abbrev Same : AgentRecord H P → AgentRecord H P → Type 0
@@ -116,7 +99,7 @@ module _ {H P : Type 0} where
       here (Some l) s new emitted h = resolves (conflict_of s q) l s new emitted h
 
       serves : (s new : AgentRecord H P) (emitted : Emitted) → Serves mac q s emitted new → Same s new
-      serves s new emitted h = either (is_for_other_peer s q) h
+      serves s new emitted h = either (is_for_other_peer s q) (in_turn mac q s new emitted h)
           (λ _ k. made-of s new k.1)
           (λ _ k. here (local_place s.local q) s new emitted k)
 
@@ -150,7 +133,7 @@ module _ {H P : Type 0} where
     checks now None old new s t issued h = made-of old new h.1
     checks now (Some peer) old new s t issued h = either old.lite h
         (λ _ k. made-of _ new k.1)
-        (λ _ k. tops now peer k.0 (all_asked now old) new s t issued k.2)
+        (λ _ k. tops now peer k.0 (all_scheduled now old) new s t issued k.2)
 
     pub maintains : (now : ℕ) (old new : AgentRecord H P) (s t : Stream) (emitted : Emitted) → MaintainsPairs mac now old s emitted new t → Same (at_timeout now old) new
     maintains now old new s t emitted (first, second, issued, named, kept, nominating, giving, checking, is) =

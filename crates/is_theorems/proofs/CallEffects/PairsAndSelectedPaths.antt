@@ -1,49 +1,24 @@
 -- For each call: its effect on pairs, and which paths are selected.
-use Rattle.std.proofs.Common.{if◌then◌else◌, [], ◌∷◌, ◌++◌, ◌≡◌, ℕ, ◌==◌, ◌≤◌, ◌&&◌, ◌||◌, Bool, true, false, not, List, Option, Some, None, is_some, Result, Ok, Err, inl, inr, ◌⊎◌, refl, ap, sym, ◌∙◌, subst}
-use Rattle.std.specs.Prelude.{MatchBool, MatchOption, IsSomeAnd}
-use Rattle.rand_core.specs.Stream.{Stream}
-use Rattle.is_proto.specs.Lists.{Has}
-use Rattle.is_proto.specs.declared.error.IceError.{IceError}
-use Rattle.is_candidate.specs.Candidates.{CandidateRecord, IsBased}
-use Rattle.is_pair.specs.Checks.{Check}
-use Rattle.is_pair.specs.Pairs.{PairRecord}
-use Rattle.is_stun.specs.Message.{Message}
-use Rattle.is_stun.specs.Reading.{Reads}
-use Rattle.is_stun.specs.Integrity.{IsSignedBy}
-use Rattle.is_stun.specs.declared.header.Class.{Class}
 use Rattle.is_stun.specs.declared.header.Class.TheVariants as class
-use Rattle.is_stun.specs.Theorems.{IsPut}
-use Rattle.is_rules.proofs.PairLists.RisingNumbers.{rising-each, below-each}
+use Rattle.is_theorems.proofs.Common.{[], ◌&&◌, ◌++◌, ◌==◌, ◌||◌, ◌∙◌, ◌∷◌, ◌≡◌, ◌≤◌, ◌⊎◌, added, AddLocalCandidate, AddRemoteCandidate}
+use Rattle.is_theorems.proofs.Common.{AddsLocal, AddsRemote, AgentRecord, Answer, answer_by, ap, as_taken, at_request, Becomes, below-each}
+use Rattle.is_theorems.proofs.Common.{binding_reply, binding_role_conflict_reply, Bool, Brings, Call, CandidateRecord, carried, Check}
+use Rattle.is_theorems.proofs.Common.{Class, conflict_by, conflict_of, discovered_emitted, Done, done, Drops, Emitted, Entry, Err, false}
+use Rattle.is_theorems.proofs.Common.{first_taken, Flag, given, HandlesFailure, HandlesSuccess, HandleTimeout, Happened, Has, IceCreds}
+use Rattle.is_theorems.proofs.Common.{IceError, if◌then◌else◌, inl, inr, InvalidateCandidate, Invalidates, is_reverse, is_some}
+use Rattle.is_theorems.proofs.Common.{IsAcceptedAs, IsAcceptedOn, IsAnswered, IsBased, IsNumberedByPeer, IsPut, IsServing, IsSignedBy}
+use Rattle.is_theorems.proofs.Common.{IsSomeAnd, IsSound, issued_as, keeps_check, keeps_check_on, keeps_role, List, loses_selected}
+use Rattle.is_theorems.proofs.Common.{MaintainsPairs, MatchBool, MatchOption, MayDo, MaySelect, Message, NextTimeout, None, not, NotCalled}
+use Rattle.is_theorems.proofs.Common.{nothing_emitted, numbers, Ok, Option, PairRecord, Path, path_of, Polled, PollEvent, PollTimeout}
+use Rattle.is_theorems.proofs.Common.{PollTransmit, queued, quiet, Reads, ReceivePacket, Receives, RecreateCandidatePairs, Recreates, refl}
+use Rattle.is_theorems.proofs.Common.{Rejected, request_at, request_in, RequestRecord, RestartIce, Restarts, Result, reversed, rising-each}
+use Rattle.is_theorems.proofs.Common.{selected_in, selected_only, Send487, Serves, ServesQueued, SetConsent, SetControlling}
+use Rattle.is_theorems.proofs.Common.{SetControlTieBreaker, SetIceLite, SetInitialStunRto, SetLiteTimeout, SetLocalCredentials}
+use Rattle.is_theorems.proofs.Common.{SetLocalPreference, SetMaxCandidatePairs, SetMaxDiscovered, SetMaxStunRetransmits, SetMaxStunRto}
+use Rattle.is_theorems.proofs.Common.{SetMtu, SetProfile, SetRemoteCredentials, SetRenomination, SetsLocal, SetsMtu, SetsRemote}
+use Rattle.is_theorems.proofs.Common.{SetTimingAdvance, SkipPairIds, Some, Step, Stream, subst, switched, sym, Takes, timeout_begun}
+use Rattle.is_theorems.proofs.Common.{TimesOut, true, with_retransmits, written, ℕ}
 use Rattle.is_theorems.proofs.BasicLemmas.EqualAddresses.{both}
-use Rattle.is_rules.specs.declared.credentials.IceCreds.{IceCreds}
-use Rattle.is_rules.specs.declared.emitted.Path.{Path}
-use Rattle.is_rules.specs.declared.emitted.Emitted.{Emitted}
-use Rattle.is_rules.specs.Request.{RequestRecord, request_in}
-use Rattle.is_rules.specs.Steps.{Answer, Done, Flag, Polled, Happened, NextTimeout, NotCalled, Rejected, Entry, quiet, added, done, answer_by}
-use Rattle.is_rules.specs.Emitted.{nothing_emitted, issued_as, reversed, selected_in, selected_only}
-use Rattle.is_stun.specs.Checks.{binding_reply, binding_role_conflict_reply}
-use Rattle.is_stun.specs.Writing.{written}
-use Rattle.is_rules.specs.declared.roles.Conflict.TheVariants.{Send487}
-use Rattle.is_rules.specs.Agent.{AgentRecord}
-use Rattle.is_rules.specs.Sending.{path_of, carried}
-use Rattle.is_rules.specs.Roles.{conflict_by, conflict_of, switched, keeps_role}
-use Rattle.is_rules.specs.Settings.{SetsMtu, with_retransmits}
-use Rattle.is_rules.specs.Credentials.{SetsLocal, SetsRemote}
-use Rattle.is_rules.specs.Discarding.{Invalidates}
-use Rattle.is_rules.specs.Local.{AddsLocal}
-use Rattle.is_rules.specs.Settling.{loses_selected}
-use Rattle.is_rules.specs.Remote.{AddsRemote}
-use Rattle.is_rules.specs.Restarting.{Restarts, Recreates}
-use Rattle.is_rules.specs.Serving.{Drops, Serves, as_taken}
-use Rattle.is_rules.specs.Queue.{queued, first_taken, request_at}
-use Rattle.is_pair.specs.Multiset.{keeps_check}
-use Rattle.is_rules.specs.Answers.{keeps_check_on, is_reverse, HandlesSuccess, HandlesFailure}
-use Rattle.is_rules.specs.Accepting.{Takes, IsAcceptedAs, IsAcceptedOn, discovered_emitted}
-use Rattle.is_rules.specs.Timeouts.{at_request, timeout_begun, MaintainsPairs, ServesQueued, TimesOut}
-use Rattle.is_rules.specs.Steps.{Call, SetMtu, SetControlTieBreaker, SetMaxCandidatePairs, SetMaxDiscovered, SetIceLite, SetRenomination, SetConsent, SetProfile, SetTimingAdvance, SetInitialStunRto, SetMaxStunRto, SetMaxStunRetransmits, SetLiteTimeout, SetLocalPreference, SetControlling, SetLocalCredentials, SetRemoteCredentials, SkipPairIds, AddLocalCandidate, AddRemoteCandidate, InvalidateCandidate, RestartIce, RecreateCandidatePairs, ReceivePacket, HandleTimeout, PollTransmit, PollTimeout, PollEvent, Becomes, MayDo, MaySelect, Receives, Step}
-use Rattle.is_rules.specs.Sound.{IsSound}
-use Rattle.is_rules.specs.Brought.{Brings, IsServing, IsAnswered}
-use Rattle.is_theorems.specs.Numbered.{IsNumberedByPeer, given}
 use Rattle.is_theorems.proofs.CallEffects.FailedCallsAndNewAgents.{mtu_kept, local_kept, remote_kept, restart_kept, recreation_kept}
 use Rattle.is_theorems.proofs.RuleEffects.UnchangedSettings.{Frame, frame_of, packet_along}
 use Rattle.is_theorems.proofs.CallEffects.SettingsRoleAndQueues as frames
@@ -53,9 +28,10 @@ use Rattle.is_theorems.proofs.RuleEffects.SelectedPaths.{Returns, returns_none, 
 use Rattle.is_theorems.proofs.CallEffects.CallsThatEmitNothing.{Silent, is_calm, is_of_candidate}
 use Rattle.is_theorems.proofs.CallEffects.CallsThatEmitNothing as calls
 use Rattle.is_theorems.proofs.CallEffects.TimeoutsAndSuccesses.{CheckOut, maintains_pairs, only_pair, succeeds}
-use Rattle.is_theorems.proofs.CallEffects.ServedRequests.{Replied, ConflictSent, AcceptedNominations, serves_does, notes, notes_and_switches}
-use Rattle.is_theorems.proofs.CallEffects.ChangedCandidates.{local_goes, remote_goes, without_goes, reselects_goes, recreates_goes, restarts_goes, skips_goes, rtos_goes, polls_goes}
-use Rattle.is_rules.specs.Nominating.{numbers}
+use Rattle.is_theorems.proofs.CallEffects.ServedRequests.{Replied, ConflictSent, AcceptedNominations, serves_does, notes}
+use Rattle.is_theorems.proofs.CallEffects.ServedRequests.{notes_and_switches}
+use Rattle.is_theorems.proofs.CallEffects.ChangedCandidates.{local_goes, remote_goes, without_goes, reselects_goes, recreates_goes}
+use Rattle.is_theorems.proofs.CallEffects.ChangedCandidates.{restarts_goes, skips_goes, rtos_goes, polls_goes}
 use Rattle.is_theorems.proofs.RuleEffects.NotedErrors.{by_failure}
 
 or_true : (a b : Bool) → (a || b) ≡ true → (a ≡ true) ⊎ (b ≡ true)
@@ -65,14 +41,6 @@ or_true false b h = inr h
 and_left : (a b : Bool) → (a && b) ≡ true → a ≡ true
 and_left true b h = refl
 and_left false b h = h
-
-not_true : (a : Bool) → not a ≡ true → a ≡ false
-not_true true h = sym h
-not_true false h = refl
-
-not_false : (a : Bool) → not a ≡ false → a ≡ true
-not_false true h = refl
-not_false false h = sym h
 
 module _ {H P : Type 0} (mac : H → List ℕ → List ℕ → List ℕ) (answers : P → CandidateRecord → ℕ → ℕ → Type 0) (old new : AgentRecord H P) (s t : Stream) (e : Entry) where
   abbrev pub Asks : Call P → Path → ℕ → Type 0

@@ -1,49 +1,28 @@
 -- The two theorems about effects, for every call.
-use Rattle.std.proofs.Common.{◌≡◌, ℕ, Bool, true, false, List, [], ◌∷◌, ◌++◌, Option, Some, None, Ok, Err, inl, inr, ◌⊎◌, refl, ap, sym, ◌∙◌, subst, if◌then◌else◌}
-use Rattle.std.specs.Prelude.{MatchOption}
-use Rattle.rand_core.specs.Stream.{Stream}
-use Rattle.is_proto.specs.Lists.{Has, same}
-use Rattle.is_proto.specs.Packets.{Packet}
-use Rattle.is_candidate.specs.Candidates.{CandidateRecord, IsBased}
-use Rattle.is_stun.specs.declared.header.Class.{Class}
 use Rattle.is_stun.specs.declared.header.Class.TheVariants as class
-use Rattle.is_stun.specs.Message.{Message}
-use Rattle.is_stun.specs.Checks.{binding_reply, binding_role_conflict_reply}
-use Rattle.is_stun.specs.Writing.{written}
-use Rattle.is_rules.specs.Polls.{IsPolled}
-use Rattle.is_rules.specs.declared.credentials.IceCreds.{IceCreds}
-use Rattle.is_rules.specs.declared.emitted.Issued.{Issued}
-use Rattle.is_rules.specs.declared.emitted.Path.{Path}
-use Rattle.is_rules.specs.declared.emitted.Emitted.{Emitted}
-use Rattle.is_rules.specs.Request.{RequestRecord, request_in}
-use Rattle.is_rules.specs.Steps.{Entry, is_done}
-use Rattle.is_rules.specs.Emitted.{nothing_emitted, reversed}
-use Rattle.is_rules.specs.Sound.{KeepsChecks}
-use Rattle.is_rules.specs.Agent.{AgentRecord}
-use Rattle.is_rules.specs.Queue.{request_at, first_taken, queued}
-use Rattle.is_rules.specs.Answers.{is_left_out, local_with, mapped_candidate, success_counted, HandlesSuccess, HandlesFailure}
-use Rattle.is_rules.specs.Accepting.{Takes}
-use Rattle.is_rules.specs.Serving.{Drops, Serves}
-use Rattle.is_rules.specs.Timeouts.{at_request, timeout_begun, MaintainsPairs, ServesQueued}
-use Rattle.is_rules.specs.Steps.{Call, RestartIce, ReceivePacket, HandleTimeout, PollTransmit, Step}
-use Rattle.is_rules.specs.Sound.{GivesBased}
-use Rattle.is_rules.specs.Issuing.{QueuesPackets, IsIssued, key_for, via_out, IsQueued}
-use Rattle.is_rules.specs.Effects.{PathTheorem, TradeTheorem}
-use Rattle.is_rules.proofs.PairLists.RisingNumbers.{each-rising, each-below}
+use Rattle.is_theorems.proofs.Common.{[], ◌++◌, ◌∙◌, ◌∷◌, ◌≡◌, ◌⊎◌, AgentRecord, ap, at_request, binding_reply, binding_role_conflict_reply}
+use Rattle.is_theorems.proofs.Common.{Bool, Call, CandidateRecord, Class, each-below, each-rising, Emitted, Entry, Err, false, first_taken}
+use Rattle.is_theorems.proofs.Common.{GivesBased, HandlesFailure, HandlesSuccess, HandleTimeout, Has, IceCreds, if◌then◌else◌, inl, inr}
+use Rattle.is_theorems.proofs.Common.{is_done, is_left_out, IsBased, IsIssued, IsPolled, IsQueued, Issued, KeepsChecks, key_for, List}
+use Rattle.is_theorems.proofs.Common.{local_with, MaintainsPairs, mapped_candidate, MatchOption, Message, None, nothing_emitted, Ok, Option}
+use Rattle.is_theorems.proofs.Common.{Packet, Path, PathTheorem, PollTransmit, queued, QueuesPackets, ReceivePacket, refl, request_at}
+use Rattle.is_theorems.proofs.Common.{request_in, RequestRecord, RestartIce, reversed, same, Serves, ServesQueued, Some, Step, Stream}
+use Rattle.is_theorems.proofs.Common.{subst, success_counted, switched, sym, Takes, timeout_begun, TradeTheorem, true, via_out, written, ℕ}
 use Rattle.is_theorems.proofs.CallEffects.FailedCallsAndNewAgents.{rejection_keeps}
 use Rattle.is_theorems.proofs.RuleEffects.UnchangedSettings.{frame_of, packet_along}
 use Rattle.is_theorems.proofs.CallEffects.SettingsRoleAndQueues.{framed}
 use Rattle.is_theorems.proofs.RuleEffects.SelectedPaths.{some_is}
 use Rattle.is_theorems.proofs.RuleEffects.EarlierAndNewPairs.{Has-push}
 use Rattle.is_theorems.proofs.CallEffects.TimeoutsAndSuccesses.{asks_with}
-use Rattle.is_theorems.proofs.CallEffects.UnchangedTimingAndBases.{Rest, rest_of, AllBased, nominates_rest, maintains_pairs_rest, serves_rest}
+use Rattle.is_theorems.proofs.CallEffects.UnchangedTimingAndBases.{Rest, rest_of, AllBased, nominates_rest, maintains_pairs_rest}
+use Rattle.is_theorems.proofs.CallEffects.UnchangedTimingAndBases.{serves_rest}
 use Rattle.is_theorems.proofs.CallEffects.CallsThatEmitNothing.{Calm, calm, pushed_based}
 use Rattle.is_theorems.proofs.CallEffects.PairsAndSelectedPaths.{Posted}
 use Rattle.is_theorems.proofs.CallEffects.PathEffects.{path_effect}
-use Rattle.is_theorems.proofs.CallEffects.ReceivedAndOwed.{accepts, leaves_unaccepted, rejects, waits_has, waits_short, brought_or_waited, owes, clears_pairs, clears_quiet}
+use Rattle.is_theorems.proofs.CallEffects.ReceivedAndOwed.{accepts, leaves_unaccepted, rejects, waits_has, waits_short, brought_or_waited}
+use Rattle.is_theorems.proofs.CallEffects.ReceivedAndOwed.{owes, clears_pairs, clears_quiet}
 use Rattle.is_theorems.proofs.PathSelection.NominationPoints.{takes_valid, points_top}
 use Rattle.is_theorems.proofs.RuleEffects.NotedErrors.{recoded, by_failure}
-use Rattle.is_rules.specs.Roles.{switched}
 
 module _ {H P : Type 0} (mac : H → List ℕ → List ℕ → List ℕ) (answers : P → CandidateRecord → ℕ → ℕ → Type 0) where
   -- ---- limits and bases
@@ -85,9 +64,6 @@ module _ {H P : Type 0} (mac : H → List ℕ → List ℕ → List ℕ) (answer
 
         recorded_persists : Persists old recorded
         recorded_persists = by_address m.attributes.xor_mapped_address refl
-
-  drops_persist : (old new : AgentRecord H P) (emitted : Emitted) → Drops old emitted new → Persists old new
-  drops_persist old new emitted h = rests old new (ap (λ (a : AgentRecord H P). rest_of a) h.1)
 
   failure_persists : (old new : AgentRecord H P) (via : Path) (m : Message) (emitted : Emitted) → HandlesFailure old via m emitted new → Persists old new
   failure_persists old new via m emitted h =

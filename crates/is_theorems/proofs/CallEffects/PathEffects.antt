@@ -1,28 +1,14 @@
 -- For each call: the fields of its effect that are about paths, and the invariant of pairs after it.
-use Rattle.std.proofs.Common.{◌≡◌, ℕ, ◌<◌, ◌≤◌, Bool, true, false, List, Option, Some, None, inl, inr, ◌⊎◌, refl, ap, sym, ◌∙◌, subst, arith}
-use Rattle.rand_core.specs.Stream.{Stream}
-use Rattle.is_proto.specs.Lists.{Has}
-use Rattle.is_candidate.specs.Candidates.{CandidateRecord}
-use Rattle.is_pair.specs.Pairs.{PairRecord, is_valid, is_nominated}
-use Rattle.is_stun.specs.declared.header.Class.{Class}
 use Rattle.is_stun.specs.declared.header.Class.TheVariants as class
-use Rattle.is_rules.specs.declared.emitted.Issued.{Issued}
-use Rattle.is_rules.specs.Request.{RequestRecord}
-use Rattle.is_rules.specs.declared.emitted.Path.{Path}
-use Rattle.is_rules.specs.Steps.{Entry}
-use Rattle.is_rules.specs.Emitted.{issued_as, reversed}
-use Rattle.is_rules.specs.Effects.{last_of}
-use Rattle.is_rules.specs.Sound.{IsBelow}
-use Rattle.is_rules.specs.Sending.{path_of}
-use Rattle.is_rules.specs.Agent.{AgentRecord}
-use Rattle.is_rules.specs.Steps.{Call, Step}
-use Rattle.is_rules.specs.Sound.{IsSound}
-use Rattle.is_rules.specs.Brought.{IsKept, IsValidOn, IsNominatedOn, Continues, IsServing, IsNominatedByPeer, IsAnswered}
+use Rattle.is_theorems.proofs.Common.{◌<◌, ◌∙◌, ◌≡◌, ◌≤◌, ◌⊎◌, AgentRecord, ap, arith, Bool, Call, CandidateRecord, Class, Continues, Entry}
+use Rattle.is_theorems.proofs.Common.{false, Has, inl, inr, is_nominated, is_valid, IsAnswered, IsBelow, IsKept, IsNominatedByPeer}
+use Rattle.is_theorems.proofs.Common.{IsNominatedOn, IsServing, IsSound, Issued, issued_as, IsValidOn, last_of, List, nominates, None}
+use Rattle.is_theorems.proofs.Common.{Option, PairRecord, Path, path_of, refl, RequestRecord, reversed, Some, Step, Stream, subst, sym}
+use Rattle.is_theorems.proofs.Common.{true, ℕ}
 use Rattle.is_theorems.proofs.RuleEffects.EarlierAndNewPairs.{Fit}
 use Rattle.is_theorems.proofs.RuleEffects.ChangedPairs.{parts_of}
 use Rattle.is_theorems.proofs.RuleEffects.SelectedPaths.{some_is}
 use Rattle.is_theorems.proofs.CallEffects.PairsAndSelectedPaths.{Asks, Met, Sent, Posted, PairEffect, paired}
-use Rattle.is_rules.specs.Serving.{nominates}
 
 never : {A : Type 0} → false ≡ true → A
 never h = cc

@@ -1,55 +1,34 @@
 -- Each transition queues a `NominatedSend` only for a path that it selects. What mutants/specifications changes is read by tactics.
 use Rattle.is_stun.specs.declared.header.Class.TheVariants as class
+use Rattle.is_theorems.proofs.Common.{[], ◌&&◌, ◌++◌, ◌==◌, ◌∙◌, ◌∷◌, ◌≡◌, ◌⊎◌, Absent, AddLocalCandidate, AddRemoteCandidate}
+use Rattle.is_theorems.proofs.Common.{AddsUnknownSender, AgentRecord, all_scheduled, Answer, ap, at_request, at_timeout, Barred, Becomes, Bool}
+use Rattle.is_theorems.proofs.Common.{Call, candidate_at, CandidateRecord, Checking, ChecksTop, Class, cleared, Combination, Conflict}
+use Rattle.is_theorems.proofs.Common.{conflict_of, CountsAndServes, discovered_emitted, DiscoveredRecv, Drops, Emitted, emptied, Entry, Err}
+use Rattle.is_theorems.proofs.Common.{evaluated, events_kept, EventsAreSelected, expired_gone, false, FindsOrAddsPair, first_taken, formed}
+use Rattle.is_theorems.proofs.Common.{FormsAll, Full, HandlesFailure, HandlesSuccess, HandleTimeout, Has, has_nominated, has_possible}
+use Rattle.is_theorems.proofs.Common.{IceAgentEvent, IceConnectionState, IceConnectionStateChange, IceCreds, IceRestart, if◌then◌else◌}
+use Rattle.is_theorems.proofs.Common.{in_turn, inl, inr, InvalidateCandidate, InvalidatesAt, is_expired, is_for_other_peer, is_misled}
+use Rattle.is_theorems.proofs.Common.{is_modern, is_passed_over, is_selection, is_some, is_valid_at, IsPolled, Issued, Known, length, List}
+use Rattle.is_theorems.proofs.Common.{list_any, local_place, local_to_discard, loses_selected, MaintainsPairs, MatchBool, MatchOption}
+use Rattle.is_theorems.proofs.Common.{MayCheck, Message, New, next_state, nominated_emitted, NominatedSend, Nominates, NominatesWhere, None}
+use Rattle.is_theorems.proofs.Common.{not, NotCalled, Ok, Option, pair_served, PairRecord, Path, path_left, PollEvent, PollTimeout}
+use Rattle.is_theorems.proofs.Common.{PollTransmit, Queues, quiet, ReceivePacket, Receives, RecordsAndResponds, RecreateCandidatePairs}
+use Rattle.is_theorems.proofs.Common.{refl, remote_to_discard, RemotePlace, RemovesExpired, request_at, request_counted, request_in}
+use Rattle.is_theorems.proofs.Common.{RequestRecord, Reselects, ResolvesRoleConflict, ResolvesRoleConflictBy, restarted, RestartIce}
+use Rattle.is_theorems.proofs.Common.{same_state, selected_in, selected_only, selecting, selects_at_requests, Send487, Serves, ServesQueued}
+use Rattle.is_theorems.proofs.Common.{SetConsent, SetControlling, SetControlTieBreaker, SetIceLite, SetInitialStunRto, SetLiteTimeout}
+use Rattle.is_theorems.proofs.Common.{SetLocalCredentials, SetLocalPreference, SetMaxCandidatePairs, SetMaxDiscovered}
+use Rattle.is_theorems.proofs.Common.{SetMaxStunRetransmits, SetMaxStunRto, SetMtu, SetProfile, SetRemoteCredentials, SetRenomination}
+use Rattle.is_theorems.proofs.Common.{SetTimingAdvance, state_updated, SkipPairIds, Some, start_emitted, started, state_at_start, updated_state}
+use Rattle.is_theorems.proofs.Common.{Step, Stream, subst, switched, SwitchRole, sym, Takes, timeout_begun, trigger_time, true, Unknown}
+use Rattle.is_theorems.proofs.Common.{unpaired, Vacant, with_pair, with_retransmits, with_selection, with_sender, with_sender_at}
+use Rattle.is_theorems.proofs.Common.{with_state, ℕ}
 use Rattle.is_theorems.proofs.CallEffects.AddedCandidates.{by_adding_local, by_adding_remote, by_waking}
-use Rattle.is_theorems.proofs.CallEffects.FailedCallsAndNewAgents.{enrolment_kept, local_kept, mtu_kept, recreation_kept, remote_kept, restart_kept, storing_kept}
+use Rattle.is_theorems.proofs.CallEffects.FailedCallsAndNewAgents.{enrolment_kept, local_kept, mtu_kept, recreation_kept, remote_kept}
+use Rattle.is_theorems.proofs.CallEffects.FailedCallsAndNewAgents.{restart_kept, storing_kept}
 use Rattle.is_theorems.proofs.RuleEffects.EarlierAndNewPairs.{Has-filter}
 use Rattle.is_theorems.proofs.RuleEffects.UnchangedSettings.{either}
-use Rattle.is_theorems.specs.Reporting.{EventsAreSelected, selecting}
-use Rattle.is_candidate.specs.Candidates.{CandidateRecord, candidate_at}
-use Rattle.is_pair.specs.Multiset.{is_valid_at}
-use Rattle.is_pair.specs.Pairs.{PairRecord}
-use Rattle.is_proto.specs.Lists.{Has}
-use Rattle.is_rules.specs.Accepting.{Takes, discovered_emitted, is_passed_over}
-use Rattle.is_rules.specs.Agent.{AgentRecord}
-use Rattle.is_rules.specs.Answers.{HandlesFailure, HandlesSuccess}
-use Rattle.is_rules.specs.Checking.{ChecksTop, MayCheck, all_asked}
-use Rattle.is_rules.specs.Discarding.{InvalidatesAt, local_to_discard, remote_to_discard}
-use Rattle.is_rules.specs.Emitted.{selected_in, selected_only}
-use Rattle.is_rules.specs.Forming.{Combination, FormsAll, formed, with_pair}
-use Rattle.is_rules.specs.Nominating.{Nominates, NominatesWhere, nominated_emitted, with_selection}
-use Rattle.is_rules.specs.Places.{local_place}
-use Rattle.is_rules.specs.Polls.{IsPolled}
-use Rattle.is_rules.specs.Queue.{first_taken, request_at}
-use Rattle.is_rules.specs.Request.{RequestRecord, request_in}
-use Rattle.is_rules.specs.Restarting.{cleared, emptied, events_kept, is_selection, restarted, unpaired}
-use Rattle.is_rules.specs.Roles.{conflict_of, switched}
-use Rattle.is_rules.specs.Serving.{AddsUnknownSender, CountsAndServes, Drops, FindsOrAddsPair, Queues, RecordsAndResponds, ResolvesRoleConflict, ResolvesRoleConflictBy, Serves, is_misled, is_for_other_peer, pair_served, request_counted, selects_at_requests, trigger_time, with_sender, with_sender_at}
-use Rattle.is_rules.specs.Settings.{with_retransmits}
-use Rattle.is_rules.specs.Settling.{Reselects, loses_selected, settled, started, state_at_start, state_settled}
-use Rattle.is_rules.specs.States.{evaluated, has_nominated, has_possible, next_state, same_state, with_state}
-use Rattle.is_rules.specs.Steps.{AddLocalCandidate, AddRemoteCandidate, Answer, Becomes, Call, Entry, HandleTimeout, InvalidateCandidate, NotCalled, PollEvent, PollTimeout, PollTransmit, ReceivePacket, Receives, RecreateCandidatePairs, RestartIce, SetControlTieBreaker, SetControlling, SetIceLite, SetInitialStunRto, SetLiteTimeout, SetLocalCredentials, SetLocalPreference, SetMaxCandidatePairs, SetMaxDiscovered, SetMaxStunRetransmits, SetMaxStunRto, SetConsent, SetMtu, SetProfile, SetRemoteCredentials, SetRenomination, SetTimingAdvance, SkipPairIds, Step, quiet}
-use Rattle.is_rules.specs.Timeouts.{MaintainsPairs, RemovesExpired, ServesQueued, at_request, at_timeout, expired_gone, is_expired, start_emitted, timeout_begun}
-use Rattle.is_rules.specs.declared.credentials.IceCreds.{IceCreds}
-use Rattle.is_rules.specs.declared.emitted.Emitted.{Emitted}
-use Rattle.is_rules.specs.declared.emitted.Issued.{Issued}
-use Rattle.is_rules.specs.declared.emitted.Path.{Path}
-use Rattle.is_rules.specs.declared.event.IceAgentEvent.{IceAgentEvent}
-use Rattle.is_rules.specs.declared.event.IceAgentEvent.TheVariants.{DiscoveredRecv, IceConnectionStateChange, IceRestart, NominatedSend}
-use Rattle.is_rules.specs.declared.event.IceConnectionState.{IceConnectionState}
-use Rattle.is_rules.specs.declared.event.IceConnectionState.TheVariants.{Checking, New}
-use Rattle.is_rules.specs.declared.places.RemotePlace.{RemotePlace}
-use Rattle.is_rules.specs.declared.places.RemotePlace.TheVariants.{Barred, Full, Known, Unknown, Vacant}
-use Rattle.is_rules.specs.declared.roles.Conflict.{Conflict}
-use Rattle.is_rules.specs.declared.roles.Conflict.TheVariants.{Absent, Send487, SwitchRole}
-use Rattle.is_stun.specs.Message.{Message}
-use Rattle.is_stun.specs.Timing.{is_modern}
-use Rattle.is_stun.specs.declared.header.Class.{Class}
-use Rattle.rand_core.specs.Stream.{Stream}
-use Rattle.std.proofs.Common.{Bool, Err, List, None, Ok, Option, Some, [], ap, false, if◌then◌else◌, inl, inr, is_some, length, not, refl, subst, sym, true, ℕ, ◌&&◌, ◌++◌, ◌==◌, ◌∙◌, ◌∷◌, ◌≡◌, ◌⊎◌}
-use Rattle.std.specs.List.{list_any}
-use Rattle.std.specs.Prelude.{MatchBool, MatchOption}
 use Rattle.is_theorems.proofs.RuleEffects.NotedErrors.{recoded, by_failure}
-use Rattle.is_rules.specs.Leaving.{path_left}
 
 abbrev pub is_other : IceAgentEvent → Bool
 is_other (NominatedSend proto source destination) = false
@@ -117,8 +96,8 @@ module _ {H P : Type 0} (In : Path → Type 0) where
   evaluated_adds : (now : ℕ) (a : AgentRecord H P) → Adds a (evaluated now a)
   evaluated_adds now a = state_adds (next_state a.state (has_nominated a) (has_possible now a) a.lite) a
 
-  settled_adds : (changes : Bool) (now : ℕ) (a : AgentRecord H P) → Adds a (settled changes now a)
-  settled_adds changes now a = state_adds (state_settled changes now a) a
+  updated_adds : (changes : Bool) (now : ℕ) (a : AgentRecord H P) → Adds a (state_updated changes now a)
+  updated_adds changes now a = state_adds (updated_state changes now a) a
 
   emitted_adds : (o : Option Path) (a : AgentRecord H P) → ((x : Path) → o ≡ Some x → In x) → Adds a (nominated_emitted o a)
   emitted_adds None a may path has = inl has
@@ -142,7 +121,7 @@ module _ {H P : Type 0} (In : Path → Type 0) where
   removes_expired_adds : (now : ℕ) (old new : AgentRecord H P) (o : Option Path) → ((x : Path) → o ≡ Some x → In x) → RemovesExpired now old o new → Adds old new
   removes_expired_adds now old new o may h = either (list_any (is_expired now old) old.pairs) h
       (λ _ k. as-made old (evaluated now k.0) new k.2 (more old k.0 (evaluated now k.0) (nominates_adds (expired_gone now old) k.0 o may k.1) (evaluated_adds now k.0)))
-      (λ _ k. as-made old (settled true now old) new k.1 (settled_adds true now old))
+      (λ _ k. as-made old (state_updated true now old) new k.1 (updated_adds true now old))
 
   -- ---- checks and timeouts
 
@@ -152,7 +131,7 @@ module _ {H P : Type 0} (In : Path → Type 0) where
   check_adds mac now (Some remote) old new s t issued h = either old.lite h
       (λ _ k. same old new (ap (λ (a : AgentRecord H P). a.events) k.1))
       (λ _ k. next k.0 k.2) where
-        next : (top : Option PairRecord) → ChecksTop mac now remote top (all_asked now old) s issued new t → Adds old new
+        next : (top : Option PairRecord) → ChecksTop mac now remote top (all_scheduled now old) s issued new t → Adds old new
         next None (is, made, drawn) = same old new (ap (λ (a : AgentRecord H P). a.events) made)
         next (Some p) (id, drawn, values, is, made) = same old new (ap (λ (a : AgentRecord H P). a.events) made)
 
@@ -194,11 +173,11 @@ module _ {H P : Type 0} (In : Path → Type 0) where
   module _ (mac : H → List ℕ → List ℕ → List ℕ) (q : RequestRecord) (emitted : Emitted) (may : (path : Path) → Has emitted.selected_paths (Some path) → In path) where
     pair : (l r number : ℕ) (s new : AgentRecord H P) → RecordsAndResponds mac q l r number s emitted new → Adds s new
     pair l r number s new (o, mid, nominates, (values, is, made)) =
-        let at : AgentRecord H P = settled (is_some o) (trigger_time q s) mid in
+        let at : AgentRecord H P = state_updated (is_some o) (trigger_time q s) mid in
         more s mid new
         (where_adds (selects_at_requests s && is_valid_at number s.pairs) (pair_served q number s) mid o
         (λ path x. may path (subst (λ (y : Emitted). Has y.selected_paths (Some path)) (sym is) (first-in o None path x))) nominates)
-        (more mid at new (settled_adds (is_some o) (trigger_time q s) mid) (same at new (ap (λ (a : AgentRecord H P). a.events) made)))
+        (more mid at new (updated_adds (is_some o) (trigger_time q s) mid) (same at new (ap (λ (a : AgentRecord H P). a.events) made)))
 
     takes : (l r : ℕ) (number : Option ℕ) (s new : AgentRecord H P) → FindsOrAddsPair mac q l r number s emitted new → Adds s new
     takes l r (Some number) s new h = pair l r number s new h
@@ -226,7 +205,7 @@ module _ {H P : Type 0} (In : Path → Type 0) where
     here (Some l) s new h = resolves (conflict_of s q) l s new h
 
     serves_adds : (s new : AgentRecord H P) → Serves mac q s emitted new → Adds s new
-    serves_adds s new h = either (is_for_other_peer s q) h (λ _ k. kept s new k.1) (λ _ k. here (local_place s.local q) s new k)
+    serves_adds s new h = either (is_for_other_peer s q) (in_turn mac q s new emitted h) (λ _ k. kept s new k.1) (λ _ k. here (local_place s.local q) s new k)
 
     requested_adds : (remote : Option IceCreds) (s new : AgentRecord H P) → MatchOption remote (Queues q s emitted new) (λ _. Serves mac q s emitted new) → Adds s new
     requested_adds None s new h = same s new (ap (λ (a : AgentRecord H P). a.events) h.1)
@@ -293,9 +272,6 @@ module _ {H P : Type 0} (In : Path → Type 0) where
           | inl (inr none) ↦ absurd none
           | inr now ↦ inr now
         ]
-
-    ev : (old new needed : AgentRecord H P) → new ≡ needed → needed.events ≡ old.events → Adds old new
-    ev old new needed is e = same old new (ap (λ (a : AgentRecord H P). a.events) is ∙ e)
 
     pub steps : (old new : AgentRecord H P) (s t : Stream) (call : Call P) (e : Entry) → Mays e → Step mac answers old s call e new t → Adds old new
     steps old new s t (SetMtu target warn) e may (Ok _, reported, h, drawn) = same old new (ap (λ (a : AgentRecord H P). a.events) h.1)

@@ -1,33 +1,17 @@
 -- For each call: what it received was accepted; which early requests are stored; what it owes; what a clear leaves.
-use Rattle.std.proofs.Common.{◌≡◌, ℕ, zero, suc, ◌+◌, ◌-◌, ◌≤◌, ◌&&◌, Bool, true, false, List, [], ◌∷◌, ◌++◌, drop, length, Option, Some, None, is_some, Ok, Err, inl, inr, ◌⊎◌, refl, ap, sym, ◌∙◌, subst, arith, if◌then◌else◌}
-use Rattle.rand_core.specs.Stream.{Stream}
-use Rattle.is_proto.specs.Lists.{Has, head}
-use Rattle.is_proto.specs.declared.error.IceError.{IceError}
-use Rattle.is_candidate.specs.Candidates.{CandidateRecord}
-use Rattle.is_pair.specs.Checks.{Check}
-use Rattle.is_pair.specs.Pairs.{PairRecord, is_valid, is_nominated}
-use Rattle.is_stun.specs.declared.header.Class.{Class}
 use Rattle.is_stun.specs.declared.header.Class.TheVariants as class
 use Rattle.is_stun.specs.declared.header.Method.{Method}
 use Rattle.is_stun.specs.declared.header.Method.TheVariants.{Binding}
-use Rattle.is_stun.specs.Message.{Message}
-use Rattle.is_stun.specs.Timing.{is_modern}
-use Rattle.is_rules.specs.declared.credentials.IceCreds.{IceCreds}
-use Rattle.is_rules.specs.declared.emitted.Issued.{Issued}
-use Rattle.is_rules.specs.declared.emitted.Path.{Path}
-use Rattle.is_rules.specs.Request.{RequestRecord, request_in}
-use Rattle.is_rules.specs.Steps.{Answer, Done, Flag, Unparsed, Rejected, Entry, quiet, is_done, is_rejection, is_not_accepted}
-use Rattle.is_rules.specs.Emitted.{nothing_emitted}
-use Rattle.is_rules.specs.Agent.{AgentRecord}
-use Rattle.is_rules.specs.Queue.{next_request, queue_left, QUEUE_LIMIT, queued_last, request_at}
-use Rattle.is_rules.specs.Accepting.{IsAcceptedOn}
-use Rattle.is_rules.specs.Steps.{Call, AddLocalCandidate, AddRemoteCandidate, InvalidateCandidate, RestartIce, RecreateCandidatePairs, ReceivePacket, HandleTimeout, Step}
-use Rattle.is_rules.specs.Brought.{Brings, IsBrought, IsServing}
-use Rattle.is_rules.specs.Issuing.{WaitsPast, WaitsWith, Waits}
-use Rattle.is_rules.specs.Owed.{Transaction, one_if, count, requested_as, request_of, reply_of, transaction_of, owed}
-use Rattle.is_rules.specs.Effects.{IsNotAccepted, is_clearing, clears}
-use Rattle.std.proofs.lemmas.List.{length-append, length-drop}
-use Rattle.is_rules.specs.Restarting.{early_kept, Recreates}
+use Rattle.is_theorems.proofs.Common.{[], ◌&&◌, ◌++◌, ◌+◌, ◌-◌, ◌∙◌, ◌∷◌, ◌≡◌, ◌≤◌, ◌⊎◌, AddLocalCandidate, AddRemoteCandidate, AgentRecord}
+use Rattle.is_theorems.proofs.Common.{Answer, ap, arith, Bool, Brings, Call, CandidateRecord, Check, Class, clears, count, Done, drop}
+use Rattle.is_theorems.proofs.Common.{early_kept, Entry, Err, false, Flag, HandleTimeout, Has, head, IceCreds, IceError, if◌then◌else◌, inl}
+use Rattle.is_theorems.proofs.Common.{inr, InvalidateCandidate, is_clearing, is_done, is_modern, is_nominated, is_not_accepted}
+use Rattle.is_theorems.proofs.Common.{is_rejection, is_some, is_valid, IsAcceptedOn, IsBrought, IsNotAccepted, IsServing, Issued, length}
+use Rattle.is_theorems.proofs.Common.{length-append, length-drop, List, Message, next_request, None, nothing_emitted, Ok, one_if, Option}
+use Rattle.is_theorems.proofs.Common.{owed, PairRecord, Path, queue_left, QUEUE_LIMIT, queued_last, quiet, ReceivePacket}
+use Rattle.is_theorems.proofs.Common.{RecreateCandidatePairs, Recreates, refl, Rejected, reply_of, request_at, request_in, request_of}
+use Rattle.is_theorems.proofs.Common.{requested_as, RequestRecord, RestartIce, Some, Step, Stream, subst, suc, sym, Transaction}
+use Rattle.is_theorems.proofs.Common.{transaction_of, true, Unparsed, Waits, WaitsPast, WaitsWith, zero, ℕ}
 use Rattle.is_theorems.proofs.RuleEffects.SelectedPaths.{some_is}
 use Rattle.is_theorems.proofs.CallEffects.SettingsRoleAndQueues.{left_after}
 use Rattle.is_theorems.proofs.RuleEffects.EarlierAndNewPairs.{Has-push}

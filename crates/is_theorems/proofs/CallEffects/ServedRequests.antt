@@ -1,48 +1,33 @@
 -- The effects of serving a request on pairs, and which path it selects.
-use Rattle.std.proofs.Common.{◌≡◌, ◌≢◌, ℕ, ◌+◌, ◌<◌, ◌≤◌, ◌&&◌, ◌||◌, Bool, true, false, not, List, [], ◌∷◌, ◌++◌, length, map, position, Option, Some, None, inl, inr, ◌⊎◌, refl, ap, sym, ◌∙◌, subst, arith, if◌then◌else◌}
-use Rattle.std.specs.Prelude.{MatchOption, slice_set}
-use Rattle.std.proofs.lemmas.Bool.{eqb-true, eq-eqb}
-use Rattle.std.proofs.lemmas.List.{length-append}
-use Rattle.is_proto.specs.Lists.{Has}
-use Rattle.is_candidate.specs.Candidates.{CandidateRecord, IsBased, base_of, candidate_at}
-use Rattle.is_pair.specs.Pairs.{PairRecord, is_nominated, with_request, validated, nominated, numbered as with_number}
-use Rattle.is_stun.specs.Theorems.{IsPut}
-use Rattle.is_rules.specs.declared.emitted.Path.{Path}
-use Rattle.is_rules.specs.declared.emitted.Emitted.{Emitted}
-use Rattle.is_rules.specs.declared.places.RemotePlace.{RemotePlace}
-use Rattle.is_rules.specs.declared.places.RemotePlace.TheVariants.{Known, Barred, Unknown, Vacant, Full}
-use Rattle.is_rules.specs.Request.{RequestRecord}
-use Rattle.is_rules.specs.Places.{is_at, is_live, is_reached, is_sender, place_by, local_place, IsRemotePlace}
+use Rattle.is_pair.specs.Pairs.{numbered as with_number}
+use Rattle.is_theorems.proofs.Common.{[], ◌&&◌, ◌++◌, ◌+◌, ◌<◌, ◌||◌, ◌∙◌, ◌∷◌, ◌≡◌, ◌≢◌, ◌≤◌, ◌⊎◌, Absent, AddsUnknownSender}
+use Rattle.is_theorems.proofs.Common.{after_request, AgentRecord, ap, arith, as_taken, Barred, base_of, binding_reply}
+use Rattle.is_theorems.proofs.Common.{binding_role_conflict_reply, Bool, candidate_at, CandidateRecord, carried, change_at, Conflict}
+use Rattle.is_theorems.proofs.Common.{conflict_of, CountsAndServes, Drops, Emitted, eq-eqb, eqb-true, false, FindsOrAddsPair, followed}
+use Rattle.is_theorems.proofs.Common.{formed, Full, given, Has, if◌then◌else◌, in_turn, inl, inr, is_at, is_direct, is_for_other_peer}
+use Rattle.is_theorems.proofs.Common.{is_live, is_misled, is_nominated, is_numbered, is_reached, is_sender, is_vacant, is_valid_at, IsBased}
+use Rattle.is_theorems.proofs.Common.{IsPairBetween, IsPut, IsRemotePlace, IsSenderPlace, issued_as, Known, length, length-append, less-or}
+use Rattle.is_theorems.proofs.Common.{List, list_any, local_place, map, MatchOption, nominated, nominated_by_peer, nominated_by_self}
+use Rattle.is_theorems.proofs.Common.{NominatesWhere, None, not, number_taken, numbered_by_peer, numbers, Option, option_or, Packet}
+use Rattle.is_theorems.proofs.Common.{pair_served, PairRecord, Path, path_between, path_of, place_by, position, Protocol}
+use Rattle.is_theorems.proofs.Common.{RecordsAndResponds, refl, remains, RemotePlace, request_counted, RequestRecord, ResolvesRoleConflict}
+use Rattle.is_theorems.proofs.Common.{ResolvesRoleConflictBy, reversed, selected_in, selection_of, selects_at_requests, Send487}
+use Rattle.is_theorems.proofs.Common.{sender_candidate, served, Serves, slice_set, SocketAddr, Some, subst, switched, switched_sides}
+use Rattle.is_theorems.proofs.Common.{SwitchRole, sym, true, Unknown, Vacant, validated, validated_by_peer, with_pair, with_priority_in}
+use Rattle.is_theorems.proofs.Common.{with_request, with_sender, with_sender_at, written, ℕ}
 use Rattle.is_theorems.proofs.BasicLemmas.EqualAddresses.{both, same_address-sound, same_protocol-sound}
-use Rattle.std.specs.List.{list_any}
-use Rattle.std.specs.Option.{option_or}
-use Rattle.std.specs.declared.net.socket_addr.SocketAddr.{SocketAddr}
-use Rattle.is_proto.specs.declared.proto.Protocol.{Protocol}
-use Rattle.is_candidate.specs.Kinds.{is_direct}
-use Rattle.is_rules.specs.declared.roles.Conflict.{Conflict}
-use Rattle.is_rules.specs.declared.roles.Conflict.TheVariants.{Absent, Send487, SwitchRole}
-use Rattle.is_rules.specs.Emitted.{reversed, selected_in, issued_as}
-use Rattle.is_proto.specs.Packets.{Packet}
 use Rattle.is_stun.specs.declared.header.Class.TheVariants.{Success, Failure}
-use Rattle.is_stun.specs.Checks.{binding_reply, binding_role_conflict_reply}
-use Rattle.is_stun.specs.Writing.{written}
-use Rattle.is_rules.specs.Agent.{AgentRecord}
-use Rattle.is_pair.specs.Multiset.{change_at, is_between, is_numbered, is_valid_at, IsPairBetween}
-use Rattle.is_rules.specs.Sending.{path_between, path_of, carried}
-use Rattle.is_rules.specs.Forming.{formed, with_pair}
-use Rattle.is_rules.specs.Nominating.{nominated_by_self, followed, remains, selection_of, NominatesWhere, numbers}
-use Rattle.is_rules.specs.Roles.{conflict_of, switched, switched_sides, with_priority_in}
-use Rattle.is_rules.specs.Serving.{selects_at_requests, after_request, validated_by_peer, nominated_by_peer, served, with_sender, with_sender_at, sender_candidate, request_counted, pair_served, is_misled, Drops, is_for_other_peer, RecordsAndResponds, FindsOrAddsPair, AddsUnknownSender, CountsAndServes, ResolvesRoleConflictBy, ResolvesRoleConflict, Serves, as_taken, numbered_by_peer}
-use Rattle.is_theorems.specs.Numbered.{given, number_taken}
-use Rattle.is_rules.proofs.PairLists.CountedPairs.{less-or}
-use Rattle.is_rules.specs.Limit.{is_vacant, IsSenderPlace}
+use Rattle.is_pair.specs.Multiset.{is_between}
 use Rattle.is_theorems.proofs.BasicLemmas.VacantIndices.{known-in, vacant-at, off-vacant, length-put, put-here, put-elsewhere}
 use Rattle.is_theorems.proofs.RuleEffects.UnchangedSettings.{Frame, either, admits, where_frame, packet_along}
-use Rattle.is_theorems.proofs.RuleEffects.EarlierAndNewPairs.{Parts, path_in, Fit, IsNominatedIn, Onward, below_max, here, not_below, onward, pushed, Has-push}
+use Rattle.is_theorems.proofs.RuleEffects.EarlierAndNewPairs.{Parts, path_in, Fit, IsNominatedIn, Onward, below_max, here, not_below}
+use Rattle.is_theorems.proofs.RuleEffects.EarlierAndNewPairs.{onward, pushed, Has-push}
 use Rattle.is_theorems.proofs.RuleEffects.TriggeredPairs.{triggered_by, by_trigger}
 use Rattle.is_theorems.proofs.RuleEffects.NominatedPairs.{SelectsPath, selects_path}
-use Rattle.is_theorems.proofs.RuleEffects.ChangedPairs.{Kept_by_self, self_kept, Changed, unchanged, mapped, one_changed, parts_of, nominates}
-use Rattle.is_theorems.proofs.RuleEffects.SelectedPaths.{Evaluates, evaluates_none, Returns, returns_none, returns_one, returns_after, one_pair}
+use Rattle.is_theorems.proofs.RuleEffects.ChangedPairs.{Kept_by_self, self_kept, Changed, unchanged, mapped, one_changed, parts_of}
+use Rattle.is_theorems.proofs.RuleEffects.ChangedPairs.{nominates}
+use Rattle.is_theorems.proofs.RuleEffects.SelectedPaths.{Evaluates, evaluates_none, Returns, returns_none, returns_one, returns_after}
+use Rattle.is_theorems.proofs.RuleEffects.SelectedPaths.{one_pair}
 use Rattle.is_theorems.proofs.CallEffects.ChecksAndResponses.{numbered}
 use Rattle.is_theorems.proofs.BasicLemmas.CandidatesByIndex.{at-append, at-end, found-at, is-listed}
 use Rattle.is_theorems.proofs.BasicLemmas.ServedPairs.{numbered-by, uses-taken}
@@ -660,6 +645,6 @@ module _ (asks : Path → ℕ → Type 0) (met : Path → Type 0) (sent : Path �
       -- a request that is served: its effect on the pairs, and each selected path was valid before
       pub serves_does : (s new : AgentRecord H P) (emitted : Emitted) → ((c : CandidateRecord) → Has s.local c → IsBased c) → Fit (parts_of asks met sent s)
           → (conflict_of s q ≡ Absent → AcceptedNominations s) → (conflict_of s q ≡ SwitchRole → new.controlling ≡ not s.controlling → AcceptedNominations (switched s)) → Serves mac q s emitted new → DoesOrSends487 s emitted new
-      serves_does s new emitted based fit stays turns h = either (is_for_other_peer s q) h
+      serves_does s new emitted based fit stays turns h = either (is_for_other_peer s q) (in_turn mac q s new emitted h)
           (λ _ k. or_sends_487 s new emitted (drops_does s new emitted fit k))
           (λ _ k. here_does (local_place s.local q) s new emitted refl based fit stays turns k)

@@ -1,16 +1,10 @@
 -- `set_settings` sets its value, and does what the setters of the fields do, one after another.
 use native.Mathlib.Omega.{arith}
-use Rattle.std.proofs.Common.{◌≡◌, ℕ, ◌==◌, ◌<◌, ◌&&◌, Bool, true, false, List, [], ◌∷◌, map, refl, ap, sym, subst, ◌∙◌, if◌then◌else◌}
-use Rattle.std.proofs.lemmas.Bool.{eqb-true}
-use Rattle.std.specs.Prelude.{MatchBool}
-use Rattle.rand_core.specs.Stream.{Stream}
-use Rattle.is_candidate.specs.Candidates.{CandidateRecord}
-use Rattle.is_pair.specs.Pairs.{PairRecord, undue}
 use Rattle.is_rules.specs.declared.settings.Settings.{Settings}
-use Rattle.is_rules.specs.Agent.{AgentRecord}
-use Rattle.is_rules.specs.Settings.{with_rtos, with_profile, with_consent, with_retransmits, with_lite_timeout}
-use Rattle.is_rules.specs.Steps.{Becomes, quiet, Done, NotCalled}
-use Rattle.is_theorems.specs.Settings.{AllAreSet, AllAreSetInTurn}
+use Rattle.is_theorems.proofs.Common.{[], ◌&&◌, ◌<◌, ◌==◌, ◌∙◌, ◌∷◌, ◌≡◌, AgentRecord, AllAreSet, AllAreSetInTurn, ap, Becomes, Bool}
+use Rattle.is_theorems.proofs.Common.{CandidateRecord, Done, eqb-true, false, if◌then◌else◌, List, map, MatchBool, NotCalled, PairRecord}
+use Rattle.is_theorems.proofs.Common.{quiet, refl, Stream, subst, sym, true, undue, with_consent, with_lite_timeout, with_profile}
+use Rattle.is_theorems.proofs.Common.{with_retransmits, with_rtos, ℕ}
 use Rattle.is_theorems.proofs.StoredPairs.StoredChecks.{number_same}
 
 pub all-are-set : (H P : Type 0) → AllAreSet H P

@@ -1,56 +1,32 @@
 -- For each call: its effect on settings, credentials, role and queues.
-use Rattle.std.proofs.Common.{◌&&◌, ◌≡◌, ℕ, ◌==◌, Bool, true, false, not, List, [], ◌∷◌, ◌++◌, length, take, drop, Option, Some, None, is_some, Result, Ok, Err, inl, inr, ◌⊎◌, refl, ap, sym, ◌∙◌, subst, if◌then◌else◌}
-use Rattle.std.specs.Prelude.{MatchBool, MatchOption, take_while}
-use Rattle.std.proofs.lemmas.List.{take-append-drop}
-use Rattle.rand_core.specs.Stream.{Stream}
-use Rattle.is_proto.specs.Lists.{same, head}
-use Rattle.is_proto.specs.Packets.{Packet}
-use Rattle.is_proto.specs.declared.error.IceError.{IceError}
-use Rattle.is_candidate.specs.Candidates.{CandidateRecord}
-use Rattle.is_pair.specs.Pairs.{PairRecord}
-use Rattle.is_stun.specs.Message.{Message}
-use Rattle.is_stun.specs.Reading.{Reads}
-use Rattle.is_stun.specs.declared.header.Class.{Class}
 use Rattle.is_stun.specs.declared.header.Class.TheVariants as class
-use Rattle.is_stun.specs.Writing.{written}
-use Rattle.is_stun.specs.declared.timing.StunTiming.{StunTiming}
-use Rattle.is_rules.specs.declared.credentials.IceCreds.{IceCreds}
-use Rattle.is_rules.specs.declared.emitted.Path.{Path}
-use Rattle.is_rules.specs.declared.emitted.Emitted.{Emitted}
-use Rattle.is_rules.specs.declared.emitted.Issued.{Issued}
-use Rattle.is_rules.specs.Request.{RequestRecord, request_in}
-use Rattle.is_rules.specs.Steps.{Answer, Done, Flag, NextTimeout, Unparsed, NotCalled, Rejected, Entry, quiet, done, added, answer_by, is_done}
-use Rattle.is_rules.specs.Emitted.{nothing_emitted, selected_only}
-use Rattle.is_rules.specs.Agent.{AgentRecord}
-use Rattle.is_rules.specs.Sending.{path_of}
-use Rattle.is_rules.specs.Forming.{Combination, FormsAll}
-use Rattle.is_rules.specs.declared.roles.Conflict.TheVariants.{Absent, Send487, SwitchRole}
-use Rattle.is_rules.specs.Roles.{conflict_by, conflict_of, keeps_role, rival, switched}
-use Rattle.is_rules.specs.Settings.{controlling_set, SetsMtu, with_retransmits, with_rtos}
-use Rattle.is_rules.specs.Credentials.{SetsLocal, SetsRemote}
-use Rattle.is_rules.specs.Discarding.{InvalidatesAt, Invalidates, local_to_discard, remote_to_discard}
-use Rattle.is_rules.specs.Discarding.{local_discarded, remote_discarded}
-use Rattle.is_rules.specs.Local.{AddsLocal, appended, enabled_again}
-use Rattle.is_rules.specs.Remote.{AddsRemote, as_remote, with_remote}
-use Rattle.is_rules.specs.Settling.{loses_selected, Reselects}
-use Rattle.is_rules.specs.Restarting.{Restarts, Recreates, restarted, emptied}
-use Rattle.is_rules.specs.Serving.{Drops, Serves}
-use Rattle.is_rules.specs.Queue.{queue_left, next_request, first_taken, request_at, queued, is_outdated}
-use Rattle.is_rules.specs.Answers.{error_noted, HandlesFailure, LeavesRole, is_role_conflict}
-use Rattle.is_rules.specs.Accepting.{Takes, discovered_emitted}
-use Rattle.is_rules.specs.Checking.{all_asked, MayCheck, ChecksTop, check_message}
-use Rattle.is_rules.specs.Timeouts.{at_request, timeout_begun, at_timeout, MaintainsPairs, ServesQueued, TimesOut}
-use Rattle.is_rules.specs.Steps.{Call, SetMtu, SetControlTieBreaker, SetMaxCandidatePairs, SetMaxDiscovered, SetIceLite, SetRenomination, SetConsent, SetProfile, SetTimingAdvance, SetInitialStunRto, SetMaxStunRto, SetMaxStunRetransmits, SetLiteTimeout, SetLocalPreference, SetControlling, SetLocalCredentials, SetRemoteCredentials, SkipPairIds, AddLocalCandidate, AddRemoteCandidate, InvalidateCandidate, RestartIce, RecreateCandidatePairs, ReceivePacket, HandleTimeout, PollTransmit, PollTimeout, PollEvent, Becomes, MayDo, MaySelect, Receives, Step}
-use Rattle.is_rules.specs.Brought.{Brings, IsServing, IsServedPastTests, SwitchesRoleFor, IsRejectedBy, IsRoleSet, role_once}
-use Rattle.is_rules.specs.Issuing.{QueuesPackets, Waits, WaitsPast, IsQueued}
-use Rattle.is_rules.specs.Effects.{tie_set_by, lite_set_by, keeping_set_by, local_after, remote_after}
-use Rattle.is_theorems.proofs.CallEffects.FailedCallsAndNewAgents.{mtu_kept, local_kept, remote_kept, restart_kept, recreation_kept, enrolment_kept, storing_kept}
-use Rattle.is_theorems.proofs.RuleEffects.UnchangedSettings.{Frame, either, frame_of, packet_along, nominates_frame, Stays, Turns, drops, serves, serves_role, handles_success, removes_expired}
+use Rattle.is_theorems.proofs.Common.{[], ◌&&◌, ◌++◌, ◌==◌, ◌∙◌, ◌∷◌, ◌≡◌, ◌⊎◌, Absent, added, AddLocalCandidate, AddRemoteCandidate}
+use Rattle.is_theorems.proofs.Common.{AddsLocal, AddsRemote, AgentRecord, all_scheduled, Answer, answer_by, ap, appended, as_remote, scheduled}
+use Rattle.is_theorems.proofs.Common.{at_request, at_timeout, Becomes, Bool, Brings, Call, CandidateRecord, check_message, ChecksTop, Class}
+use Rattle.is_theorems.proofs.Common.{Combination, conflict_by, conflict_of, controlling_set, discovered_emitted, Done, done, drop, Drops}
+use Rattle.is_theorems.proofs.Common.{Emitted, emptied, enabled_again, Entry, Err, error_noted, false, first_taken, Flag, FormsAll}
+use Rattle.is_theorems.proofs.Common.{HandlesFailure, HandleTimeout, head, IceCreds, IceError, if◌then◌else◌, inl, inr, InvalidateCandidate}
+use Rattle.is_theorems.proofs.Common.{Invalidates, InvalidatesAt, is_done, is_modern, is_outdated, is_role_conflict, is_some, IsQueued}
+use Rattle.is_theorems.proofs.Common.{IsRejectedBy, IsRoleSet, IsServedPastTests, IsServing, Issued, keeping_set_by, keeps_role, LeavesRole}
+use Rattle.is_theorems.proofs.Common.{length, List, lite_set_by, local_after, local_discarded, local_to_discard, loses_selected}
+use Rattle.is_theorems.proofs.Common.{MaintainsPairs, map, MatchBool, MatchOption, MayCheck, MayDo, MaySelect, Message, next_request}
+use Rattle.is_theorems.proofs.Common.{NextTimeout, None, not, NotCalled, nothing_emitted, Ok, Option, Packet, PairRecord, Path, path_left}
+use Rattle.is_theorems.proofs.Common.{path_of, PollEvent, PollTimeout, PollTransmit, queue_left, queued, QueuesPackets, quiet, Reads}
+use Rattle.is_theorems.proofs.Common.{ReceivePacket, Receives, RecreateCandidatePairs, Recreates, refl, Rejected, remote_after}
+use Rattle.is_theorems.proofs.Common.{remote_discarded, remote_to_discard, request_at, request_in, RequestRecord, Reselects, restarted}
+use Rattle.is_theorems.proofs.Common.{RestartIce, Restarts, Result, rival, role_once, same, selected_only, Send487, Serves, ServesQueued}
+use Rattle.is_theorems.proofs.Common.{SetConsent, SetControlling, SetControlTieBreaker, SetIceLite, SetInitialStunRto, SetLiteTimeout}
+use Rattle.is_theorems.proofs.Common.{SetLocalCredentials, SetLocalPreference, SetMaxCandidatePairs, SetMaxDiscovered}
+use Rattle.is_theorems.proofs.Common.{SetMaxStunRetransmits, SetMaxStunRto, SetMtu, SetProfile, SetRemoteCredentials, SetRenomination}
+use Rattle.is_theorems.proofs.Common.{SetsLocal, SetsMtu, SetsRemote, SetTimingAdvance, SkipPairIds, Some, Step, Stream, StunTiming, subst}
+use Rattle.is_theorems.proofs.Common.{switched, SwitchesRoleFor, SwitchRole, sym, take, take-append-drop, take_while, Takes, tie_set_by}
+use Rattle.is_theorems.proofs.Common.{timeout_begun, TimesOut, true, Unparsed, Waits, WaitsPast, with_remote, with_retransmits, with_rtos}
+use Rattle.is_theorems.proofs.Common.{written, ℕ}
+use Rattle.is_theorems.proofs.CallEffects.FailedCallsAndNewAgents.{mtu_kept, local_kept, remote_kept, restart_kept, recreation_kept}
+use Rattle.is_theorems.proofs.CallEffects.FailedCallsAndNewAgents.{enrolment_kept, storing_kept}
+use Rattle.is_theorems.proofs.RuleEffects.UnchangedSettings.{Frame, either, frame_of, packet_along, nominates_frame, Stays, Turns, drops}
+use Rattle.is_theorems.proofs.RuleEffects.UnchangedSettings.{serves, serves_role, handles_success, removes_expired}
 use Rattle.is_theorems.proofs.CallEffects.AddedCandidates.{by_adding_local, by_adding_remote, by_waking}
-use Rattle.is_pair.specs.Due.{asked}
-use Rattle.std.specs.Prelude.{map}
-use Rattle.is_stun.specs.Timing.{is_modern}
-use Rattle.is_rules.specs.Leaving.{path_left}
 
 choose : (b : Bool) {X R : Type 0} (P : X → Type 0) (x y : X) → P (if b then x else y) → (P x → R) → (P y → R) → R
 choose true P x y h f g = f h
@@ -240,12 +216,12 @@ module _ {H P : Type 0} where
     checks now (Some remote) old new s t issued h = either old.lite h
         (λ _ k. (ap (λ (a : AgentRecord H P). frame_of a) k.1, subst (λ i. IsQueued i old.packets new.packets) (sym k.0) (ap (λ (a : AgentRecord H P). a.packets) k.1)))
         (λ _ k. next k.0 k.2) where
-          next : (top : Option PairRecord) → ChecksTop mac now remote top (all_asked now old) s issued new t
+          next : (top : Option PairRecord) → ChecksTop mac now remote top (all_scheduled now old) s issued new t
               → (frame_of new ≡ frame_of old) × IsQueued issued old.packets new.packets
           next None (is, made, drawn) =
               (ap (λ (a : AgentRecord H P). frame_of a) made, subst (λ i. IsQueued i old.packets new.packets) (sym is) (ap (λ (a : AgentRecord H P). a.packets) made))
           next (Some p) (id, drawn, values, is, made) =
-              let asked : AgentRecord H P = all_asked now old in (
+              let asked : AgentRecord H P = all_scheduled now old in (
                 ap (λ (a : AgentRecord H P). frame_of a) made,
                 subst (λ i. IsQueued i old.packets new.packets) (sym is)
                     (packet_along (path_of asked p) (written (mac asked.provider) (Some remote.pass) (check_message asked remote p id)), refl, ap (λ (a : AgentRecord H P). a.packets) made),
@@ -627,6 +603,6 @@ module _ {H P : Type 0} where
     framed PollTimeout (deadline, is, h, drawn) = alike_done _ (NextTimeout deadline) is
         (alike old new _ (NextTimeout deadline) None (by_waking old new deadline h
         (λ made. same_record old new made)
-        (λ at made. same_record (record old { pairs = map (asked at old.timing) old.pairs }) new made)) refl refl refl refl refl (λ k. k) (λ k. inl k) (λ q h. absurd h.3) (λ at by m h. absurd h))
+        (λ at made. same_record (record old { pairs = map (scheduled at old.timing) old.pairs }) new made)) refl refl refl refl refl (λ k. k) (λ k. inl k) (λ q h. absurd h.3) (λ at by m h. absurd h))
     framed PollEvent (given, is, (polled, made), drawn) = moved old new (record old { events = new.events }) _ e _ is made
         (plain old (record old { events = new.events }) _ _ refl refl refl refl refl refl refl (inl refl) (inl refl) (λ q h. absurd h.3) (λ at by m h. absurd h))

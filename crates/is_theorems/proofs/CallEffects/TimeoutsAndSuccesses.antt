@@ -1,30 +1,13 @@
 -- A `handle_timeout` call that serves no early request, and a success response: their effects on pairs, and which
 -- paths they select.
-use Rattle.std.proofs.Common.{◌≡◌, ℕ, ◌||◌, Bool, true, List, Option, Some, None, inl, inr, ◌++◌, ◌&&◌, ◌∷◌, [], ◌<◌, length, refl, ◌⊎◌, ap, sym, ◌∙◌, subst, is_some, if◌then◌else◌, false}
-use Rattle.rand_core.specs.Stream.{Stream}
-use Rattle.is_proto.specs.Lists.{Has}
-use Rattle.is_pair.specs.Checks.{Check}
-use Rattle.is_pair.specs.Pairs.{PairRecord}
-use Rattle.is_stun.specs.Message.{Message}
 use Rattle.is_stun.specs.declared.header.Class.TheVariants as class
-use Rattle.is_stun.specs.Theorems.{IsPut}
-use Rattle.is_rules.specs.Nominating.{stays_nominated, numbers, nomination_of, nomination_number}
-use Rattle.is_rules.specs.declared.emitted.Path.{Path}
-use Rattle.is_rules.specs.declared.emitted.Emitted.{Emitted}
-use Rattle.is_rules.specs.Emitted.{issued_as, selected_in, selected_only}
-use Rattle.is_rules.specs.Agent.{AgentRecord}
-use Rattle.is_rules.specs.Sending.{path_of}
-use Rattle.is_proto.specs.Packets.{Packet}
-use Rattle.is_candidate.specs.Candidates.{CandidateRecord, candidate_at}
-use Rattle.is_candidate.specs.Priorities.{check_priority}
-use Rattle.is_stun.specs.Checks.{binding_request, with_nomination}
-use Rattle.is_stun.specs.Writing.{written}
-use Rattle.is_pair.specs.Due.{asked}
-use Rattle.is_rules.specs.Answers.{keeps_check_on, Records, HandlesSuccess}
-use Rattle.is_rules.specs.Timeouts.{at_timeout, MaintainsPairs}
-use Rattle.is_rules.specs.declared.credentials.IceCreds.{IceCreds}
-use Rattle.is_rules.specs.declared.emitted.Issued.{Issued}
-use Rattle.is_rules.specs.Checking.{username_between, all_asked, IsNextToCheck, ChecksTop, MayCheck}
+use Rattle.is_theorems.proofs.Common.{[], ◌&&◌, ◌++◌, ◌<◌, ◌||◌, ◌∙◌, ◌∷◌, ◌≡◌, ◌⊎◌, AgentRecord, all_scheduled, ap, scheduled, at_timeout}
+use Rattle.is_theorems.proofs.Common.{binding_request, Bool, candidate_at, CandidateRecord, Check, check_priority, ChecksTop, Emitted}
+use Rattle.is_theorems.proofs.Common.{false, HandlesSuccess, Has, IceCreds, if◌then◌else◌, inl, inr, is_some, IsNextToCheck, IsPut, Issued}
+use Rattle.is_theorems.proofs.Common.{issued_as, keeps_check_on, length, List, MaintainsPairs, MayCheck, Message, nomination_number}
+use Rattle.is_theorems.proofs.Common.{nomination_of, None, numbers, Option, Packet, PairRecord, Path, path_left, path_of, Records, refl}
+use Rattle.is_theorems.proofs.Common.{selected_in, selected_only, Some, stays_nominated, Stream, subst, sym, true, username_between}
+use Rattle.is_theorems.proofs.Common.{with_nomination, written, ℕ}
 use Rattle.is_theorems.proofs.RuleEffects.UnchangedSettings.{Frame, frame_of, packet_along, either, nominates_frame, removes_expired}
 use Rattle.is_theorems.proofs.CallEffects.UnchangedTimingAndBases.{Rest, nominates_rest, removes_expired_rest}
 use Rattle.is_theorems.proofs.RuleEffects.SelectedPaths.{Returns, returns_one, returns_two, returns_after, returns_before}
@@ -34,18 +17,6 @@ use Rattle.is_theorems.proofs.CallEffects.ChecksAndResponses.{records, check_mov
 use Rattle.is_theorems.proofs.BasicLemmas.EqualAddresses.{both}
 use Rattle.is_theorems.proofs.BasicLemmas.CandidatesByIndex.{is-listed}
 use Rattle.is_theorems.proofs.BasicLemmas.PairsInTurn.{next-has}
-use Rattle.is_rules.specs.Leaving.{path_left}
-
-pub none_some : (p : Path) → None ≡ Some p → ⊥
-none_some p h = cc
-
-pub selected_are : (first second : Option Path) (path : Path) → Has (selected_in first second) (Some path) → (first ≡ Some path) ⊎ (second ≡ Some path)
-selected_are None second path (inl e) = inr e
-selected_are None second path (inr (inl e)) = let no : None ≡ Some path = e in cc
-selected_are None second path (inr (inr h)) = absurd h
-selected_are (Some p) second path (inl e) = inl e
-selected_are (Some p) second path (inr (inl e)) = inr e
-selected_are (Some p) second path (inr (inr h)) = absurd h
 
 pub only_pair : (path : Option Path) → (selected_only path).selected_paths ≡ selected_in path None
 only_pair None = refl
@@ -87,11 +58,11 @@ module _ (asks : Path → ℕ → Type 0) (met : Path → Type 0) (sent : Path �
   check_out mac now (Some remote) old new s t issued known fit h = either old.lite h
       (λ _ k. inl k.0)
       (λ _ k. next k.0 k.1 k.2) where
-        next : (top : Option PairRecord) → IsNextToCheck now (all_asked now old) top → ChecksTop mac now remote top (all_asked now old) s issued new t
+        next : (top : Option PairRecord) → IsNextToCheck now (all_scheduled now old) top → ChecksTop mac now remote top (all_scheduled now old) s issued new t
             → CheckOut mac (frame_of old) old.local old.packets issued new.packets
         next None none (is, made, drawn) = inl is
         next (Some p) chosen (id, drawn, values, is, made) =
-            let o = Has-map (asked now old.timing) old.pairs p (next-has now (all_asked now old) p chosen) in
+            let o = Has-map (scheduled now old.timing) old.pairs p (next-has now (all_scheduled now old) p chosen) in
             let at : p.local < length old.local = subst (λ (q : PairRecord). q.local < length old.local) o.2 (fit.placed o.0 o.1).0 in
             inr (
               path_of old p,
@@ -115,7 +86,7 @@ module _ (asks : Path → ℕ → Type 0) (met : Path → Type 0) (sent : Path �
   check_number mac now (Some remote) old new s t issued h = either old.lite h
       (λ _ k. ap (λ (a : AgentRecord H P). a.selected_pair) k.1)
       (λ _ k. next k.0 k.2) where
-        next : (top : Option PairRecord) → ChecksTop mac now remote top (all_asked now old) s issued new t → new.selected_pair ≡ old.selected_pair
+        next : (top : Option PairRecord) → ChecksTop mac now remote top (all_scheduled now old) s issued new t → new.selected_pair ≡ old.selected_pair
         next None (is, made, drawn) = ap (λ (a : AgentRecord H P). a.selected_pair) made
         next (Some p) (id, drawn, values, is, made) = ap (λ (a : AgentRecord H P). a.selected_pair) made
 

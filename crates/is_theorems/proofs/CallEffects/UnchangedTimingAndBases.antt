@@ -1,33 +1,14 @@
 -- What no step except a setter changes: limits, and that host and relayed local candidates are their own base.
-use Rattle.std.proofs.Common.{◌≡◌, ℕ, zero, suc, ◌&&◌, Bool, true, false, List, [], ◌∷◌, length, Option, Some, None, inl, inr, refl, ap, ◌∙◌}
-use Rattle.std.specs.Prelude.{MatchOption}
-use Rattle.std.specs.List.{list_any}
-use Rattle.rand_core.specs.Stream.{Stream}
-use Rattle.is_proto.specs.Lists.{Has}
-use Rattle.is_candidate.specs.Candidates.{CandidateRecord, IsBased, candidate_at}
-use Rattle.is_pair.specs.Pairs.{PairRecord}
-use Rattle.is_stun.specs.declared.timing.StunTiming.{StunTiming}
-use Rattle.is_rules.specs.declared.credentials.IceCreds.{IceCreds}
-use Rattle.is_rules.specs.declared.places.RemotePlace.{RemotePlace}
-use Rattle.is_rules.specs.declared.places.RemotePlace.TheVariants.{Known, Barred, Unknown, Vacant, Full}
-use Rattle.is_rules.specs.declared.emitted.Issued.{Issued}
-use Rattle.is_rules.specs.declared.emitted.Path.{Path}
-use Rattle.is_rules.specs.declared.emitted.Emitted.{Emitted}
-use Rattle.is_rules.specs.Request.{RequestRecord}
-use Rattle.is_rules.specs.Places.{local_place}
-use Rattle.is_rules.specs.declared.roles.Conflict.{Conflict}
-use Rattle.is_rules.specs.declared.roles.Conflict.TheVariants.{Absent, Send487, SwitchRole}
-use Rattle.is_rules.specs.Agent.{AgentRecord}
-use Rattle.is_pair.specs.Multiset.{is_valid_at}
-use Rattle.is_rules.specs.Forming.{formed, with_pair}
-use Rattle.is_rules.specs.Nominating.{Nominates, NominatesWhere, with_selection, nominated_emitted}
-use Rattle.is_rules.specs.Roles.{conflict_of, switched}
-use Rattle.is_rules.specs.Serving.{selects_at_requests, Drops, is_misled, is_for_other_peer, pair_served, request_counted, with_sender, with_sender_at, RecordsAndResponds, FindsOrAddsPair, AddsUnknownSender, CountsAndServes, ResolvesRoleConflictBy, ResolvesRoleConflict, Serves}
-use Rattle.is_rules.specs.Settling.{Reselects}
-use Rattle.is_rules.specs.Checking.{all_asked, ChecksTop, MayCheck}
-use Rattle.is_rules.specs.Timeouts.{is_expired, expired_gone, RemovesExpired, at_timeout, MaintainsPairs}
+use Rattle.is_theorems.proofs.Common.{[], ◌&&◌, ◌∙◌, ◌∷◌, ◌≡◌, Absent, AddsUnknownSender, AgentRecord, all_scheduled, ap, at_timeout, Barred}
+use Rattle.is_theorems.proofs.Common.{Bool, candidate_at, CandidateRecord, ChecksTop, Conflict, conflict_of, CountsAndServes, Drops}
+use Rattle.is_theorems.proofs.Common.{Emitted, expired_gone, false, FindsOrAddsPair, formed, Full, Has, IceCreds, in_turn, inl, inr}
+use Rattle.is_theorems.proofs.Common.{is_expired, is_for_other_peer, is_misled, is_valid_at, IsBased, Issued, Known, length, List, list_any}
+use Rattle.is_theorems.proofs.Common.{local_place, MaintainsPairs, MatchOption, MayCheck, nominated_emitted, Nominates, NominatesWhere}
+use Rattle.is_theorems.proofs.Common.{None, Option, pair_served, PairRecord, Path, path_left, RecordsAndResponds, refl, RemotePlace}
+use Rattle.is_theorems.proofs.Common.{RemovesExpired, request_counted, RequestRecord, Reselects, ResolvesRoleConflict}
+use Rattle.is_theorems.proofs.Common.{ResolvesRoleConflictBy, selects_at_requests, Send487, Serves, Some, Stream, StunTiming, suc, switched}
+use Rattle.is_theorems.proofs.Common.{SwitchRole, true, Unknown, Vacant, with_pair, with_selection, with_sender, with_sender_at, zero, ℕ}
 use Rattle.is_theorems.proofs.RuleEffects.UnchangedSettings.{either}
-use Rattle.is_rules.specs.Leaving.{path_left}
 
 pub record Rest : Type 0 where
   pub local : List CandidateRecord
@@ -68,7 +49,7 @@ module _ {H P : Type 0} where
   check_rest mac now (Some remote) old new s t issued h = either old.lite h
       (λ _ k. ap (λ (a : AgentRecord H P). rest_of a) k.1)
       (λ _ k. next k.0 k.2) where
-        next : (top : Option PairRecord) → ChecksTop mac now remote top (all_asked now old) s issued new t → Rests old new
+        next : (top : Option PairRecord) → ChecksTop mac now remote top (all_scheduled now old) s issued new t → Rests old new
         next None (is, made, drawn) = ap (λ (a : AgentRecord H P). rest_of a) made
         next (Some p) (id, drawn, values, is, made) = ap (λ (a : AgentRecord H P). rest_of a) made
 
@@ -107,7 +88,7 @@ module _ {H P : Type 0} where
     here (Some l) s new emitted h = resolves_by (conflict_of s q) l s new emitted h
 
     pub serves_rest : (s new : AgentRecord H P) (emitted : Emitted) → Serves mac q s emitted new → Rests s new
-    serves_rest s new emitted h = either (is_for_other_peer s q) h (λ _ k. same s new k.1) (λ _ k. here (local_place s.local q) s new emitted k)
+    serves_rest s new emitted h = either (is_for_other_peer s q) (in_turn mac q s new emitted h) (λ _ k. same s new k.1) (λ _ k. here (local_place s.local q) s new emitted k)
 
 -- ---- based candidates
 

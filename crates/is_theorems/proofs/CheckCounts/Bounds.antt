@@ -1,13 +1,8 @@
 -- How many checks a pair gets at most: any pair, or one whose first check followed a request.
-use Rattle.std.proofs.Common.{◌≡◌, ℕ, zero, suc, ◌*◌, ◌<◌, ◌≤◌, ◌==◌, Bool, true, false, min, nat_lt, nat_le, Option, Some, None, unwrap_or, if◌then◌else◌, refl, ap, sym, ◌∙◌, arith}
-use Rattle.std.specs.Option.{option_map_or}
-use Rattle.std.proofs.lemmas.Bool.Decides.{nat_tests}
-use Rattle.is_proto.specs.Times.{SECOND}
-use Rattle.is_stun.specs.declared.timing.StunTiming.{StunTiming}
-use Rattle.is_stun.specs.Timing.{is_modern, timeout_of}
-use Rattle.is_pair.specs.Due.{ASKED_TIME, early_span, early_time, is_asked_first}
-use Rattle.is_pair.specs.Pairs.{PairRecord}
-use Rattle.is_theorems.specs.SilentPairs.{EndsAsked, EndsWith, asked_time, check_time}
+use Rattle.is_theorems.proofs.Common.{◌*◌, ◌<◌, ◌==◌, ◌∙◌, ◌≡◌, ◌≤◌, ap, arith, ASKED_TIME, asked_time, Bool, check_time, early_span}
+use Rattle.is_theorems.proofs.Common.{early_time, EndsAsked, EndsWith, false, if◌then◌else◌, is_asked_first, is_modern, min, nat_le, nat_lt}
+use Rattle.is_theorems.proofs.Common.{nat_tests, None, Option, option_map_or, PairRecord, refl, SECOND, Some, StunTiming, suc, sym}
+use Rattle.is_theorems.proofs.Common.{timeout_of, true, unwrap_or, zero, ℕ}
 use Rattle.is_theorems.proofs.CheckCounts.SentChecks.{no-case}
 
 -- so many checks: of each pair, or only of those whose first check followed a request

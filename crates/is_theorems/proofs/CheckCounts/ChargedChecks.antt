@@ -1,20 +1,11 @@
 -- A frugal caller: at most 49 checks are sent in a second. Each one adds 25 ms to the charges, which the first one leaves at least 25 ms after
 -- it. After each call they are at most 250 ms ahead of it, or all calls since that first one came 25 ms apart.
-use Rattle.std.proofs.Common.{◌≡◌, ℕ, ◌+◌, ◌*◌, ◌<◌, ◌≤◌, ◌&&◌, Bool, true, false, nat_le, nat_lt, max, List, [], ◌∷◌, cond, Some, inl, inr, ◌⊎◌, refl, ap, sym, ◌∙◌, subst, arith, if◌then◌else◌}
-use Rattle.std.proofs.lemmas.Bool.Decides.{nat_tests}
-use Rattle.std.proofs.lemmas.List.Sums.{sum_by-cons}
-use Rattle.std.proofs.Math.Nat.{zero-add}
-use Rattle.rand_core.specs.Stream.{Stream}
-use Rattle.is_proto.specs.Times.{MAX, MILLISECOND, SECOND, later}
-use Rattle.is_candidate.specs.Candidates.{CandidateRecord}
-use Rattle.is_rules.specs.Agent.{AgentRecord}
-use Rattle.is_rules.specs.Charging.{CHARGE, charged_after, has_credit}
-use Rattle.is_rules.specs.Polls.{is_early, pacing_of}
-use Rattle.is_rules.specs.Steps.{Call, Entry, HandleTimeout, PollTimeout, Step}
-use Rattle.is_theorems.specs.CheckRate.{checks_in_span, is_in_span, lets_call, sends_check, IsFrugal, IsSlowAt, MayCallAt}
-use Rattle.is_theorems.specs.Logs.{Logged}
-use Rattle.is_theorems.specs.NotStarved.{is_timeout}
-use Rattle.is_theorems.specs.Shared.{BeforeEach, IsNewlyCreated, SharedRun}
+use Rattle.is_theorems.proofs.Common.{[], ◌&&◌, ◌*◌, ◌+◌, ◌<◌, ◌∙◌, ◌∷◌, ◌≡◌, ◌≤◌, ◌⊎◌, AgentRecord, ap, arith, BeforeEach, Bool, Call}
+use Rattle.is_theorems.proofs.Common.{CandidateRecord, CHARGE, charged_after, checks_in_span, cond, Entry, false, HandleTimeout, has_credit}
+use Rattle.is_theorems.proofs.Common.{if◌then◌else◌, inl, inr, is_early, is_in_span, is_timeout, IsFrugal, IsNewlyCreated, IsSlowAt, later}
+use Rattle.is_theorems.proofs.Common.{lets_call, List, Logged, MAX, max, MayCallAt, MILLISECOND, nat_le, nat_lt, nat_tests, pacing_of}
+use Rattle.is_theorems.proofs.Common.{PollTimeout, refl, SECOND, sends_check, SharedRun, Some, Step, Stream, subst, sum_by-cons, sym, true}
+use Rattle.is_theorems.proofs.Common.{zero-add, ℕ}
 use Rattle.is_theorems.proofs.CheckCounts.IssuedChecks.{timeout-charged, timeout-timed}
 use Rattle.is_theorems.proofs.CheckCounts.LastTimes.{charges-stay, last-stays}
 use Rattle.is_theorems.proofs.CheckCounts.PacedChecks.{befores, has_called, none-some, polled, polls, some-is, spans-none, within}
@@ -184,7 +175,10 @@ module _ (from : ℕ) (ends : from + 2 * SECOND ≤ MAX) where
         let-by-call mid last s t x.entry b.0 now b.2 (subst (λ (c : Call P). Step mac answers mid s c x.entry last t) b.1 step)
         (λ was was_is since. elim (frugal b.0 b.1 sooner (has_called mac answers from first mid log new run was was_is since)) [
           | inl may ↦ waits first mid log new run rest earlier b.0 sooner (search may) was was_is since
-          | inr credit ↦ let after = credit.0 in let ahead = credit.1 in inr (omega (arith, after), omega (arith, ahead))
+          | inr credit ↦ elim (credit was was_is since) [
+            | inl gone ↦ inl (omega (arith, gone))
+            | inr within_ ↦ let after = within_.0 in let ahead = within_.1 in inr (omega (arith, after), omega (arith, ahead))
+          ]
         ]) at last_is le
     waits first last (x ∷ log) new (mid, s, t, run, based, step) (frugal, rest) (here, earlier) now before (inr (inr (other, may))) at last_is le =
         subst (λ c. Comes at now c) (sym (charges-stay mac answers x.call mid last s t x.entry (search other) step))
@@ -259,7 +253,10 @@ module _ (from : ℕ) (ends : from + 2 * SECOND ≤ MAX) where
               (timed mid last x.entry s t (checks_in_span from SECOND before) now (subst (λ (c : Call P). Step mac answers mid s c x.entry last t) is step)
               (λ early at last_is le. elim (frugal now is early (has_called mac answers from first mid before new run at last_is le)) [
                 | inl may ↦ waits first mid before new run rest slow now early (search may) at last_is le
-                | inr credit ↦ let after = credit.0 in let ahead = credit.1 in inr (omega (arith, after), omega (arith, ahead))
+                | inr credit ↦ elim (credit at last_is le) [
+                  | inl gone ↦ inl (omega (arith, gone))
+                  | inr within_ ↦ let after = within_.0 in let ahead = within_.1 in inr (omega (arith, after), omega (arith, ahead))
+                ]
               ])
               so_far)
           by call is so_far =

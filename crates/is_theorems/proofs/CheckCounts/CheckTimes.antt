@@ -1,12 +1,8 @@
 -- When checks of a pair from which nothing arrives are sent at the earliest.
-use Rattle.std.proofs.Common.{◌≡◌, ℕ, zero, suc, ◌+◌, ◌-◌, ◌*◌, ◌/◌, ◌^◌, ◌<◌, ◌≤◌, ◌&&◌, Bool, true, false, min, nat_lt, inl, inr, refl, arith, if◌then◌else◌}
-use Rattle.std.proofs.lemmas.Bool.{cases_lt}
-use Rattle.std.proofs.lemmas.Bool.Decides.{nat_tests}
-use Rattle.std.proofs.Math.Nat.{pow-le-pow_right, mul-le-mul_left}
-use Rattle.is_proto.specs.Times.{MAX, MILLISECOND, later}
-use Rattle.is_stun.specs.declared.timing.StunTiming.{StunTiming}
-use Rattle.is_stun.specs.Timing.{EARLY_RETRANSMITS, delay_millis, early_delay, is_modern, resend_delay}
-use Rattle.is_theorems.specs.SilentPairs.{check_time, least_delay, rto_after}
+use Rattle.is_theorems.proofs.Common.{◌&&◌, ◌*◌, ◌+◌, ◌-◌, ◌/◌, ◌<◌, ◌^◌, ◌≡◌, ◌≤◌, arith, Bool, cases_lt, check_time, delay_millis}
+use Rattle.is_theorems.proofs.Common.{early_delay, EARLY_RETRANSMITS, false, if◌then◌else◌, inl, inr, is_modern, later, least_delay, MAX}
+use Rattle.is_theorems.proofs.Common.{MILLISECOND, min, mul-le-mul_left, nat_lt, nat_tests, pow-le-pow_right, refl, resend_delay, rto_after}
+use Rattle.is_theorems.proofs.Common.{StunTiming, suc, true, zero, ℕ}
 
 -- ---- the RTO
 

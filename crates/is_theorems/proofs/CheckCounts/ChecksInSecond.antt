@@ -1,13 +1,7 @@
 -- How many checks are sent in a second, with the default pacing interval.
-use Rattle.std.proofs.Common.{◌≡◌, ℕ, ◌*◌, ◌≤◌, Bool, true, false, min, List, [], ◌∷◌, arith, if◌then◌else◌}
-use Rattle.is_proto.specs.Times.{MILLISECOND, SECOND}
-use Rattle.is_candidate.specs.Candidates.{CandidateRecord}
-use Rattle.is_rules.specs.Agent.{AgentRecord}
-use Rattle.is_rules.specs.Charging.{CHARGE, EARLY_TA, has_credit}
-use Rattle.is_rules.specs.Polls.{LEAST_TA, is_early, pacing_of}
-use Rattle.is_theorems.specs.CheckRate.{checks_in_span, IsLateAt, IsPacedAt, IsSlowAt, SecondsHaveFewChecks}
-use Rattle.is_theorems.specs.Logs.{Logged}
-use Rattle.is_theorems.specs.Shared.{BeforeEach, SharedRun}
+use Rattle.is_theorems.proofs.Common.{[], ◌*◌, ◌∷◌, ◌≡◌, ◌≤◌, AgentRecord, arith, BeforeEach, Bool, CandidateRecord, CHARGE, checks_in_span}
+use Rattle.is_theorems.proofs.Common.{EARLY_TA, false, has_credit, if◌then◌else◌, is_early, IsLateAt, IsPacedAt, IsSlowAt, LEAST_TA, List}
+use Rattle.is_theorems.proofs.Common.{Logged, MILLISECOND, min, pacing_of, SECOND, SecondsHaveFewChecks, SharedRun, true, ℕ}
 use Rattle.is_theorems.proofs.CheckCounts.ChargedChecks.{charged-are-few}
 use Rattle.is_theorems.proofs.CheckCounts.PacedChecks.{checks-are-paced}
 

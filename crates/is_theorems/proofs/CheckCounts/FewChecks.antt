@@ -1,16 +1,10 @@
 -- So a pair without a response gets few checks while no request arrives on it.
-use Rattle.std.proofs.Common.{◌≡◌, ℕ, ◌+◌, ◌<◌, ◌≤◌, false, List, Some, None, inr, ◌⊎◌, refl, ap, sym, subst, arith}
-use Rattle.is_proto.specs.Lists.{Has}
-use Rattle.is_proto.specs.Times.{MAX}
-use Rattle.is_candidate.specs.Candidates.{CandidateRecord}
-use Rattle.is_stun.specs.declared.timing.StunTiming.{StunTiming}
-use Rattle.is_pair.specs.Pairs.{PairRecord}
-use Rattle.is_rules.specs.Agent.{AgentRecord}
-use Rattle.is_rules.specs.Request.{RequestRecord}
-use Rattle.is_theorems.specs.Logs.{Logged}
-use Rattle.is_theorems.specs.Shared.{BeforeEach, IsNewlyCreated, SharedRun}
-use Rattle.is_theorems.specs.SilentPairs.{AreInOrder, AskedPairsGetFew, IsSilent, IsTimedBy, SilencesHaveFewChecks, SilentPairsGetFew, StaysSilent, time_of}
-use Rattle.is_theorems.proofs.CheckCounts.Bounds.{Bound, Covers, Ends, IsPastRequest, any, any-ends, brought, brought-ends, covers-any, covers-brought}
+use Rattle.is_theorems.proofs.Common.{◌+◌, ◌<◌, ◌≡◌, ◌≤◌, ◌⊎◌, AgentRecord, ap, AreInOrder, arith, AskedPairsGetFew, BeforeEach}
+use Rattle.is_theorems.proofs.Common.{CandidateRecord, false, Has, inr, IsNewlyCreated, IsSilent, IsTimedBy, List, Logged, MAX, None}
+use Rattle.is_theorems.proofs.Common.{PairRecord, refl, RequestRecord, SharedRun, SilencesHaveFewChecks, SilentPairsGetFew, Some}
+use Rattle.is_theorems.proofs.Common.{StaysSilent, StunTiming, subst, sym, time_of, ℕ}
+use Rattle.is_theorems.proofs.CheckCounts.Bounds.{Bound, Covers, Ends, IsPastRequest, any, any-ends, brought, brought-ends, covers-any}
+use Rattle.is_theorems.proofs.CheckCounts.Bounds.{covers-brought}
 use Rattle.is_theorems.proofs.CheckCounts.KeptPairs.{IsKept}
 use Rattle.is_theorems.proofs.CheckCounts.FollowedPairs.{IsOnSchedule, followed-few, watched}
 use Rattle.is_theorems.proofs.CheckCounts.OnSchedule.{few-of}

@@ -1,19 +1,14 @@
 -- Each pair without a response is on schedule, and one that is followed from some time on: what the rules and checks leave of that.
-use Rattle.std.proofs.Common.{◌≡◌, ℕ, ◌+◌, ◌<◌, ◌≤◌, Bool, true, false, List, Option, Some, None, inl, inr, ◌⊎◌, refl, ap, sym, ◌∙◌, subst, arith}
-use Rattle.is_proto.specs.Lists.{Has}
-use Rattle.is_proto.specs.Times.{MAX}
-use Rattle.is_stun.specs.declared.timing.StunTiming.{StunTiming}
-use Rattle.is_pair.specs.Checks.{Check}
-use Rattle.is_pair.specs.Due.{asked, due_time_of, is_due, is_possible}
-use Rattle.is_pair.specs.Pairs.{PairRecord, TakesAnswer, checked, is_valid, new_pair, taking_over}
-use Rattle.is_pair.specs.States.{is_valid_state}
-use Rattle.is_rules.specs.Sound.{is_started_state}
+use Rattle.is_theorems.proofs.Common.{◌+◌, ◌<◌, ◌∙◌, ◌≡◌, ◌≤◌, ◌⊎◌, ap, arith, scheduled, Bool, Check, checked, due_time_of, false, Has, inl}
+use Rattle.is_theorems.proofs.Common.{inr, is_due, is_possible, is_started_state, is_valid, is_valid_state, List, MAX, new_pair, None}
+use Rattle.is_theorems.proofs.Common.{Option, PairRecord, refl, Some, StunTiming, subst, sym, TakesAnswer, taking_over, true, ℕ}
 use Rattle.is_theorems.proofs.CallEffects.ChecksAndResponses.{Has-get}
 use Rattle.is_theorems.proofs.CheckCounts.Bounds.{Bound, Covers, Ends, IsPastRequest, covered-before}
 use Rattle.is_theorems.proofs.CheckCounts.PastTimes.{IsPast, Watch, new-past, past-on}
 use Rattle.is_theorems.proofs.CheckCounts.KeptPairs.{IsOfSilent, IsRequested}
-use Rattle.is_theorems.proofs.CheckCounts.SentChecks.{no-case, none-some, some-is, sent-valid, answered-valid, answered-invalid, from-invalid, AreOpen}
-use Rattle.is_theorems.proofs.CheckCounts.OnSchedule.{Keeps, few-of, run-as, asked-run, sent-past, sent-keeps}
+use Rattle.is_theorems.proofs.CheckCounts.SentChecks.{no-case, none-some, some-is, sent-valid, answered-valid, answered-invalid}
+use Rattle.is_theorems.proofs.CheckCounts.SentChecks.{from-invalid, AreOpen}
+use Rattle.is_theorems.proofs.CheckCounts.OnSchedule.{Keeps, few-of, run-as, scheduled-run, sent-past, sent-keeps}
 
 module _ (t : StunTiming) (bound : Bound) where
   -- ---- each pair
@@ -154,8 +149,8 @@ module _ (t : StunTiming) (bound : Bound) where
 
   -- ---- due times and checks
 
-  pub asked-on : (o : Option Watch) (by clock now : ℕ) (p : PairRecord) → by ≤ now → clock ≤ now → IsOnSchedule o by clock p → IsOnSchedule o now now (asked now t p)
-  asked-on o by clock now p passes less on invalid =
+  pub scheduled-on : (o : Option Watch) (by clock now : ℕ) (p : PairRecord) → by ≤ now → clock ≤ now → IsOnSchedule o by clock p → IsOnSchedule o now now (scheduled now t p)
+  scheduled-on o by clock now p passes less on invalid =
       let k = on invalid in
       let clean = past-on clock now p less k.past in record {
         past = record {
@@ -168,13 +163,13 @@ module _ (t : StunTiming) (bound : Bound) where
           unanswered = clean.unanswered;
           started = clean.started;
         };
-        unrequested = λ any none. asked-run t bound 0 by now now p passes invalid clean (λ asked. no-case (sym any ∙ asked)) (k.unrequested any none);
-        followed = λ w is same. (let f = k.followed w is same in record { more = f.more; keeps = λ still covers. asked-run t bound w.count by now now p passes invalid clean covers (f.keeps still covers) });
+        unrequested = λ any none. scheduled-run t bound 0 by now now p passes invalid clean (λ asked. no-case (sym any ∙ asked)) (k.unrequested any none);
+        followed = λ w is same. (let f = k.followed w is same in record { more = f.more; keeps = λ still covers. scheduled-run t bound w.count by now now p passes invalid clean covers (f.keeps still covers) });
       }
 
   -- a check of a pair that is due and possible leaves it on schedule
   pub checked-on : Ends t bound → 0 < t.max_retransmits → (o : Option Watch) → ((w : Watch) → o ≡ Some w → (w.requests ≡ 0) ⊎ IsPastRequest t bound) → (now : ℕ) (c : Bool) (id : List ℕ) (p : PairRecord)
-      → now < MAX → IsOnSchedule o now now p → due_time_of now t p ≤ now → is_possible now t p ≡ true → IsOnSchedule o now now (checked now t c id (asked now t p))
+      → now < MAX → IsOnSchedule o now now p → due_time_of now t p ≤ now → is_possible now t p ≡ true → IsOnSchedule o now now (checked now t c id (scheduled now t p))
   checked-on ends limit o fits now c id p goes_on on is_due possible invalid =
       let k = on (sent-valid p.state invalid) in record {
         past = sent-past t bound ends limit now c id p k.past;
@@ -182,15 +177,15 @@ module _ (t : StunTiming) (bound : Bound) where
             (k.unrequested any none);
         followed = λ w is same. (let f = k.followed w is same in record {
           more = f.more;
-          keeps = λ still covers. (let was : Covers bound p = covered-before bound now p (checked now t c id (asked now t p)) refl refl refl covers in
+          keeps = λ still covers. (let was : Covers bound p = covered-before bound now p (checked now t c id (scheduled now t p)) refl refl refl covers in
               sent-keeps t bound ends limit now c id p w.count now (omega arith) goes_on (sent-valid p.state invalid) k.past was
               (elim (fits w is) [ inl none ↦ inl (still ∙ none) | inr long ↦ inr long ]) is_due possible (f.keeps still was));
         });
       }
 
   -- due times that are fixed at the time of the last check leave it on schedule
-  pub asked-at : (o : Option Watch) (by clock : ℕ) (p : PairRecord) → IsOnSchedule o by clock p → IsOnSchedule o by clock (asked by t p)
-  asked-at o by clock p on invalid =
+  pub scheduled-at : (o : Option Watch) (by clock : ℕ) (p : PairRecord) → IsOnSchedule o by clock p → IsOnSchedule o by clock (scheduled by t p)
+  scheduled-at o by clock p on invalid =
       let k = on invalid in record {
         past = record {
           answers = k.past.answers;
@@ -202,8 +197,8 @@ module _ (t : StunTiming) (bound : Bound) where
           unanswered = k.past.unanswered;
           started = k.past.started;
         };
-        unrequested = λ any none. asked-run t bound 0 by by clock p (omega arith) invalid k.past (λ asked. no-case (sym any ∙ asked)) (k.unrequested any none);
-        followed = λ w is same. (let f = k.followed w is same in record { more = f.more; keeps = λ still covers. asked-run t bound w.count by by clock p (omega arith) invalid k.past covers (f.keeps still covers) });
+        unrequested = λ any none. scheduled-run t bound 0 by by clock p (omega arith) invalid k.past (λ asked. no-case (sym any ∙ asked)) (k.unrequested any none);
+        followed = λ w is same. (let f = k.followed w is same in record { more = f.more; keeps = λ still covers. scheduled-run t bound w.count by by clock p (omega arith) invalid k.past covers (f.keeps still covers) });
       }
 
   -- ---- a pair that is followed from here on

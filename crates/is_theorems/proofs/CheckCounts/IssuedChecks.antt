@@ -1,37 +1,20 @@
 -- Only a `handle_timeout` call that serves no early request sends a check, and its time is the last time then. All other calls leave the
 -- last time, except that one that serves an early request may be the first. Each check is charged.
-use Rattle.std.proofs.Common.{◌≡◌, ℕ, Bool, true, false, List, Option, Some, None, Ok, Err, inl, inr, ◌⊎◌, refl, ap, sym, ◌∙◌, unwrap_or, if◌then◌else◌}
-use Rattle.std.specs.Prelude.{MatchOption}
-use Rattle.std.specs.Option.{option_map_or}
-use Rattle.rand_core.specs.Stream.{Stream}
-use Rattle.is_candidate.specs.Candidates.{CandidateRecord, candidate_at}
-use Rattle.is_stun.specs.declared.header.Class.{Class}
 use Rattle.is_stun.specs.declared.header.Class.TheVariants as class
-use Rattle.is_stun.specs.Message.{Message}
-use Rattle.is_stun.specs.Timing.{is_modern}
-use Rattle.is_rules.specs.Accepting.{Takes}
-use Rattle.is_rules.specs.Agent.{AgentRecord}
-use Rattle.is_rules.specs.Answers.{HandlesFailure}
-use Rattle.is_rules.specs.Charging.{charged_after}
-use Rattle.is_rules.specs.declared.credentials.IceCreds.{IceCreds}
-use Rattle.is_rules.specs.declared.emitted.Emitted.{Emitted}
-use Rattle.is_rules.specs.declared.emitted.Issued.{Issued}
-use Rattle.is_rules.specs.declared.emitted.Path.{Path}
-use Rattle.is_rules.specs.declared.places.RemotePlace.{RemotePlace}
-use Rattle.is_rules.specs.declared.places.RemotePlace.TheVariants.{Known, Barred, Unknown, Vacant, Full}
-use Rattle.is_rules.specs.declared.roles.Conflict.{Conflict}
-use Rattle.is_rules.specs.declared.roles.Conflict.TheVariants.{Absent, Send487, SwitchRole}
-use Rattle.is_rules.specs.Forming.{formed, with_pair}
-use Rattle.is_rules.specs.Places.{local_place}
-use Rattle.is_rules.specs.Queue.{request_at}
-use Rattle.is_rules.specs.Request.{RequestRecord, request_in}
-use Rattle.is_rules.specs.Roles.{conflict_of, switched}
-use Rattle.is_rules.specs.Serving.{is_misled, is_for_other_peer, request_counted, with_sender, with_sender_at, AddsUnknownSender, CountsAndServes, Drops, FindsOrAddsPair, Queues, RecordsAndResponds, ResolvesRoleConflict, ResolvesRoleConflictBy, Serves}
-use Rattle.is_rules.specs.Steps.{Call, SetMtu, SetControlTieBreaker, SetMaxCandidatePairs, SetMaxDiscovered, SetIceLite, SetRenomination, SetConsent, SetProfile, SetTimingAdvance, SetInitialStunRto, SetMaxStunRto, SetMaxStunRetransmits, SetLiteTimeout, SetLocalPreference, SetControlling, SetLocalCredentials, SetRemoteCredentials, SkipPairIds, AddLocalCandidate, AddRemoteCandidate, InvalidateCandidate, RestartIce, RecreateCandidatePairs, ReceivePacket, HandleTimeout, PollTransmit, PollTimeout, PollEvent, Entry, Receives, Step}
-use Rattle.is_rules.specs.Timeouts.{at_request, timeout_begun, MaintainsPairs, ServesQueued}
-use Rattle.is_theorems.specs.CheckRate.{sends_check}
-use Rattle.is_theorems.specs.NotStarved.{is_timeout}
-use Rattle.is_theorems.specs.Pending.{is_request}
+use Rattle.is_theorems.proofs.Common.{◌∙◌, ◌≡◌, ◌⊎◌, Absent, AddLocalCandidate, AddRemoteCandidate, AddsUnknownSender, AgentRecord, ap}
+use Rattle.is_theorems.proofs.Common.{at_request, Barred, Bool, Call, candidate_at, CandidateRecord, charged_after, Class, Conflict}
+use Rattle.is_theorems.proofs.Common.{conflict_of, CountsAndServes, Drops, Emitted, Entry, Err, false, FindsOrAddsPair, formed, Full}
+use Rattle.is_theorems.proofs.Common.{HandlesFailure, HandleTimeout, IceCreds, if◌then◌else◌, in_turn, inl, inr, InvalidateCandidate}
+use Rattle.is_theorems.proofs.Common.{is_for_other_peer, is_misled, is_modern, is_request, is_timeout, Issued, Known, List, local_place}
+use Rattle.is_theorems.proofs.Common.{MaintainsPairs, MatchOption, Message, None, Ok, Option, option_map_or, Path, PollEvent, PollTimeout}
+use Rattle.is_theorems.proofs.Common.{PollTransmit, Queues, ReceivePacket, Receives, RecordsAndResponds, RecreateCandidatePairs, refl}
+use Rattle.is_theorems.proofs.Common.{RemotePlace, request_at, request_counted, request_in, RequestRecord, ResolvesRoleConflict}
+use Rattle.is_theorems.proofs.Common.{ResolvesRoleConflictBy, RestartIce, Send487, sends_check, Serves, ServesQueued, SetConsent}
+use Rattle.is_theorems.proofs.Common.{SetControlling, SetControlTieBreaker, SetIceLite, SetInitialStunRto, SetLiteTimeout}
+use Rattle.is_theorems.proofs.Common.{SetLocalCredentials, SetLocalPreference, SetMaxCandidatePairs, SetMaxDiscovered}
+use Rattle.is_theorems.proofs.Common.{SetMaxStunRetransmits, SetMaxStunRto, SetMtu, SetProfile, SetRemoteCredentials, SetRenomination}
+use Rattle.is_theorems.proofs.Common.{SetTimingAdvance, SkipPairIds, Some, Step, Stream, switched, SwitchRole, sym, Takes, timeout_begun}
+use Rattle.is_theorems.proofs.Common.{true, Unknown, unwrap_or, Vacant, with_pair, with_sender, with_sender_at, ℕ}
 use Rattle.is_theorems.proofs.CallEffects.CallsThatEmitNothing.{calm, is_calm}
 use Rattle.is_theorems.proofs.PunctualTimeouts.UnchangedPacing.{Pace, maintains, serves}
 use Rattle.is_theorems.proofs.RuleEffects.NotedErrors.{by_failure}
@@ -81,7 +64,7 @@ module _ {H P : Type 0} where
     here (Some l) s new emitted h = resolves (conflict_of s q) l s new emitted h
 
     responds : (s new : AgentRecord H P) (emitted : Emitted) → Serves mac q s emitted new → asks emitted ≡ false
-    responds s new emitted h = either (is_for_other_peer s q) h
+    responds s new emitted h = either (is_for_other_peer s q) (in_turn mac q s new emitted h)
         (λ _ k. drops s new emitted k)
         (λ _ k. here (local_place s.local q) s new emitted k)
 

@@ -1,47 +1,22 @@
 -- What holds of each pair, and of valid ones in any case: the rules keep it, except that checks are sent and due times are fixed.
-use Rattle.std.proofs.Common.{◌≡◌, ℕ, ◌+◌, ◌<◌, ◌≤◌, ◌&&◌, ◌||◌, Bool, true, false, not, List, [], ◌∷◌, ◌++◌, map, filter, max, nat_lt, Option, Some, None, Result, Ok, Err, inl, inr, ◌⊎◌, refl, ap, sym, ◌∙◌, subst, arith, if◌then◌else◌}
-use Rattle.std.specs.Prelude.{MatchOption, slice_set, unwrap_or}
-use Rattle.std.specs.List.{list_any}
-use Rattle.std.proofs.lemmas.Bool.{eqb-true}
-use Rattle.is_proto.specs.declared.error.IceError.{IceError}
-use Rattle.is_proto.specs.Lists.{Has}
-use Rattle.is_candidate.specs.Candidates.{CandidateRecord, candidate_at}
-use Rattle.is_proto.specs.Times.{counted}
-use Rattle.is_pair.specs.declared.pair.states.CheckState.{CheckState}
-use Rattle.is_pair.specs.declared.pair.states.CheckState.TheVariants.{Succeeded}
-use Rattle.is_pair.specs.declared.pair.states.NominationState.{NominationState}
-use Rattle.is_pair.specs.declared.pair.states.NominationState.TheVariants.{Nominated, Success}
-use Rattle.is_pair.specs.States.{is_valid_state}
-use Rattle.is_pair.specs.Multiset.{change_at, change_pair, is_numbered, is_valid_at, without}
-use Rattle.is_pair.specs.Pairs.{PairRecord, TakesAnswer, is_nominated, is_valid, new_pair, nominated, numbered, taking_over, undue, validated, with_request}
-use Rattle.is_stun.specs.declared.header.Class.{Class}
 use Rattle.is_stun.specs.declared.header.Class.TheVariants as class
-use Rattle.is_stun.specs.Message.{Message}
-use Rattle.is_stun.specs.Timing.{is_modern}
-use Rattle.is_rules.specs.declared.credentials.IceCreds.{IceCreds}
-use Rattle.is_rules.specs.declared.emitted.Emitted.{Emitted}
-use Rattle.is_rules.specs.declared.emitted.Path.{Path}
-use Rattle.is_rules.specs.declared.places.RemotePlace.{RemotePlace}
-use Rattle.is_rules.specs.declared.places.RemotePlace.TheVariants.{Known, Barred, Unknown, Vacant, Full}
-use Rattle.is_rules.specs.declared.roles.Conflict.{Conflict}
-use Rattle.is_rules.specs.declared.roles.Conflict.TheVariants.{Absent, Send487, SwitchRole}
-use Rattle.is_rules.specs.Accepting.{Takes, HandlesPacket, discovered_emitted}
-use Rattle.is_rules.specs.Agent.{AgentRecord}
-use Rattle.is_rules.specs.Answers.{HandlesFailure, HandlesSuccess}
-use Rattle.is_rules.specs.Each.{Each}
-use Rattle.is_rules.specs.Forming.{Combination, combined_priority, formed, Formed, FormsAll, pair_of, SidesRecord, sides_of, Tries, with_pair}
-use Rattle.is_rules.specs.Nominating.{followed, nominated_by_self, Nominates, NominatesWhere, numbers, remains, selection_of}
-use Rattle.is_rules.specs.Places.{local_place}
-use Rattle.is_rules.specs.Request.{RequestRecord, request_in}
-use Rattle.is_rules.specs.Roles.{conflict_of, switched, switched_sides, with_priority_in}
-use Rattle.is_rules.specs.Serving.{after_request, AddsUnknownSender, as_taken, CountsAndServes, Drops, FindsOrAddsPair, is_misled, is_for_other_peer, nominated_by_peer, numbered_by_peer, pair_served, Queues, RecordsAndResponds, request_counted, ResolvesRoleConflict, ResolvesRoleConflictBy, selects_at_requests, served, Serves, trigger_time, with_sender, with_sender_at}
-use Rattle.is_rules.specs.Settling.{settled, Reselects}
-use Rattle.is_rules.specs.States.{evaluated}
-use Rattle.is_rules.specs.Steps.{Entry, Receives}
-use Rattle.is_rules.specs.Timeouts.{expired_gone, is_expired, RemovesExpired}
-use Rattle.is_rules.proofs.PairLists.ChosenPair.{chosen-able}
-use Rattle.is_rules.proofs.PairLists.RemovedInTurn.{removes, RemovesInTurn}
-use Rattle.is_rules.proofs.PairLists.RisingNumbers.{AllBelow, AreRising}
+use Rattle.is_theorems.proofs.Common.{[], ◌&&◌, ◌++◌, ◌+◌, ◌<◌, ◌||◌, ◌∙◌, ◌∷◌, ◌≡◌, ◌≤◌, ◌⊎◌, Absent, AddsUnknownSender, after_request}
+use Rattle.is_theorems.proofs.Common.{AgentRecord, AllBelow, ap, AreRising, arith, as_taken, Barred, Bool, candidate_at, CandidateRecord}
+use Rattle.is_theorems.proofs.Common.{change_at, change_pair, CheckState, chosen-able, Class, Combination, combined_priority, Conflict}
+use Rattle.is_theorems.proofs.Common.{conflict_of, counted, CountsAndServes, discovered_emitted, Drops, Each, Emitted, Entry, eqb-true, Err}
+use Rattle.is_theorems.proofs.Common.{evaluated, expired_gone, false, filter, FindsOrAddsPair, followed, Formed, formed, FormsAll, Full}
+use Rattle.is_theorems.proofs.Common.{HandlesFailure, HandlesPacket, HandlesSuccess, Has, IceCreds, IceError, if◌then◌else◌, in_turn, inl}
+use Rattle.is_theorems.proofs.Common.{inr, is_expired, is_for_other_peer, is_misled, is_modern, is_nominated, is_numbered, is_valid}
+use Rattle.is_theorems.proofs.Common.{is_valid_at, is_valid_state, Known, List, list_any, local_place, map, MatchOption, max, Message}
+use Rattle.is_theorems.proofs.Common.{nat_lt, new_pair, Nominated, nominated, nominated_by_peer, nominated_by_self, Nominates}
+use Rattle.is_theorems.proofs.Common.{NominatesWhere, NominationState, None, not, numbered, numbered_by_peer, numbers, Ok, Option, pair_of}
+use Rattle.is_theorems.proofs.Common.{pair_served, PairRecord, Path, Queues, Receives, RecordsAndResponds, refl, remains, RemotePlace}
+use Rattle.is_theorems.proofs.Common.{removes, RemovesExpired, RemovesInTurn, request_counted, request_in, RequestRecord, Reselects}
+use Rattle.is_theorems.proofs.Common.{ResolvesRoleConflict, ResolvesRoleConflictBy, Result, selection_of, selects_at_requests, Send487}
+use Rattle.is_theorems.proofs.Common.{served, Serves, state_updated, sides_of, SidesRecord, slice_set, Some, subst, Succeeded, Success, switched}
+use Rattle.is_theorems.proofs.Common.{switched_sides, SwitchRole, sym, Takes, TakesAnswer, taking_over, Tries, trigger_time, true, undue}
+use Rattle.is_theorems.proofs.Common.{Unknown, unwrap_or, Vacant, validated, with_pair, with_priority_in, with_request, with_sender}
+use Rattle.is_theorems.proofs.Common.{with_sender_at, without, ℕ}
 use Rattle.is_theorems.proofs.BasicLemmas.ServedPairs.{taken-time}
 use Rattle.is_theorems.proofs.CallEffects.ChecksAndResponses.{Has-get, put_at}
 use Rattle.is_theorems.proofs.RuleEffects.ChangedPairs.{eligible_valid, Has-map, self_kept}
@@ -297,7 +272,7 @@ module _ (floor clock : ℕ) (Q : PairRecord → Type 0) where
       gives-up-kept now old new path h k = either (list_any (is_expired now old) old.pairs) h
           (λ _ j. made-kept (evaluated now j.0) new j.2
           (nominates-kept (expired_gone now old) j.0 path j.1 (kept-filter old.next_number (λ p. not (is_expired now old p)) old.pairs k)))
-          (λ _ j. made-kept (settled true now old) new j.1 k)
+          (λ _ j. made-kept (state_updated true now old) new j.1 k)
 
       pub reselects-kept : (loses : Bool) (old new : AgentRecord H P) (path : Option Path) → Reselects loses old path new → Leads old new
       reselects-kept true old new path (named, nominates, made) k =
@@ -363,7 +338,7 @@ module _ (floor clock : ℕ) (Q : PairRecord → Type 0) where
         here (Some l) a new emitted h k = resolves-by (conflict_of a q) l a new emitted h k
 
         pub serves-kept : (a new : AgentRecord H P) (emitted : Emitted) → Serves mac q a emitted new → Leads a new
-        serves-kept a new emitted h k = either (is_for_other_peer a q) h (λ _ j. made-kept a new j.1 k) (λ _ j. here (local_place a.local q) a new emitted j k)
+        serves-kept a new emitted h k = either (is_for_other_peer a q) (in_turn mac q a new emitted h) (λ _ j. made-kept a new j.1 k) (λ _ j. here (local_place a.local q) a new emitted j k)
 
         requested : (remote : Option IceCreds) (a new : AgentRecord H P) (emitted : Emitted) → MatchOption remote (Queues q a emitted new) (λ _. Serves mac q a emitted new) → Leads a new
         requested None a new emitted h k = made-kept _ new h.1 k

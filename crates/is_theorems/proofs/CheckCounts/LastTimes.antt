@@ -1,18 +1,16 @@
 -- Calls that are not `handle_timeout` leave the time of the last one, and that up to which checks are charged.
-use Rattle.std.proofs.Common.{◌≡◌, ℕ, ◌==◌, Bool, true, false, List, Option, Some, None, Ok, Err, ap, ◌∙◌}
-use Rattle.std.specs.Prelude.{MatchBool}
-use Rattle.rand_core.specs.Stream.{Stream}
-use Rattle.is_candidate.specs.Candidates.{CandidateRecord}
-use Rattle.is_rules.specs.Agent.{AgentRecord}
-use Rattle.is_rules.specs.declared.emitted.Path.{Path}
-use Rattle.is_rules.specs.Discarding.{local_to_discard, remote_to_discard, InvalidatesAt}
-use Rattle.is_rules.specs.Forming.{Combination, FormsAll}
-use Rattle.is_rules.specs.Settings.{with_retransmits}
-use Rattle.is_rules.specs.Settling.{loses_selected, Reselects}
-use Rattle.is_rules.specs.Steps.{Call, SetMtu, SetControlTieBreaker, SetMaxCandidatePairs, SetMaxDiscovered, SetIceLite, SetRenomination, SetConsent, SetProfile, SetTimingAdvance, SetInitialStunRto, SetMaxStunRto, SetMaxStunRetransmits, SetLiteTimeout, SetLocalPreference, SetControlling, SetLocalCredentials, SetRemoteCredentials, SkipPairIds, AddLocalCandidate, AddRemoteCandidate, InvalidateCandidate, RestartIce, RecreateCandidatePairs, ReceivePacket, HandleTimeout, PollTransmit, PollTimeout, PollEvent, Becomes, Entry, NotCalled, quiet, Step}
-use Rattle.is_theorems.specs.NotStarved.{is_timeout}
+use Rattle.is_theorems.proofs.Common.{◌==◌, ◌∙◌, ◌≡◌, AddLocalCandidate, AddRemoteCandidate, AgentRecord, ap, Becomes, Bool, Call}
+use Rattle.is_theorems.proofs.Common.{CandidateRecord, Combination, Entry, Err, false, FormsAll, HandleTimeout, InvalidateCandidate}
+use Rattle.is_theorems.proofs.Common.{InvalidatesAt, is_timeout, List, local_to_discard, loses_selected, MatchBool, None, NotCalled, Ok}
+use Rattle.is_theorems.proofs.Common.{Option, Path, PollEvent, PollTimeout, PollTransmit, quiet, ReceivePacket, RecreateCandidatePairs}
+use Rattle.is_theorems.proofs.Common.{remote_to_discard, Reselects, RestartIce, SetConsent, SetControlling, SetControlTieBreaker}
+use Rattle.is_theorems.proofs.Common.{SetIceLite, SetInitialStunRto, SetLiteTimeout, SetLocalCredentials, SetLocalPreference}
+use Rattle.is_theorems.proofs.Common.{SetMaxCandidatePairs, SetMaxDiscovered, SetMaxStunRetransmits, SetMaxStunRto, SetMtu, SetProfile}
+use Rattle.is_theorems.proofs.Common.{SetRemoteCredentials, SetRenomination, SetTimingAdvance, SkipPairIds, Some, Step, Stream, true}
+use Rattle.is_theorems.proofs.Common.{with_retransmits, ℕ}
 use Rattle.is_theorems.proofs.CallEffects.AddedCandidates.{by_adding_local, by_adding_remote, by_waking}
-use Rattle.is_theorems.proofs.CallEffects.FailedCallsAndNewAgents.{mtu_kept, local_kept, remote_kept, restart_kept, recreation_kept, enrolment_kept, storing_kept}
+use Rattle.is_theorems.proofs.CallEffects.FailedCallsAndNewAgents.{mtu_kept, local_kept, remote_kept, restart_kept, recreation_kept}
+use Rattle.is_theorems.proofs.CallEffects.FailedCallsAndNewAgents.{enrolment_kept, storing_kept}
 use Rattle.is_theorems.proofs.PunctualTimeouts.UnchangedPacing.{Pace, receives, reselects-same}
 
 -- both times

@@ -1,11 +1,7 @@
 -- How many checks these are with the settings of each profile.
-use Rattle.std.proofs.Common.{◌≡◌, ℕ, suc, ◌+◌, ◌*◌, ◌<◌, true, false, refl, ap, sym, ◌∙◌, arith}
-use Rattle.is_proto.specs.Times.{MILLISECOND}
-use Rattle.is_stun.specs.declared.timing.StunTiming.{StunTiming}
-use Rattle.is_stun.specs.Timing.{delay_millis, is_modern, timeout_of}
-use Rattle.is_pair.specs.Due.{early_time}
-use Rattle.is_rules.specs.Settings.{modern_settings, original_settings}
-use Rattle.is_theorems.specs.SilentPairs.{EndsWith, IsPastRequests, NumbersOfChecks, asked_time, check_time, least_delay, timing_of}
+use Rattle.is_theorems.proofs.Common.{◌*◌, ◌+◌, ◌<◌, ◌∙◌, ◌≡◌, ap, arith, asked_time, check_time, delay_millis, early_time, EndsWith, false}
+use Rattle.is_theorems.proofs.Common.{is_modern, IsPastRequests, least_delay, MILLISECOND, modern_settings, NumbersOfChecks}
+use Rattle.is_theorems.proofs.Common.{original_settings, refl, StunTiming, suc, sym, timeout_of, timing_of, true, ℕ}
 use Rattle.is_theorems.proofs.CheckCounts.CheckTimes.{time-first, time-next}
 
 never : {X : Type 0} → false ≡ true → X

@@ -1,19 +1,18 @@
 -- A pair without a response is checked no sooner than on schedule while no request arrives on it, and so gets few checks.
-use Rattle.std.proofs.Common.{◌≡◌, ℕ, suc, ◌+◌, ◌-◌, ◌*◌, ◌<◌, ◌≤◌, ◌==◌, ◌&&◌, ◌||◌, Bool, true, false, not, min, nat_lt, List, length, Option, Some, None, unwrap_or, inl, inr, ◌⊎◌, refl, ap, sym, ◌∙◌, subst, arith, if◌then◌else◌}
-use Rattle.std.specs.Option.{option_map_or}
-use Rattle.std.proofs.lemmas.Bool.{cases_lt, eqb-true}
-use Rattle.is_proto.specs.Times.{MAX, SECOND, later}
-use Rattle.is_stun.specs.declared.timing.StunTiming.{StunTiming}
-use Rattle.is_stun.specs.Timing.{early_delay, is_modern, last_resend_delay, resend_delay, timeout_of}
-use Rattle.is_pair.specs.Checks.{Check, last_check, unanswered_count}
-use Rattle.is_pair.specs.Due.{asked, computed_due_time, delay_of, due_time_of, early_span, is_asked_first, is_due, is_early_on, is_early_silence, is_heard, is_in_time, is_possible, is_repeated_early, is_silent, is_within, is_within_series, is_young, silent_count, usual_delay, hushed_delay, is_hushed, repeated_delay}
-use Rattle.is_pair.specs.Pairs.{PairRecord, check_of, checked, is_recent, is_nominated, is_valid}
-use Rattle.is_pair.specs.States.{is_nominating, nomination_once_sent}
-use Rattle.is_theorems.specs.SilentPairs.{check_time, least_delay, rto_after}
+use Rattle.is_theorems.proofs.Common.{◌&&◌, ◌*◌, ◌+◌, ◌-◌, ◌<◌, ◌==◌, ◌||◌, ◌∙◌, ◌≡◌, ◌≤◌, ◌⊎◌, ap, arith, scheduled, Bool, cases_lt, Check}
+use Rattle.is_theorems.proofs.Common.{check_of, check_time, checked, computed_due_time, delay_of, due_time_of, early_delay, early_span}
+use Rattle.is_theorems.proofs.Common.{eqb-true, false, hushed_delay, if◌then◌else◌, inl, inr, is_asked_first, is_due, is_early_on}
+use Rattle.is_theorems.proofs.Common.{is_early_silence, is_heard, is_hushed, is_in_time, is_modern, is_nominated, is_nominating}
+use Rattle.is_theorems.proofs.Common.{is_possible, is_recent, is_repeated_early, is_silent, is_valid, is_within, is_within_series, is_young}
+use Rattle.is_theorems.proofs.Common.{last_check, last_resend_delay, later, least_delay, length, List, MAX, min, nat_lt}
+use Rattle.is_theorems.proofs.Common.{nomination_once_sent, None, not, Option, option_map_or, PairRecord, refl, repeated_delay}
+use Rattle.is_theorems.proofs.Common.{resend_delay, rto_after, SECOND, silent_count, Some, StunTiming, subst, suc, sym, timeout_of, true}
+use Rattle.is_theorems.proofs.Common.{unanswered_count, unwrap_or, usual_delay, ℕ}
 use Rattle.is_theorems.proofs.CheckCounts.PastTimes.{IsPast}
 use Rattle.is_theorems.proofs.CheckCounts.Bounds.{Bound, Covers, Ends, IsPastRequest, asked-first, covered, span_of}
 use Rattle.is_theorems.proofs.CheckCounts.CheckTimes.{early-rising, later-next, least-within, rto-rising, rto-within, time-first}
-use Rattle.is_theorems.proofs.CheckCounts.SentChecks.{no-case, none-some, some-is, lt-of, not-lt, is-lt, all-free, sent-last, sent-length, sent-free, sent-started, sent-calm, calm-next}
+use Rattle.is_theorems.proofs.CheckCounts.SentChecks.{no-case, none-some, some-is, lt-of, not-lt, is-lt, all-free, sent-last, sent-length}
+use Rattle.is_theorems.proofs.CheckCounts.SentChecks.{sent-free, sent-started, sent-calm, calm-next}
 
 -- the first check after a request, if there was one
 abbrev pub Again : PairRecord → ℕ → Type 0
@@ -187,9 +186,9 @@ module _ (t : StunTiming) (bound : Bound) where
           (least-within t span gap h.count) (rto-within t h.count) h.past
 
   -- fixing the due time leaves it on schedule
-  pub asked-run : (base by now clock : ℕ) (p : PairRecord) → by ≤ now → is_valid p ≡ false → IsPast clock p → Covers bound p → Keeps base by p → Keeps base now (asked now t p)
-  asked-run base by now clock p passes invalid clean covers (inl same) = inl same
-  asked-run base by now clock p passes invalid clean covers (inr h) = inr (run-as base by now p (Some (due_time_of now t p)) p.last_error p.priority passes h
+  pub scheduled-run : (base by now clock : ℕ) (p : PairRecord) → by ≤ now → is_valid p ≡ false → IsPast clock p → Covers bound p → Keeps base by p → Keeps base now (scheduled now t p)
+  scheduled-run base by now clock p passes invalid clean covers (inl same) = inl same
+  scheduled-run base by now clock p passes invalid clean covers (inr h) = inr (run-as base by now p (Some (due_time_of now t p)) p.last_error p.priority passes h
       (λ k is. (let least = due-least base by now clock p clean h covers passes invalid in let same : due_time_of now t p ≡ k = some-is (due_time_of now t p) k is in omega (arith, least, same))))
 
   -- ---- when it ends
@@ -289,10 +288,10 @@ module _ (t : StunTiming) (bound : Bound) where
 
   module _ (ends : Ends t bound) (limit : 0 < t.max_retransmits) (now : ℕ) (c : Bool) (id : List ℕ) (p : PairRecord) where
     abbrev sent : PairRecord
-    sent = checked now t c id (asked now t p)
+    sent = checked now t c id (scheduled now t p)
 
     abbrev check : Check
-    check = check_of now c id (asked now t p)
+    check = check_of now c id (scheduled now t p)
 
     again-sent : (start : ℕ) → Again p start → Again sent start
     again-sent start (inl none) = inl (none.0, ap (λ n. if n == 0 then None else Some (unwrap_or p.first_after_request now)) none.0)

@@ -1,21 +1,12 @@
 -- A patient caller: at most as many checks are sent in a span of time as pacing intervals begin in it.
-use Rattle.std.proofs.Common.{◌≡◌, ℕ, ◌+◌, ◌*◌, ◌<◌, ◌≤◌, ◌&&◌, Bool, true, false, nat_le, nat_lt, min, List, [], ◌∷◌, cond, Option, Some, None, inl, inr, ◌⊎◌, refl, ap, sym, ◌∙◌, subst, arith}
-use Rattle.std.specs.Option.{option_map_or}
-use Rattle.std.proofs.lemmas.Bool.Decides.{nat_tests}
-use Rattle.std.proofs.lemmas.List.Sums.{sum_by-cons}
-use Rattle.std.proofs.Math.Nat.{add-mul, le-div_iff_mul-le, one-mul, zero-add, zero-mul}
-use Rattle.rand_core.specs.Stream.{Stream}
-use Rattle.is_proto.specs.Times.{MAX, SECOND, later}
-use Rattle.is_candidate.specs.Candidates.{CandidateRecord}
-use Rattle.is_rules.specs.Agent.{AgentRecord}
-use Rattle.is_rules.specs.Polls.{is_idle, pacing_of, soon, NextTimeoutFrom}
-use Rattle.is_rules.specs.Steps.{Answer, Call, HandleTimeout, PollTimeout, Entry, Step}
 use Rattle.is_rules.specs.TimeoutTimes.{soonest}
-use Rattle.is_rules.proofs.PollsAndResponses.NextTimeout.{paced, paced-from}
-use Rattle.is_theorems.specs.CheckRate.{begun_in, check_count, checks_in_span, is_before, is_in_span, lets_call, sends_check, ChecksArePaced, IsPacedAt, IsPatient, HasCalled, MayCallAt, TimeoutsCheck}
-use Rattle.is_theorems.specs.Logs.{Logged}
-use Rattle.is_theorems.specs.NotStarved.{is_timeout, timeout_count}
-use Rattle.is_theorems.specs.Shared.{BeforeEach, IsNewlyCreated, SharedRun}
+use Rattle.is_theorems.proofs.Common.{[], ◌&&◌, ◌*◌, ◌+◌, ◌<◌, ◌∙◌, ◌∷◌, ◌≡◌, ◌≤◌, ◌⊎◌, add-mul, AgentRecord, Answer, ap, arith, BeforeEach}
+use Rattle.is_theorems.proofs.Common.{begun_in, Bool, Call, CandidateRecord, check_count, checks_in_span, ChecksArePaced, cond, Entry}
+use Rattle.is_theorems.proofs.Common.{false, HandleTimeout, HasCalled, inl, inr, is_before, is_idle, is_in_span, is_timeout, IsNewlyCreated}
+use Rattle.is_theorems.proofs.Common.{IsPacedAt, IsPatient, later, le-div_iff_mul-le, lets_call, List, Logged, MAX, MayCallAt, min, nat_le}
+use Rattle.is_theorems.proofs.Common.{nat_lt, nat_tests, NextTimeoutFrom, None, one-mul, Option, option_map_or, paced, paced-from}
+use Rattle.is_theorems.proofs.Common.{pacing_of, PollTimeout, refl, SECOND, sends_check, SharedRun, Some, soon, Step, Stream, subst}
+use Rattle.is_theorems.proofs.Common.{sum_by-cons, sym, timeout_count, TimeoutsCheck, true, zero-add, zero-mul, ℕ}
 use Rattle.is_theorems.proofs.CheckCounts.IssuedChecks.{others-send-none, timeout-timed, IsTimedAt}
 use Rattle.is_theorems.proofs.CheckCounts.LastTimes.{last-stays}
 

@@ -1,9 +1,5 @@
 -- Nothing in a pair is later than a time.
-use Rattle.std.proofs.Common.{◌≡◌, ℕ, ◌≤◌, true, Some, None, refl, arith}
-use Rattle.is_proto.specs.Lists.{Has}
-use Rattle.is_pair.specs.Checks.{Check}
-use Rattle.is_pair.specs.Pairs.{PairRecord, new_pair}
-use Rattle.is_rules.specs.Sound.{is_started_state}
+use Rattle.is_theorems.proofs.Common.{◌≡◌, ◌≤◌, arith, Check, Has, is_started_state, new_pair, None, PairRecord, refl, Some, true, ℕ}
 use Rattle.is_theorems.proofs.CheckCounts.SentChecks.{AreOpen, none-some}
 
 -- a pair, with the requests and the checks that it had

@@ -1,22 +1,12 @@
 -- What a check leaves of the stored checks of a pair, and of its states.
-use Rattle.std.proofs.Common.{◌≡◌, ℕ, suc, ◌-◌, ◌<◌, ◌≤◌, true, false, min, nat_lt, List, [], ◌∷◌, ◌++◌, length, drop, reverse, position, get_or, Option, Some, None, unwrap_or, inl, inr, refl, ap, sym, ◌∙◌, subst, arith}
-use Rattle.std.specs.Prelude.{slice_get}
-use Rattle.std.proofs.Math.Seq.{get_or-append_seam}
-use Rattle.std.proofs.lemmas.Bool.Decides.{nat_tests}
-use Rattle.std.proofs.lemmas.List.{drop-append-le, length-append, length-drop, reverse-append}
-use Rattle.std.proofs.lemmas.List.Quantifiers.{position-Some}
-use Rattle.std.proofs.lemmas.Option.{slice_get-get_or}
-use Rattle.is_proto.specs.Lists.{Has}
-use Rattle.is_stun.specs.declared.timing.StunTiming.{StunTiming}
-use Rattle.is_pair.specs.declared.pair.states.CheckState.{CheckState}
-use Rattle.is_pair.specs.declared.pair.states.CheckState.TheVariants.{Waiting, InProgress, Succeeded}
-use Rattle.is_pair.specs.declared.pair.states.NominationState.{NominationState}
-use Rattle.is_pair.specs.declared.pair.states.NominationState.TheVariants.{None as Unnominated, Nominated, Attempt, Success}
-use Rattle.is_pair.specs.Checks.{Check, is_answered, last_check, last_checks, unanswered_count}
-use Rattle.is_pair.specs.Due.{computed_due_time, next_due_time}
-use Rattle.is_pair.specs.Pairs.{PairRecord}
-use Rattle.is_pair.specs.States.{is_valid_state, nomination_once_sent, state_from, state_once_answered, state_once_sent}
-use Rattle.is_rules.specs.Sound.{is_started_state}
+use Rattle.is_pair.specs.declared.pair.states.NominationState.TheVariants.{None as Unnominated}
+use Rattle.is_theorems.proofs.Common.{[], ◌++◌, ◌-◌, ◌<◌, ◌∙◌, ◌∷◌, ◌≡◌, ◌≤◌, ap, arith, Attempt, Check, CheckState, computed_due_time}
+use Rattle.is_theorems.proofs.Common.{drop, drop-append-le, false, get_or, get_or-append_seam, Has, inl, InProgress, inr, is_answered}
+use Rattle.is_theorems.proofs.Common.{is_started_state, is_valid_state, last_check, last_checks, length, length-append, length-drop, List}
+use Rattle.is_theorems.proofs.Common.{min, nat_lt, nat_tests, next_due_time, Nominated, nomination_once_sent, NominationState, None, Option}
+use Rattle.is_theorems.proofs.Common.{PairRecord, position, position-Some, refl, reverse, reverse-append, slice_get, slice_get-get_or, Some}
+use Rattle.is_theorems.proofs.Common.{state_from, state_once_answered, state_once_sent, StunTiming, subst, suc, Succeeded, Success, sym}
+use Rattle.is_theorems.proofs.Common.{true, unanswered_count, unwrap_or, Waiting, ℕ}
 use Rattle.is_theorems.proofs.CallEffects.ChecksAndResponses.{Has-drop}
 use Rattle.is_theorems.proofs.RuleEffects.ChangedPairs.{Has-at}
 use Rattle.is_theorems.proofs.RuleEffects.EarlierAndNewPairs.{Has-push}

@@ -1,45 +1,29 @@
 -- In an execution each pair without a response is on schedule while no request arrives on it.
-use Rattle.std.proofs.Common.{◌≡◌, ℕ, ◌<◌, ◌≤◌, ◌==◌, ◌&&◌, Bool, true, false, not, List, [], ◌∷◌, map, filter, max, Option, Some, None, unwrap_or, Result, Ok, Err, inl, inr, ◌⊎◌, refl, ap, sym, ◌∙◌, subst, arith, if◌then◌else◌}
-use Rattle.std.specs.Prelude.{MatchOption}
-use Rattle.rand_core.specs.Stream.{Stream}
-use Rattle.is_proto.specs.declared.error.IceError.{IceError}
-use Rattle.is_proto.specs.Lists.{Has}
-use Rattle.is_proto.specs.Times.{MAX}
-use Rattle.is_candidate.specs.Candidates.{CandidateRecord}
-use Rattle.is_stun.specs.declared.timing.StunTiming.{StunTiming}
-use Rattle.is_pair.specs.Due.{asked, is_possible}
-use Rattle.is_pair.specs.Pairs.{PairRecord, is_valid, undue}
-use Rattle.is_rules.specs.declared.emitted.Emitted.{Emitted}
-use Rattle.is_rules.specs.declared.emitted.Path.{Path}
-use Rattle.is_rules.specs.Agent.{AgentRecord}
-use Rattle.is_rules.specs.Credentials.{SetsLocal, SetsRemote}
-use Rattle.is_rules.specs.Discarding.{Invalidates, InvalidatesAt, is_local_at, is_remote_at, local_discarded, local_to_discard, remote_to_discard, remote_discarded}
-use Rattle.is_rules.specs.Brought.{IsBrought, IsServing}
-use Rattle.is_rules.specs.Effects.{PathEffect}
-use Rattle.is_rules.specs.Forming.{Combination, FormsAll}
-use Rattle.is_rules.specs.Local.{AddsLocal}
-use Rattle.is_rules.specs.Polls.{NextTimeoutFrom, PollsTimeout}
-use Rattle.is_rules.specs.Queue.{first_taken, request_at}
-use Rattle.is_rules.specs.Remote.{AddsRemote}
-use Rattle.is_rules.specs.Request.{RequestRecord}
-use Rattle.is_rules.specs.Restarting.{emptied, Recreates, Restarts}
-use Rattle.is_rules.specs.Settings.{SetsMtu}
-use Rattle.is_rules.specs.Settling.{loses_selected}
-use Rattle.is_rules.specs.Sound.{IsSound}
-use Rattle.is_rules.specs.Steps.{Call, SetMtu, SetControlTieBreaker, SetMaxCandidatePairs, SetMaxDiscovered, SetIceLite, SetRenomination, SetConsent, SetProfile, SetTimingAdvance, SetInitialStunRto, SetMaxStunRto, SetMaxStunRetransmits, SetLiteTimeout, SetLocalPreference, SetControlling, SetLocalCredentials, SetRemoteCredentials, SkipPairIds, AddLocalCandidate, AddRemoteCandidate, InvalidateCandidate, RestartIce, RecreateCandidatePairs, ReceivePacket, HandleTimeout, PollTransmit, PollTimeout, PollEvent, Answer, Done, Flag, added, answer_by, done, Entry, Step, MayDo, MaySelect}
-use Rattle.is_rules.specs.Timeouts.{at_request, at_timeout, timeout_begun, MaintainsPairs, ServesQueued}
-use Rattle.is_theorems.specs.Logs.{Logged}
-use Rattle.is_theorems.specs.NotStarved.{is_timeout}
-use Rattle.is_theorems.specs.Shared.{BeforeEach, SharedRun}
-use Rattle.is_theorems.specs.SilentPairs.{AreInOrder, IsTimedBy, time_after, time_of}
+use Rattle.is_theorems.proofs.Common.{[], ◌&&◌, ◌<◌, ◌==◌, ◌∙◌, ◌∷◌, ◌≡◌, ◌≤◌, ◌⊎◌, added, AddLocalCandidate, AddRemoteCandidate, AddsLocal}
+use Rattle.is_theorems.proofs.Common.{AddsRemote, AgentRecord, Answer, answer_by, ap, AreInOrder, arith, scheduled, at_request, at_timeout}
+use Rattle.is_theorems.proofs.Common.{BeforeEach, Bool, Call, CandidateRecord, Combination, Done, done, Emitted, emptied, Entry, Err, false}
+use Rattle.is_theorems.proofs.Common.{filter, first_taken, Flag, FormsAll, gives_way, HandleTimeout, Has, hastened, IceError, if◌then◌else◌}
+use Rattle.is_theorems.proofs.Common.{inl, inr, InvalidateCandidate, Invalidates, InvalidatesAt, is_local_at, is_possible, is_remote_at}
+use Rattle.is_theorems.proofs.Common.{is_timeout, is_valid, IsBrought, IsServing, IsSound, IsTimedBy, List, local_discarded}
+use Rattle.is_theorems.proofs.Common.{local_to_discard, Logged, loses_selected, MaintainsPairs, map, MatchOption, MAX, max, MayDo}
+use Rattle.is_theorems.proofs.Common.{MaySelect, NextTimeoutFrom, None, not, Ok, Option, PairRecord, Path, path_left, PathEffect, PollEvent}
+use Rattle.is_theorems.proofs.Common.{PollsTimeout, PollTimeout, PollTransmit, ReceivePacket, RecreateCandidatePairs, Recreates, refl}
+use Rattle.is_theorems.proofs.Common.{remote_discarded, remote_to_discard, request_at, RequestRecord, RestartIce, Restarts, Result}
+use Rattle.is_theorems.proofs.Common.{ServesQueued, SetConsent, SetControlling, SetControlTieBreaker, SetIceLite, SetInitialStunRto}
+use Rattle.is_theorems.proofs.Common.{SetLiteTimeout, SetLocalCredentials, SetLocalPreference, SetMaxCandidatePairs, SetMaxDiscovered}
+use Rattle.is_theorems.proofs.Common.{SetMaxStunRetransmits, SetMaxStunRto, SetMtu, SetProfile, SetRemoteCredentials, SetRenomination}
+use Rattle.is_theorems.proofs.Common.{SetsLocal, SetsMtu, SetsRemote, SetTimingAdvance, SharedRun, silent_gone, SkipPairIds, Some, Step}
+use Rattle.is_theorems.proofs.Common.{Stream, StunTiming, subst, sym, time_after, time_of, timeout_begun, true, undue, unwrap_or, ℕ}
 use Rattle.is_theorems.proofs.CallEffects.AddedCandidates.{by_adding_local, by_adding_remote, by_deadline}
-use Rattle.is_theorems.proofs.CallEffects.FailedCallsAndNewAgents.{mtu_kept, local_kept, remote_kept, restart_kept, recreation_kept, enrolment_kept, storing_kept}
+use Rattle.is_theorems.proofs.CallEffects.FailedCallsAndNewAgents.{mtu_kept, local_kept, remote_kept, restart_kept, recreation_kept}
+use Rattle.is_theorems.proofs.CallEffects.FailedCallsAndNewAgents.{enrolment_kept, storing_kept}
 use Rattle.is_theorems.proofs.CallEffects.PathAndTradeEffects.{path_theorem}
 use Rattle.is_theorems.proofs.CheckCounts.IssuedChecks.{timeout-timed}
 use Rattle.is_theorems.proofs.CheckCounts.Bounds.{Bound, Ends, IsPastRequest}
-use Rattle.is_theorems.proofs.CheckCounts.KeptPairs.{IsKept, IsOfSilent, forms-kept, gives-up-kept, kept-filter, kept-map, nominates-kept, received-kept, reselects-kept, serves-kept, unless-kept}
+use Rattle.is_theorems.proofs.CheckCounts.KeptPairs.{IsKept, IsOfSilent, forms-kept, gives-up-kept, kept-filter, kept-map, nominates-kept}
+use Rattle.is_theorems.proofs.CheckCounts.KeptPairs.{received-kept, reselects-kept, serves-kept, unless-kept}
 use Rattle.is_theorems.proofs.CheckCounts.LastTimes.{last-stays}
-use Rattle.is_theorems.proofs.CheckCounts.FollowedPairs.{IsOnSchedule, asked-at, later-on, of-silent}
+use Rattle.is_theorems.proofs.CheckCounts.FollowedPairs.{IsOnSchedule, scheduled-at, later-on, of-silent}
 use Rattle.is_theorems.proofs.CheckCounts.PastTimes.{Watch}
 use Rattle.is_theorems.proofs.PathSelection.SelectedPairIsNominated.{IsNamed, names-next}
 use Rattle.is_theorems.proofs.PunctualTimeouts.UnchangedPacing.{Pace, gives-up-same, maintains as maintains-same, nominates-same}
@@ -47,7 +31,6 @@ use Rattle.is_theorems.proofs.RuleEffects.UnchangedSettings.{either}
 use Rattle.is_theorems.proofs.CheckCounts.SilentTimeouts.{no-case, is_poll, latest, left-possible, checks-on}
 use Rattle.is_theorems.proofs.RuleEffects.HastenedPairs.{only-due, Hastens}
 use Rattle.is_theorems.proofs.RuleEffects.UnhastenedPairs.{invalid-stays}
-use Rattle.is_rules.specs.Leaving.{gives_way, hastened, path_left, silent_gone}
 
 module _ {H P : Type 0} where
   -- ---- calls
@@ -155,11 +138,11 @@ module _ {H P : Type 0} where
     -- `poll_timeout` fixes due times at the last time
     asks : (clock : ℕ) (old new : AgentRecord H P) (deadline : Option ℕ) → old.timing ≡ t → PollsTimeout old deadline new → At (latest old) clock old → At (latest old) clock new
     asks clock old new deadline timing h k = from old.last_time refl h where
-      fixed : (last : ℕ) → old.last_time ≡ Some last → new ≡ record old { pairs = map (asked last old.timing) old.pairs } → At (latest old) clock new
+      fixed : (last : ℕ) → old.last_time ≡ Some last → new ≡ record old { pairs = map (scheduled last old.timing) old.pairs } → At (latest old) clock new
       fixed last is made =
           let at : latest old ≡ last = ap (λ n. unwrap_or n 0) is in
-          made-at (latest old) clock _ new made (kept-map floor clock (On (latest old) clock) old.next_number (asked last old.timing) old.pairs (λ p. refl)
-          (λ p has q. subst (λ (x : StunTiming). On (latest old) clock (asked last x p)) (sym timing) (subst (λ n. On n clock (asked last t p)) (sym at) (asked-at t bound o last clock p (subst (λ n. On n clock p) at q)))) k)
+          made-at (latest old) clock _ new made (kept-map floor clock (On (latest old) clock) old.next_number (scheduled last old.timing) old.pairs (λ p. refl)
+          (λ p has q. subst (λ (x : StunTiming). On (latest old) clock (scheduled last x p)) (sym timing) (subst (λ n. On n clock (scheduled last t p)) (sym at) (scheduled-at t bound o last clock p (subst (λ n. On n clock p) at q)))) k)
 
       by-deadline : (last : ℕ) → old.last_time ≡ Some last → (d : Option ℕ) → NextTimeoutFrom (Some last) old d new → At (latest old) clock new
       by-deadline last is None h = absurd h

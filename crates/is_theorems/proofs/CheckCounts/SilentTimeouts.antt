@@ -1,37 +1,19 @@
 -- A `handle_timeout` call leaves pairs on schedule: it removes those that are no longer possible, and then checks one that is due or has a response.
-use Rattle.std.proofs.Common.{◌≡◌, ℕ, ◌<◌, ◌≤◌, ◌&&◌, ◌||◌, Bool, true, false, not, nat_le, List, Option, Some, None, unwrap_or, inl, inr, ◌⊎◌, refl, ap, sym, ◌∙◌, subst, arith, if◌then◌else◌}
-use Rattle.std.specs.Prelude.{MatchBool}
-use Rattle.std.specs.List.{list_any}
-use Rattle.std.proofs.lemmas.Bool.{eqb-true, eq-eqb}
-use Rattle.std.proofs.lemmas.Bool.Decides.{nat_tests}
-use Rattle.rand_core.specs.Stream.{Stream}
-use Rattle.is_proto.specs.Lists.{Has}
-use Rattle.is_proto.specs.Times.{MAX}
-use Rattle.is_stun.specs.declared.timing.StunTiming.{StunTiming}
-use Rattle.is_stun.specs.Timing.{consent_of}
 use Rattle.is_pair.specs.Due as due
-use Rattle.is_pair.specs.Due.{asked, due_time_of, early_time, is_due, is_possible}
-use Rattle.is_pair.specs.Multiset.{change_at, change_pair, is_numbered}
-use Rattle.is_pair.specs.Silence.{outlives}
-use Rattle.is_pair.specs.States.{is_valid_state, state_once_sent}
-use Rattle.is_pair.specs.declared.pair.states.CheckState.{CheckState}
-use Rattle.is_pair.specs.declared.pair.states.CheckState.TheVariants.{Waiting, InProgress, Succeeded}
-use Rattle.is_pair.specs.Pairs.{PairRecord, checked, heard, heard_at, is_lite_alive, is_nominated, is_valid, nominated, with_request}
-use Rattle.is_rules.specs.declared.credentials.IceCreds.{IceCreds}
-use Rattle.is_rules.specs.declared.emitted.Issued.{Issued}
-use Rattle.is_rules.specs.declared.emitted.Path.{Path}
-use Rattle.is_rules.specs.Agent.{AgentRecord}
-use Rattle.is_rules.specs.Checking.{all_asked, ChecksTop, IsNextInTurn, IsNextToCheck, MayCheck}
-use Rattle.is_rules.specs.Nominating.{followed, nominated_by_self, Nominates, nominates_at_once, pair_selected, remains, selection_of}
-use Rattle.is_rules.specs.Steps.{Call, PollTimeout}
-use Rattle.is_rules.specs.Timeouts.{expired_gone, is_expired, RemovesExpired}
-use Rattle.is_rules.proofs.PairLists.ChosenPair.{found-in}
+use Rattle.is_theorems.proofs.Common.{◌&&◌, ◌<◌, ◌||◌, ◌∙◌, ◌≡◌, ◌≤◌, ◌⊎◌, AgentRecord, all_scheduled, ap, arith, scheduled, Bool, Call, change_at}
+use Rattle.is_theorems.proofs.Common.{change_pair, checked, CheckState, ChecksTop, consent_of, due_time_of, eq-eqb, eqb-true, expired_gone}
+use Rattle.is_theorems.proofs.Common.{false, followed, found-in, Has, heard, heard_at, IceCreds, if◌then◌else◌, inl, InProgress, inr}
+use Rattle.is_theorems.proofs.Common.{is_due, is_expired, is_lite_alive, is_nominated, is_numbered, is_possible, is_valid, is_valid_state}
+use Rattle.is_theorems.proofs.Common.{IsNextInTurn, IsNextToCheck, Issued, List, list_any, MatchBool, MAX, MayCheck, nat_le, nat_tests}
+use Rattle.is_theorems.proofs.Common.{nominated, nominated_by_self, Nominates, nominates_at_once, None, not, Option, outlives}
+use Rattle.is_theorems.proofs.Common.{pair_selected, PairRecord, Path, PollTimeout, refl, remains, RemovesExpired, selection_of, Some}
+use Rattle.is_theorems.proofs.Common.{state_once_sent, Stream, StunTiming, subst, Succeeded, sym, true, unwrap_or, Waiting, with_request, ℕ}
 use Rattle.is_theorems.proofs.BasicLemmas.PairsInTurn.{due-or-along, in-turn, pairs-sent, sent-number, sent_at, AskedAlong}
 use Rattle.is_theorems.proofs.BasicLemmas.UsernamesAndFirstMatches.{any_has}
 use Rattle.is_theorems.proofs.CallEffects.ServedRequests.{Has-mapped}
 use Rattle.is_theorems.proofs.CheckCounts.Bounds.{Bound, Ends, IsPastRequest}
 use Rattle.is_theorems.proofs.CheckCounts.KeptPairs.{IsKept, IsOfSilent, kept-change, kept-map}
-use Rattle.is_theorems.proofs.CheckCounts.FollowedPairs.{IsOnSchedule, asked-on, checked-on, of-silent}
+use Rattle.is_theorems.proofs.CheckCounts.FollowedPairs.{IsOnSchedule, scheduled-on, checked-on, of-silent}
 use Rattle.is_theorems.proofs.CheckCounts.PastTimes.{Watch}
 use Rattle.is_theorems.proofs.DuePairs.AfterNominationAndRemoval.{passed}
 use Rattle.is_theorems.proofs.RuleEffects.ChangedPairs.{Has-map}
@@ -44,9 +26,6 @@ no-case h = absurd (cc)
 
 le-of : (n m : ℕ) → nat_le n m ≡ true → n ≤ m
 le-of n m h = grind (arith, nat_tests, h)
-
-some-last : (n m : ℕ) → Some n ≡ Some m → n ≡ m
-some-last n m h = cc
 
 -- ---- pairs that stay after timeouts
 
@@ -148,7 +127,7 @@ module _ {H P : Type 0} where
     ruled = of-silent old.timing bound o floor now now apart
 
     abbrev asking : AgentRecord H P
-    asking = all_asked now old
+    asking = all_scheduled now old
 
     module _ (ends : Ends old.timing bound) (limit : 0 < old.timing.max_retransmits) (fits : (w : Watch) → o ≡ Some w → (w.requests ≡ 0) ⊎ IsPastRequest old.timing bound) (goes_on : now < MAX) (possible : old.lite ≡ false → (p : PairRecord) → Has old.pairs p → is_possible now old.timing p ≡ true)
         (named : (p : PairRecord) → Has new.pairs p → new.selected_pair ≡ Some p.number → is_valid p ≡ true) (k : Keeps old) where
@@ -156,7 +135,7 @@ module _ {H P : Type 0} where
       made-on needed made h = subst (λ (a : AgentRecord H P). Keeps a) (sym made) h
 
       asks-on : Keeps asking
-      asks-on = kept-map floor now OnTime old.next_number (asked now old.timing) old.pairs (λ p. refl) (λ p has q. asked-on old.timing bound o now now now p (omega arith) (omega arith) q) k
+      asks-on = kept-map floor now OnTime old.next_number (scheduled now old.timing) old.pairs (λ p. refl) (λ p has q. scheduled-on old.timing bound o now now now p (omega arith) (omega arith) q) k
 
       heard-on : (p : PairRecord) → OnTime p → OnTime (heard now p)
       heard-on p q = by p.last_request where
@@ -185,9 +164,9 @@ module _ {H P : Type 0} where
         due-on : nominates_at_once asking ≡ false → Has asking.pairs p × (is_due now old.timing p ≡ true) → (q : PairRecord) → Has asking.pairs q → q.number ≡ p.number → OnTime (change q)
         due-on calm due_now q has same =
             let one : q ≡ p = one_pair asking.pairs q p asks-on.rising has due_now.0 same in
-            let was = Has-map (asked now old.timing) old.pairs q has in
-            let is_due_now : is_due now old.timing (asked now old.timing was.0) ≡ true = ap (λ x. is_due now old.timing x) (was.2 ∙ one) ∙ due_now.1 in
-            let sent : OnTime (checked now old.timing old.controlling id (asked now old.timing was.0)) =
+            let was = Has-map (scheduled now old.timing) old.pairs q has in
+            let is_due_now : is_due now old.timing (scheduled now old.timing was.0) ≡ true = ap (λ x. is_due now old.timing x) (was.2 ∙ one) ∙ due_now.1 in
+            let sent : OnTime (checked now old.timing old.controlling id (scheduled now old.timing was.0)) =
             checked-on old.timing bound ends limit o fits now old.controlling id was.0 goes_on (k.each was.0 was.1) (le-of (due_time_of now old.timing was.0) now is_due_now) (possible full was.0 was.1) in
             subst (λ b. OnTime (sent_at b now old.timing old.controlling id q)) (sym calm) (subst (λ (x : PairRecord). OnTime (checked now old.timing old.controlling id x)) was.2 sent)
 

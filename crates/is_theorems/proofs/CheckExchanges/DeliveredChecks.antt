@@ -1,54 +1,27 @@
 -- A check that is delivered is served, and its response is accepted.
-use Rattle.std.proofs.Common.{◌≡◌, ℕ, ◌+◌, ◌≤◌, ◌==◌, ◌&&◌, ◌||◌, Bool, true, false, not, List, [], ◌∷◌, ◌++◌, length, map, position, Option, Some, None, is_some, Result, Ok, Err, inl, inr, refl, ap, sym, ◌∙◌, subst, arith, bytes_eq, if◌then◌else◌}
-use Rattle.std.specs.Prelude.{MatchBool, MatchOption, IsSomeAnd, IfSome}
-use Rattle.std.specs.List.{list_any, position_or_len}
-use Rattle.std.specs.Option.{option_or, option_map_or}
-use Rattle.std.specs.declared.net.socket_addr.SocketAddr.{SocketAddr}
-use Rattle.std.proofs.lemmas.List.{length-append}
-use Rattle.std.proofs.lemmas.Slice.Eq.{bytes_eq-Decides}
-use Rattle.is_proto.specs.Lists.{Has}
-use Rattle.is_proto.specs.Packets.{Packet}
-use Rattle.is_proto.specs.declared.error.IceError.{IceError}
-use Rattle.is_proto.specs.declared.error.ParseFault.{ParseFault}
-use Rattle.is_candidate.specs.Candidates.{CandidateRecord, candidate_at}
-use Rattle.is_candidate.specs.Equality.{is_temporary}
-use Rattle.is_candidate.specs.Priorities.{check_priority}
-use Rattle.is_pair.specs.Pairs.{PairRecord}
-use Rattle.is_stun.specs.declared.header.Class.{Class}
 use Rattle.is_stun.specs.declared.header.Class.TheVariants as class
-use Rattle.is_stun.specs.Checks.{binding_request, binding_reply, with_nomination}
-use Rattle.is_stun.specs.Integrity.{IsSignedBy}
-use Rattle.is_stun.specs.Theorems.{IsPut, IsWrittenPlain, ReadsBack, SameMessage, WrittenIsRead, FitsInto, LONGEST_NUMBERED_CHECK, LONGEST_REPLY}
-use Rattle.is_stun.specs.Message.{AttributesRecord, Message, split_username}
-use Rattle.is_stun.specs.Reading.{Reads, Fault}
-use Rattle.is_stun.specs.Writing.{written}
-use Rattle.is_rules.specs.declared.credentials.IceCreds.{IceCreds}
-use Rattle.is_rules.specs.declared.places.RemotePlace.{RemotePlace}
-use Rattle.is_rules.specs.declared.places.RemotePlace.TheVariants.{Known, Barred, Unknown, Vacant, Full}
-use Rattle.is_rules.specs.declared.roles.Conflict.{Conflict}
-use Rattle.is_rules.specs.declared.roles.Conflict.TheVariants.{Absent, Send487, SwitchRole}
-use Rattle.is_rules.specs.declared.emitted.Path.{Path}
 use Rattle.is_rules.specs.declared.emitted.Issued as code
-use Rattle.is_rules.specs.declared.emitted.Emitted.{Emitted}
-use Rattle.is_rules.specs.Agent.{AgentRecord}
-use Rattle.is_rules.specs.Accepting.{HandlesPacket, IsAcceptedAs, IsAcceptedOn, IsAddressed, Takes}
-use Rattle.is_rules.specs.Answers.{keeps_check_on}
-use Rattle.is_rules.specs.Brought.{IsServing, role_once}
-use Rattle.is_rules.specs.Checking.{username_between}
-use Rattle.is_theorems.specs.Carried.{AreApart, CarriedAreServed, CarriedAreAccepted}
-use Rattle.is_theorems.specs.Delivery.{IsFragment, KnowEachOther, IsReachedBy, Sends, Delivered, Issued, IsTaken, ChecksAreServed, RepliesAreAccepted, receives, is_gone_at}
-use Rattle.is_rules.specs.Fitting.{USERNAME_LIMIT, are_too_long}
-use Rattle.is_rules.specs.Issuing.{Says, IsIssued, key_for, via_out}
-use Rattle.is_rules.specs.Limit.{has_room, is_on, IsVacancy, IsSenderPlace, HasPlaceFor}
-use Rattle.is_rules.specs.Places.{is_live, is_reached, is_sender, local_place, place_by, IsRemotePlace, IsGreatestPlace}
-use Rattle.is_rules.specs.Request.{RequestRecord, request_in, rival_in}
-use Rattle.is_rules.specs.Roles.{conflict_by, conflict_of, keeps_role, switched, switched_sides, with_priority_in}
-use Rattle.is_rules.specs.Sending.{carried, path_between}
-use Rattle.is_rules.specs.Forming.{formed, SidesRecord, with_pair}
-use Rattle.is_rules.specs.Serving.{is_misled, is_for_other_peer, request_counted, with_sender, with_sender_at, Drops, Queues, HandlesRequest, RecordsAndResponds, AddsPairAndResponds, FindsOrAddsPair, AddsUnknownSender, FindsSender, CountsAndServes, ResolvesRoleConflictBy, ResolvesRoleConflict, ServesHere, Serves}
-use Rattle.is_rules.specs.Sound.{IsSound}
-use Rattle.is_rules.specs.Steps.{answer_by, Call, Entry, Flag, ReceivePacket, Receives, is_rejection}
-use Rattle.is_rules.specs.Emitted.{issued_as, reversed}
+use Rattle.is_theorems.specs.Delivery.{IsReachedBy, Issued}
+use Rattle.is_theorems.proofs.Common.{[], ◌&&◌, ◌++◌, ◌+◌, ◌==◌, ◌||◌, ◌∙◌, ◌∷◌, ◌≡◌, ◌≤◌, Absent, AddsPairAndResponds, AddsUnknownSender}
+use Rattle.is_theorems.proofs.Common.{AgentRecord, answer_by, ap, are_too_long, AreApart, arith, AttributesRecord, Barred, binding_reply}
+use Rattle.is_theorems.proofs.Common.{binding_request, Bool, bytes_eq, bytes_eq-Decides, Call, candidate_at, CandidateRecord, carried}
+use Rattle.is_theorems.proofs.Common.{CarriedAreAccepted, CarriedAreServed, check_priority, ChecksAreServed, Class, Conflict, conflict_by}
+use Rattle.is_theorems.proofs.Common.{conflict_of, CountsAndServes, Delivered, Drops, Emitted, Entry, Err, false, Fault, FindsOrAddsPair}
+use Rattle.is_theorems.proofs.Common.{FindsSender, FitsInto, Flag, formed, Full, HandlesPacket, HandlesRequest, Has, has_room, HasPlaceFor}
+use Rattle.is_theorems.proofs.Common.{IceCreds, IceError, IfSome, if◌then◌else◌, inl, inr, is_for_other_peer, is_gone_at, is_live}
+use Rattle.is_theorems.proofs.Common.{is_misled, is_on, is_reached, is_rejection, is_sender, is_some, is_temporary, IsAcceptedAs}
+use Rattle.is_theorems.proofs.Common.{IsAcceptedOn, IsAddressed, IsFragment, IsGreatestPlace, IsIssued, IsPut, IsRemotePlace, IsSenderPlace}
+use Rattle.is_theorems.proofs.Common.{IsServing, IsSignedBy, IsSomeAnd, IsSound, issued_as, IsTaken, IsVacancy, IsWrittenPlain}
+use Rattle.is_theorems.proofs.Common.{keeps_check_on, keeps_role, key_for, KnowEachOther, Known, length, length-append, List, list_any}
+use Rattle.is_theorems.proofs.Common.{local_place, LONGEST_NUMBERED_CHECK, LONGEST_REPLY, map, MatchBool, MatchOption, Message, None, not}
+use Rattle.is_theorems.proofs.Common.{Ok, Option, option_map_or, option_or, Packet, PairRecord, ParseFault, Path, path_between, place_by}
+use Rattle.is_theorems.proofs.Common.{position, position_or_len, Queues, Reads, ReadsBack, ReceivePacket, Receives, receives}
+use Rattle.is_theorems.proofs.Common.{RecordsAndResponds, refl, RemotePlace, RepliesAreAccepted, request_counted, request_in, RequestRecord}
+use Rattle.is_theorems.proofs.Common.{resolved_in_turn, ResolvesRoleConflictBy, Result, reversed, rival_in, role_once, SameMessage, Says}
+use Rattle.is_theorems.proofs.Common.{Send487, Sends, Serves, SidesRecord, SocketAddr, Some, split_username, subst, switched}
+use Rattle.is_theorems.proofs.Common.{switched_sides, SwitchRole, sym, Takes, true, Unknown, username_between, USERNAME_LIMIT, Vacant}
+use Rattle.is_theorems.proofs.Common.{via_out, with_nomination, with_pair, with_priority_in, with_sender, with_sender_at, written}
+use Rattle.is_theorems.proofs.Common.{WrittenIsRead, ℕ}
 use Rattle.is_theorems.proofs.RuleEffects.UnchangedSettings.{either}
 use Rattle.is_theorems.proofs.BasicLemmas.EqualAddresses.{both}
 use Rattle.is_theorems.proofs.CallEffects.PathAndTradeEffects.{issues, trade_theorem}
@@ -202,7 +175,7 @@ module _ {H P : Type 0} (mac : H → List ℕ → List ℕ → List ℕ) (answer
           let c = candidate_at cs k in
           neither_way c.discarded (is_sender q c) found.1 (greatest k found.0) (passes_none (is_gone_at q.path) cs c none (is-listed cs k found.0))
 
-    -- the same with a limit
+    -- the sender of a delivered check is not barred, also with a limit
     is-met : (s : AgentRecord H P) (place : RemotePlace) → list_any (is_gone_at q.path) s.remote ≡ false → IsSenderPlace s q place → place ≡ Barred → ⊥
     is-met s place none (Known k, is, same) barred = let no : Known k ≡ Barred = sym same ∙ barred in cc
     is-met s place none (Barred, is, same) barred = meets s.remote Barred none is refl
@@ -251,17 +224,12 @@ module _ {H P : Type 0} (mac : H → List ℕ → List ℕ → List ℕ) (answer
     still-room s (inr (k, lt, vacant)) =
         inr (k, omega (arith, lt), subst (λ b. (is_temporary (candidate_at s.remote k) && not b) ≡ true) (sym (still-free (switched_sides s) k s.pairs)) vacant)
 
-    resolved : (s new : AgentRecord H P) (emitted : Emitted) → is_for_other_peer s q ≡ false → (l : ℕ) → local_place s.local q ≡ Some l → Serves mac q s emitted new → ResolvesRoleConflict mac q l s emitted new
-    resolved s new emitted named l place h =
-        let k : ServesHere mac q s emitted new = subst (λ b. MatchBool b (Drops s emitted new) (ServesHere mac q s emitted new)) named h in
-        subst (λ o. MatchOption o (Drops s emitted new) (λ l. ResolvesRoleConflict mac q l s emitted new)) place k
-
     -- the roles differ
     serves : (s new : AgentRecord H P) (emitted : Emitted) → is_for_other_peer s q ≡ false → IsReachedBy s q.path → conflict_of s q ≡ Absent
         → is_misled s.controlling q ≡ false → Serves mac q s emitted new → Replied emitted
     serves s new emitted named reached apart led h =
         let place = live_place s q reached.there in
-        admitted place.0 s new emitted place.2 reached.from reached.room led (subst (λ c. ResolvesRoleConflictBy mac c q place.0 s emitted new) apart (resolved s new emitted named place.0 place.1 h))
+        admitted place.0 s new emitted place.2 reached.from reached.room led (subst (λ c. ResolvesRoleConflictBy mac c q place.0 s emitted new) apart (resolved_in_turn mac q s new emitted place.0 named place.1 h))
 
     -- the agent switches its role
     serves-switched : (s new : AgentRecord H P) (emitted : Emitted) → is_for_other_peer s q ≡ false → IsReachedBy s q.path → conflict_of s q ≡ SwitchRole
@@ -269,7 +237,7 @@ module _ {H P : Type 0} (mac : H → List ℕ → List ℕ → List ℕ) (answer
     serves-switched s new emitted named reached switches led h =
         let place = live_place s q reached.there in
         admitted place.0 (switched s) new emitted place.2 reached.from (still-room s reached.room) led
-        (subst (λ c. ResolvesRoleConflictBy mac c q place.0 s emitted new) switches (resolved s new emitted named place.0 place.1 h))
+        (subst (λ c. ResolvesRoleConflictBy mac c q place.0 s emitted new) switches (resolved_in_turn mac q s new emitted place.0 named place.1 h))
 
   -- ---- the result of a packet
 

@@ -1,21 +1,12 @@
 -- A check that is delivered, and its response that comes back.
-use Rattle.std.proofs.Common.{◌≡◌, ℕ, Bool, true, false, if◌then◌else◌, List, [], ◌∷◌, length, Option, Some, inl, inr, refl, ap, sym, ◌∙◌, subst}
-use Rattle.std.specs.List.{list_any}
-use Rattle.rand_core.specs.Stream.{Stream}
-use Rattle.is_proto.specs.Packets.{Packet}
-use Rattle.is_candidate.specs.Candidates.{CandidateRecord}
 use Rattle.is_stun.specs.declared.header.Class.TheVariants as class
-use Rattle.is_rules.specs.declared.credentials.IceCreds.{IceCreds}
-use Rattle.is_rules.specs.Agent.{AgentRecord}
-use Rattle.is_rules.specs.Answers.{keeps_check_on}
-use Rattle.is_theorems.specs.Delivery.{IsFragment, KnowEachOther, Issued, IsTaken, SentCheck, ReceivedPacket, ServedCheck, ChecksAreServed, ChecksAreKept, RepliesAreAccepted}
-use Rattle.is_rules.specs.Effects.{local_after, remote_after}
-use Rattle.is_theorems.specs.Exchange.{AreBetween, Execution, ReceivedSoon, ReturnedSoon, ExchangesSucceed}
-use Rattle.is_rules.specs.Fitting.{are_too_long}
-use Rattle.is_rules.specs.Issuing.{via_out}
-use Rattle.is_theorems.specs.Rounds.{is_between}
-use Rattle.is_rules.specs.Sound.{GivesBased, IsSound}
-use Rattle.is_rules.specs.Steps.{Call, Entry, HandleTimeout, PollTransmit, PollTimeout, PollEvent, ReceivePacket, Step, is_done}
+use Rattle.is_theorems.specs.Delivery.{Issued}
+use Rattle.is_theorems.proofs.Common.{[], ◌∙◌, ◌∷◌, ◌≡◌, AgentRecord, ap, are_too_long, AreBetween, Bool, Call, CandidateRecord}
+use Rattle.is_theorems.proofs.Common.{ChecksAreKept, ChecksAreServed, Entry, ExchangesSucceed, Execution, false, GivesBased, HandleTimeout}
+use Rattle.is_theorems.proofs.Common.{IceCreds, if◌then◌else◌, inl, inr, is_between, is_done, IsFragment, IsSound, IsTaken, keeps_check_on}
+use Rattle.is_theorems.proofs.Common.{KnowEachOther, length, List, list_any, local_after, Option, Packet, PollEvent, PollTimeout}
+use Rattle.is_theorems.proofs.Common.{PollTransmit, ReceivedPacket, ReceivedSoon, ReceivePacket, refl, remote_after, RepliesAreAccepted}
+use Rattle.is_theorems.proofs.Common.{ReturnedSoon, SentCheck, ServedCheck, Some, Step, Stream, subst, sym, true, via_out, ℕ}
 use Rattle.is_theorems.proofs.CallEffects.PathAndTradeEffects.{path_theorem, trade_theorem}
 use Rattle.is_theorems.proofs.ExecutionLogs.LogSegments.{no-case}
 use Rattle.is_theorems.proofs.StoredPairs.TransactionsOverPackets.{sound-execution, checks-stay}

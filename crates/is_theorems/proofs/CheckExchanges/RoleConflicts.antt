@@ -1,40 +1,20 @@
 -- One check resolves a role conflict.
-use Rattle.std.proofs.Common.{◌≡◌, ◌⊎◌, ℕ, ◌<◌, ◌≤◌, ◌==◌, ◌||◌, nat_le, Bool, true, false, not, List, length, Option, Some, None, is_some, inl, inr, refl, ap, sym, ◌∙◌, subst, arith, if◌then◌else◌}
-use Rattle.std.specs.Prelude.{MatchBool, MatchOption, IsSomeAnd}
-use Rattle.std.specs.List.{list_any}
-use Rattle.std.specs.Option.{option_map_or}
-use Rattle.std.proofs.lemmas.Bool.Decides.{leb_tells}
-use Rattle.rand_core.specs.Stream.{Stream}
-use Rattle.is_proto.specs.Packets.{Packet}
-use Rattle.is_candidate.specs.Candidates.{CandidateRecord}
 use Rattle.is_stun.specs.declared.header.Class.TheVariants as class
-use Rattle.is_stun.specs.Checks.{ROLE_CONFLICT, binding_request, binding_role_conflict_reply, with_nomination}
-use Rattle.is_stun.specs.Integrity.{IsSignedBy}
-use Rattle.is_stun.specs.Theorems.{IsPut, ReadsBack, SameMessage, WrittenIsRead, FitsInto, LONGEST_NUMBERED_CHECK, LONGEST_REPLY}
-use Rattle.is_stun.specs.Message.{AttributesRecord, Message}
-use Rattle.is_stun.specs.Reading.{Reads}
-use Rattle.is_stun.specs.Writing.{written}
-use Rattle.is_rules.specs.declared.credentials.IceCreds.{IceCreds}
-use Rattle.is_rules.specs.declared.roles.Conflict.TheVariants.{Send487, SwitchRole}
-use Rattle.is_rules.specs.declared.emitted.Path.{Path}
-use Rattle.is_rules.specs.declared.emitted.Emitted.{Emitted}
-use Rattle.is_rules.specs.Accepting.{IsAcceptedAs, IsAcceptedOn}
-use Rattle.is_rules.specs.Agent.{AgentRecord}
-use Rattle.is_rules.specs.Answers.{is_role_conflict, keeps_check_on}
-use Rattle.is_rules.specs.Brought.{Brings, IsKept, IsRejectedBy, IsServing, IsServedPastTests, role_once}
-use Rattle.is_theorems.specs.Carried.{CarriedCheck, IsConflictCarried, CarriedSettle}
-use Rattle.is_theorems.specs.Conflicts.{AreSentUnder, ServesPastTests, ConflictsSettle, IsConflictSent, handing}
-use Rattle.is_theorems.specs.Delivery.{KnowEachOther, IsReachedBy, Sends, Delivered, Issued, SentCheck, ChecksAreKept}
-use Rattle.is_rules.specs.Fitting.{USERNAME_LIMIT}
-use Rattle.is_rules.specs.Issuing.{Says, key_for, via_out}
-use Rattle.is_rules.specs.Places.{local_place}
-use Rattle.is_rules.specs.Request.{RequestRecord, request_in, rival_in}
-use Rattle.is_rules.specs.Roles.{conflict_by, conflict_of, keeps_role}
-use Rattle.is_rules.specs.Serving.{is_for_other_peer, Drops, SendsRoleConflict, ResolvesRoleConflictBy, ResolvesRoleConflict, ServesHere, Serves}
-use Rattle.is_rules.specs.Sound.{IsSound}
-use Rattle.is_rules.specs.Steps.{Entry, HandleTimeout, Step}
-use Rattle.is_rules.specs.Emitted.{issued_as, reversed}
-use Rattle.is_theorems.proofs.CheckExchanges.DeliveredChecks.{Comes, same_reading, took, check-comes, emitted_as, issued_packet, live_place, goes-back, brought-by}
+use Rattle.is_theorems.specs.Conflicts.{AreSentUnder, ServesPastTests, ConflictsResolve, IsConflictSent, handing}
+use Rattle.is_theorems.specs.Delivery.{IsReachedBy, Issued}
+use Rattle.is_theorems.proofs.Common.{◌<◌, ◌==◌, ◌||◌, ◌∙◌, ◌≡◌, ◌≤◌, ◌⊎◌, AgentRecord, ap, arith, AttributesRecord, binding_request}
+use Rattle.is_theorems.proofs.Common.{binding_role_conflict_reply, Bool, Brings, CandidateRecord, CarriedCheck, CarriedResolve}
+use Rattle.is_theorems.proofs.Common.{ChecksAreKept, conflict_by, conflict_of, Delivered, Emitted, Entry, false, FitsInto, HandleTimeout}
+use Rattle.is_theorems.proofs.Common.{IceCreds, if◌then◌else◌, inl, inr, is_for_other_peer, is_role_conflict, is_some, IsAcceptedAs}
+use Rattle.is_theorems.proofs.Common.{IsAcceptedOn, IsConflictCarried, IsKept, IsPut, IsRejectedBy, IsServedPastTests, IsServing}
+use Rattle.is_theorems.proofs.Common.{IsSignedBy, IsSomeAnd, IsSound, issued_as, keeps_check_on, keeps_role, key_for, KnowEachOther}
+use Rattle.is_theorems.proofs.Common.{leb_tells, length, List, list_any, local_place, LONGEST_NUMBERED_CHECK, LONGEST_REPLY, Message}
+use Rattle.is_theorems.proofs.Common.{nat_le, None, not, Option, option_map_or, Packet, Path, Reads, ReadsBack, refl, request_in}
+use Rattle.is_theorems.proofs.Common.{RequestRecord, resolved_in_turn, ResolvesRoleConflictBy, reversed, rival_in, ROLE_CONFLICT, role_once}
+use Rattle.is_theorems.proofs.Common.{SameMessage, Says, Send487, Sends, SendsRoleConflict, SentCheck, Serves, Some, Step, Stream, subst}
+use Rattle.is_theorems.proofs.Common.{SwitchRole, sym, true, USERNAME_LIMIT, via_out, with_nomination, written, WrittenIsRead, ℕ}
+use Rattle.is_theorems.proofs.CheckExchanges.DeliveredChecks.{Comes, same_reading, took, check-comes, emitted_as, issued_packet, live_place}
+use Rattle.is_theorems.proofs.CheckExchanges.DeliveredChecks.{goes-back, brought-by}
 use Rattle.is_theorems.proofs.CallEffects.PathAndTradeEffects.{trade_theorem}
 use Rattle.is_theorems.proofs.CheckExchanges.ReturnedResponses.{known-on, keys-between, sound-sent, known-sender}
 use Rattle.is_theorems.proofs.StoredPairs.TransactionsThatStay.{still-kept}
@@ -52,9 +32,8 @@ module _ {H P : Type 0} (mac : H → List ℕ → List ℕ → List ℕ) (answer
   conflict_sent : (q : RequestRecord) (s new : AgentRecord H P) (emitted : Emitted) (l : ℕ) → is_for_other_peer s q ≡ false → local_place s.local q ≡ Some l
       → conflict_of s q ≡ Send487 → Serves mac q s emitted new → emitted.issued ≡ Some (issued_as (reversed q.path) class.Failure q.id)
   conflict_sent q s new emitted l named place is h =
-      let k : ServesHere mac q s emitted new = subst (λ b. MatchBool b (Drops s emitted new) (ServesHere mac q s emitted new)) named h in
-      let m : ResolvesRoleConflict mac q l s emitted new = subst (λ o. MatchOption o (Drops s emitted new) (λ l. ResolvesRoleConflict mac q l s emitted new)) place k in
-      let n : SendsRoleConflict mac q s emitted new = subst (λ c. ResolvesRoleConflictBy mac c q l s emitted new) is m in
+      let n : SendsRoleConflict mac q s emitted new =
+      subst (λ c. ResolvesRoleConflictBy mac c q l s emitted new) is (resolved_in_turn mac q s new emitted l named place h) in
       ap (λ (t : Emitted). t.issued) n.1
 
   module _ (read : (m : List ℕ → List ℕ → List ℕ) (key : List ℕ) (x : Message) → WrittenIsRead m key x)
@@ -190,7 +169,7 @@ module _ {H P : Type 0} (mac : H → List ℕ → List ℕ → List ℕ) (answer
           meets k.sender k.sent got.receiver got.served k.before k.following k.now got.at k.check c.came k.id k.timeout got.handed (search k.sound) (search got.sound) k.step k.sends (search c.know) (search c.unaltered)
           (search got.reached) got.delivered
 
-      pub conflicts-settle : ChecksAreKept mac answers → ConflictsSettle mac answers
+      pub conflicts-settle : ChecksAreKept mac answers → ConflictsResolve mac answers
       conflicts-settle kept_law k c = (there.0, λ alike. elim (there.1 alike) [ inl lesser ↦ inl lesser | inr i ↦ inr (sent_487 alike i) ]) where
         there : ServesPastTests c.receipt.receiver (handing k.check c.receipt.at) c.receipt.handed
             × (c.receipt.receiver.controlling ≡ k.sender.controlling
@@ -221,7 +200,7 @@ module _ {H P : Type 0} (mac : H → List ℕ → List ℕ → List ℕ) (answer
                   (gives.0, λ under. gives.1 under ∙ ap not (sym alike)));
             }
 
-      pub carried-settle : CarriedSettle mac answers
+      pub carried-settle : CarriedResolve mac answers
       carried-settle k c = (there.0, λ alike. elim (there.1 alike) [ inl lesser ↦ inl lesser | inr i ↦ inr (sent_487 alike i) ]) where
         there : ServesPastTests c.receipt.receiver (handing c.came c.receipt.at) c.receipt.handed
             × (c.receipt.receiver.controlling ≡ k.sender.controlling

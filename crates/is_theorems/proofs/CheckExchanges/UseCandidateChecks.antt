@@ -1,33 +1,13 @@
 -- A check on a nominated path has USE-CANDIDATE.
-use Rattle.std.proofs.Common.{◌≡◌, ℕ, ◌≤◌, ◌&&◌, ◌||◌, Bool, true, false, not, List, [], ◌∷◌, ◌++◌, length, Some, is_some, inl, refl, ap, sym, ◌∙◌, subst, if◌then◌else◌, Option, None, ◌==◌, max, unwrap_or, arith}
-use Rattle.is_proto.specs.Lists.{Has}
-use Rattle.is_proto.specs.Packets.{Packet}
-use Rattle.is_candidate.specs.Candidates.{CandidateRecord, candidate_at}
-use Rattle.is_candidate.specs.Priorities.{check_priority}
-use Rattle.is_pair.specs.Multiset.{change_at, change_pair, is_named_by}
-use Rattle.is_pair.specs.Pairs.{PairRecord, is_nominated}
-use Rattle.std.specs.Option.{option_map_or}
 use Rattle.is_stun.specs.declared.header.Class.TheVariants as class
-use Rattle.is_stun.specs.Checks.{binding_request, with_nomination}
-use Rattle.is_stun.specs.Theorems.{ReadsBack, WrittenIsRead, FitsInto, LONGEST_NUMBERED_CHECK}
-use Rattle.is_stun.specs.Message.{AttributesRecord, Message}
-use Rattle.is_stun.specs.Reading.{Reads}
-use Rattle.is_stun.specs.Writing.{written}
-use Rattle.is_rules.specs.declared.credentials.IceCreds.{IceCreds}
-use Rattle.is_rules.specs.declared.emitted.Path.{Path}
-use Rattle.is_rules.specs.Agent.{AgentRecord}
-use Rattle.is_theorems.specs.Asking.{AreNominatedOn, ChecksAsk}
-use Rattle.is_rules.specs.Checking.{check_message}
-use Rattle.is_theorems.specs.Carried.{CarriedAreServed, CarriedAsk}
-use Rattle.is_theorems.specs.Delivery.{IsFragment, KnowEachOther, ReceivedPacket}
-use Rattle.is_rules.specs.Fitting.{USERNAME_LIMIT, are_too_long}
-use Rattle.is_rules.specs.Issuing.{Says, via_out}
-use Rattle.is_rules.specs.Nominating.{nominates_at_once, nomination_of, numbers, stays_nominated}
-use Rattle.is_rules.specs.Serving.{nominates}
-use Rattle.is_rules.specs.Request.{request_in}
-use Rattle.is_rules.specs.Sending.{path_of}
-use Rattle.is_rules.specs.Steps.{HandleTimeout}
-use Rattle.is_rules.specs.Emitted.{issued_as}
+use Rattle.is_theorems.proofs.Common.{[], ◌&&◌, ◌++◌, ◌==◌, ◌||◌, ◌∙◌, ◌∷◌, ◌≡◌, ◌≤◌, AgentRecord, ap, are_too_long, AreNominatedOn, arith}
+use Rattle.is_theorems.proofs.Common.{AttributesRecord, binding_request, Bool, candidate_at, CandidateRecord, CarriedAreServed, CarriedAsk}
+use Rattle.is_theorems.proofs.Common.{change_at, change_pair, check_message, check_priority, ChecksAsk, false, FitsInto, HandleTimeout, Has}
+use Rattle.is_theorems.proofs.Common.{IceCreds, if◌then◌else◌, inl, is_named_by, is_nominated, is_some, IsFragment, issued_as}
+use Rattle.is_theorems.proofs.Common.{KnowEachOther, length, List, LONGEST_NUMBERED_CHECK, max, Message, nominates, nominates_at_once}
+use Rattle.is_theorems.proofs.Common.{nomination_of, None, not, numbers, Option, option_map_or, Packet, PairRecord, Path, path_of, Reads}
+use Rattle.is_theorems.proofs.Common.{ReadsBack, ReceivedPacket, refl, request_in, Says, Some, stays_nominated, subst, sym, true, unwrap_or}
+use Rattle.is_theorems.proofs.Common.{USERNAME_LIMIT, via_out, with_nomination, written, WrittenIsRead, ℕ}
 use Rattle.is_theorems.proofs.BasicLemmas.PairsInTurn.{nominated-before, pairs-sent, sent_at, sent-number}
 use Rattle.is_theorems.proofs.BasicLemmas.ServedPairs.{asks-taken}
 use Rattle.is_theorems.proofs.CheckExchanges.DeliveredChecks.{same_reading, emitted_as, issued_packet, check_reads}

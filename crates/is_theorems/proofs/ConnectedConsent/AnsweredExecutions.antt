@@ -1,27 +1,20 @@
 -- In an execution of an agent that is never lite, each valid pair has a check that got a response.
-use Rattle.std.proofs.Common.{◌≡◌, ℕ, ◌==◌, ◌&&◌, Bool, true, false, not, List, [], ◌∷◌, map, Option, Some, None, Result, Ok, Err, inl, inr, refl, sym, subst}
-use Rattle.rand_core.specs.Stream.{Stream}
-use Rattle.is_proto.specs.declared.error.IceError.{IceError}
-use Rattle.is_candidate.specs.Candidates.{CandidateRecord}
-use Rattle.is_pair.specs.Due.{asked}
-use Rattle.is_pair.specs.Pairs.{is_valid}
-use Rattle.is_rules.specs.Agent.{AgentRecord}
-use Rattle.is_rules.specs.Credentials.{SetsLocal, SetsRemote}
-use Rattle.is_rules.specs.declared.credentials.IceCreds.{IceCreds}
-use Rattle.is_rules.specs.Discarding.{Invalidates, InvalidatesAt, is_local_at, is_remote_at, local_discarded, local_to_discard, remote_to_discard, remote_discarded}
-use Rattle.is_rules.specs.Effects.{lite_set_by}
-use Rattle.is_rules.specs.Local.{AddsLocal}
-use Rattle.is_rules.specs.Remote.{AddsRemote}
-use Rattle.is_rules.specs.Restarting.{emptied, Recreates, Restarts}
-use Rattle.is_rules.specs.Settings.{SetsMtu}
-use Rattle.is_rules.specs.Settling.{loses_selected}
-use Rattle.is_rules.specs.Steps.{Call, SetMtu, SetControlTieBreaker, SetMaxCandidatePairs, SetMaxDiscovered, SetIceLite, SetRenomination, SetConsent, SetProfile, SetTimingAdvance, SetInitialStunRto, SetMaxStunRto, SetMaxStunRetransmits, SetLiteTimeout, SetLocalPreference, SetControlling, SetLocalCredentials, SetRemoteCredentials, SkipPairIds, AddLocalCandidate, AddRemoteCandidate, InvalidateCandidate, RestartIce, RecreateCandidatePairs, ReceivePacket, HandleTimeout, PollTransmit, PollTimeout, PollEvent, Answer, Flag, added, answer_by, done, Entry, Step, MayDo, MaySelect}
-use Rattle.is_theorems.specs.ConsentExecutions.{AreNeverLite, ValidHaveConsented}
-use Rattle.is_theorems.specs.Exchange.{Execution}
-use Rattle.is_theorems.specs.Runs.{IsFresh}
+use Rattle.is_theorems.proofs.Common.{[], ◌&&◌, ◌==◌, ◌∷◌, ◌≡◌, added, AddLocalCandidate, AddRemoteCandidate, AddsLocal, AddsRemote}
+use Rattle.is_theorems.proofs.Common.{AgentRecord, Answer, answer_by, AreNeverLite, scheduled, Bool, Call, CandidateRecord, done, emptied}
+use Rattle.is_theorems.proofs.Common.{Entry, Err, Execution, false, Flag, HandleTimeout, IceCreds, IceError, inl, inr, InvalidateCandidate}
+use Rattle.is_theorems.proofs.Common.{Invalidates, InvalidatesAt, is_local_at, is_remote_at, is_valid, IsFresh, List, lite_set_by}
+use Rattle.is_theorems.proofs.Common.{local_discarded, local_to_discard, loses_selected, map, MayDo, MaySelect, None, not, Ok, Option}
+use Rattle.is_theorems.proofs.Common.{PollEvent, PollTimeout, PollTransmit, ReceivePacket, RecreateCandidatePairs, Recreates, refl}
+use Rattle.is_theorems.proofs.Common.{remote_discarded, remote_to_discard, RestartIce, Restarts, Result, SetConsent, SetControlling}
+use Rattle.is_theorems.proofs.Common.{SetControlTieBreaker, SetIceLite, SetInitialStunRto, SetLiteTimeout, SetLocalCredentials}
+use Rattle.is_theorems.proofs.Common.{SetLocalPreference, SetMaxCandidatePairs, SetMaxDiscovered, SetMaxStunRetransmits, SetMaxStunRto}
+use Rattle.is_theorems.proofs.Common.{SetMtu, SetProfile, SetRemoteCredentials, SetRenomination, SetsLocal, SetsMtu, SetsRemote}
+use Rattle.is_theorems.proofs.Common.{SetTimingAdvance, SkipPairIds, Some, Step, Stream, subst, sym, true, ValidHaveConsented, ℕ}
 use Rattle.is_theorems.proofs.CallEffects.AddedCandidates.{by_adding_local, by_adding_remote, by_waking}
-use Rattle.is_theorems.proofs.CallEffects.FailedCallsAndNewAgents.{mtu_kept, local_kept, remote_kept, restart_kept, recreation_kept, enrolment_kept, storing_kept}
-use Rattle.is_theorems.proofs.ConnectedConsent.AnsweredPairs.{AreAnswered, answered-filter, answered-map, forms-firm, IsFirm, made-firm, received-firm, reselects-firm, timed-firm, unless-answered}
+use Rattle.is_theorems.proofs.CallEffects.FailedCallsAndNewAgents.{mtu_kept, local_kept, remote_kept, restart_kept, recreation_kept}
+use Rattle.is_theorems.proofs.CallEffects.FailedCallsAndNewAgents.{enrolment_kept, storing_kept}
+use Rattle.is_theorems.proofs.ConnectedConsent.AnsweredPairs.{AreAnswered, answered-filter, answered-map, forms-firm, IsFirm, made-firm}
+use Rattle.is_theorems.proofs.ConnectedConsent.AnsweredPairs.{received-firm, reselects-firm, timed-firm, unless-answered}
 use Rattle.is_theorems.proofs.RuleEffects.UnchangedSettings.{either}
 
 module _ {H P : Type 0} (mac : H → List ℕ → List ℕ → List ℕ) (answers : P → CandidateRecord → ℕ → ℕ → Type 0) where
@@ -73,8 +66,8 @@ module _ {H P : Type 0} (mac : H → List ℕ → List ℕ → List ℕ) (answer
         → ((mid : AgentRecord H P) (r : A) → Does r mid → IsFirm mid) → MaySelect to_answer Does old s e new t → IsFirm new
     selects to_answer Does does (r, emitted, is, (path, mid, h, again, out), drawn) = reselects-firm (loses_selected old mid) mid new path again (does mid r h)
 
-    asks : (at : ℕ) → AreAnswered (map (asked at old.timing) old.pairs)
-    asks at = answered-map (asked at old.timing) old.pairs (λ p a. a) f.1
+    asks : (at : ℕ) → AreAnswered (map (scheduled at old.timing) old.pairs)
+    asks at = answered-map (scheduled at old.timing) old.pairs (λ p a. a) f.1
 
     pub steps : (call : Call P) → lite_set_by call false ≡ false → Step mac answers old s call e new t → IsFirm new
     steps (SetMtu target warn) full h = may (SetsMtu old target warn) (λ k. subst (λ (a : AgentRecord H P). IsFirm a) (sym k.1) f) (mtu_kept old new target warn) h

@@ -1,16 +1,8 @@
 -- A connected agent that is never lite has a response to a recent check on its path, or a recent check of the peer.
-use Rattle.std.proofs.Common.{◌≡◌, ℕ, ◌-◌, ◌*◌, ◌<◌, ◌&&◌, ◌||◌, Bool, true, false, not, List, nat_lt, is_some, Option, Some, None, inl, inr, ◌⊎◌, refl, sym, subst, arith}
-use Rattle.std.specs.Option.{option_map_or}
-use Rattle.std.proofs.lemmas.Bool.Decides.{nat_tests}
-use Rattle.is_proto.specs.Times.{SECOND, later}
-use Rattle.is_candidate.specs.Candidates.{CandidateRecord}
-use Rattle.is_pair.specs.Due.{has_consent, is_heard}
-use Rattle.is_pair.specs.Pairs.{is_nominated, is_recent, is_valid, PairRecord}
-use Rattle.is_stun.specs.declared.timing.Consent.{Consent}
-use Rattle.is_stun.specs.Timing.{consent_of}
-use Rattle.is_rules.specs.Agent.{AgentRecord}
-use Rattle.is_rules.specs.Steps.{HandleTimeout}
-use Rattle.is_theorems.specs.ConsentExecutions.{AreNeverLite, ConnectedAreAnswered, IsAliveBy}
+use Rattle.is_theorems.proofs.Common.{◌&&◌, ◌*◌, ◌-◌, ◌<◌, ◌||◌, ◌≡◌, ◌⊎◌, AgentRecord, AreNeverLite, arith, Bool, CandidateRecord}
+use Rattle.is_theorems.proofs.Common.{ConnectedAreAnswered, Consent, consent_of, false, HandleTimeout, has_consent, inl, inr, is_heard}
+use Rattle.is_theorems.proofs.Common.{is_nominated, is_recent, is_some, is_valid, IsAliveBy, later, List, nat_lt, nat_tests, None, not}
+use Rattle.is_theorems.proofs.Common.{Option, option_map_or, PairRecord, refl, SECOND, Some, subst, sym, true, ℕ}
 use Rattle.is_theorems.proofs.BasicLemmas.EqualAddresses.{both}
 use Rattle.is_theorems.proofs.ConnectedConsent.AnsweredExecutions.{along, steps}
 use Rattle.is_theorems.proofs.ConnectedConsent.AnsweredPairs.{IsFirm}

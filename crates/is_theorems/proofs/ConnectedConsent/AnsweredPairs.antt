@@ -1,46 +1,24 @@
 -- While the agent is full, each valid pair has a check that got a response.
-use Rattle.std.proofs.Common.{◌≡◌, ℕ, ◌&&◌, ◌||◌, Bool, true, false, not, List, [], ◌∷◌, ◌++◌, map, filter, nat_lt, is_some, Option, Some, None, Result, Ok, Err, inl, inr, refl, sym, subst, if◌then◌else◌}
-use Rattle.std.specs.Prelude.{MatchOption, slice_set, unwrap_or}
-use Rattle.std.specs.List.{list_any}
-use Rattle.rand_core.specs.Stream.{Stream}
-use Rattle.is_proto.specs.declared.error.IceError.{IceError}
-use Rattle.is_proto.specs.Lists.{Has}
-use Rattle.is_candidate.specs.Candidates.{CandidateRecord, candidate_at}
-use Rattle.is_pair.specs.declared.pair.states.CheckState.{CheckState}
-use Rattle.is_pair.specs.declared.pair.states.CheckState.TheVariants.{Waiting, InProgress, Succeeded}
-use Rattle.is_pair.specs.Due.{asked}
-use Rattle.is_pair.specs.Multiset.{change_at, is_numbered, is_valid_at, without}
-use Rattle.is_pair.specs.Pairs.{PairRecord, checked, heard, heard_at, is_nominated, is_valid, last_of, nominated, taking_over, undue, with_request}
-use Rattle.is_pair.specs.States.{is_valid_state, state_from, state_once_sent}
-use Rattle.is_stun.specs.declared.header.Class.{Class}
+use Rattle.is_pair.specs.Pairs.{last_of}
 use Rattle.is_stun.specs.declared.header.Class.TheVariants as class
-use Rattle.is_stun.specs.declared.timing.StunTiming.{StunTiming}
-use Rattle.is_stun.specs.Message.{Message}
-use Rattle.is_rules.specs.declared.credentials.IceCreds.{IceCreds}
-use Rattle.is_rules.specs.declared.emitted.Emitted.{Emitted}
-use Rattle.is_rules.specs.declared.emitted.Issued.{Issued}
-use Rattle.is_rules.specs.declared.emitted.Path.{Path}
-use Rattle.is_rules.specs.declared.places.RemotePlace.{RemotePlace}
-use Rattle.is_rules.specs.declared.places.RemotePlace.TheVariants.{Known, Barred, Unknown, Vacant, Full}
-use Rattle.is_rules.specs.declared.roles.Conflict.{Conflict}
-use Rattle.is_rules.specs.declared.roles.Conflict.TheVariants.{Absent, Send487, SwitchRole}
-use Rattle.is_rules.specs.Accepting.{Takes, HandlesPacket, discovered_emitted}
-use Rattle.is_rules.specs.Agent.{AgentRecord}
-use Rattle.is_rules.specs.Answers.{HandlesFailure, HandlesSuccess}
-use Rattle.is_rules.specs.Checking.{all_asked, ChecksTop, MayCheck}
-use Rattle.is_rules.specs.Each.{Each}
-use Rattle.is_rules.specs.Forming.{Combination, combined_priority, formed, Formed, FormsAll, pair_of, SidesRecord, sides_of, Tries, with_pair}
-use Rattle.is_rules.specs.Nominating.{followed, nominated_by_self, Nominates, NominatesWhere, remains, selection_of, nominates_at_once, numbers}
-use Rattle.is_rules.specs.Places.{local_place}
-use Rattle.is_rules.specs.Queue.{first_taken, request_at}
-use Rattle.is_rules.specs.Request.{RequestRecord, request_in}
-use Rattle.is_rules.specs.Roles.{conflict_of, switched, switched_sides, with_priority_in}
-use Rattle.is_rules.specs.Serving.{after_request, AddsUnknownSender, CountsAndServes, Drops, FindsOrAddsPair, is_misled, is_for_other_peer, pair_served, Queues, RecordsAndResponds, request_counted, ResolvesRoleConflict, ResolvesRoleConflictBy, selects_at_requests, served, Serves, with_sender, with_sender_at, as_taken, nominated_by_peer}
-use Rattle.is_rules.specs.States.{evaluated}
-use Rattle.is_rules.specs.Steps.{Entry, Receives}
-use Rattle.is_rules.specs.Settling.{settled, Reselects}
-use Rattle.is_rules.specs.Timeouts.{at_request, at_timeout, expired_gone, is_expired, MaintainsPairs, RemovesExpired, timeout_begun, TimesOut}
-use Rattle.is_rules.proofs.PairLists.RemovedInTurn.{removes, RemovesInTurn}
+use Rattle.is_theorems.proofs.Common.{[], ◌&&◌, ◌++◌, ◌||◌, ◌∷◌, ◌≡◌, Absent, AddsUnknownSender, after_request, AgentRecord, all_scheduled}
+use Rattle.is_theorems.proofs.Common.{as_taken, scheduled, at_request, at_timeout, Barred, Bool, candidate_at, CandidateRecord, change_at}
+use Rattle.is_theorems.proofs.Common.{checked, CheckState, ChecksTop, Class, Combination, combined_priority, Conflict, conflict_of}
+use Rattle.is_theorems.proofs.Common.{CountsAndServes, discovered_emitted, Drops, Each, Emitted, Entry, Err, evaluated, expired_gone, false}
+use Rattle.is_theorems.proofs.Common.{filter, FindsOrAddsPair, first_taken, followed, Formed, formed, FormsAll, Full, gives_way}
+use Rattle.is_theorems.proofs.Common.{HandlesFailure, HandlesPacket, HandlesSuccess, Has, hastened, heard, heard_at, IceCreds, IceError}
+use Rattle.is_theorems.proofs.Common.{if◌then◌else◌, in_turn, inl, InProgress, inr, is_expired, is_for_other_peer, is_misled, is_nominated}
+use Rattle.is_theorems.proofs.Common.{is_numbered, is_some, is_valid, is_valid_at, is_valid_state, Issued, Known, List, list_any}
+use Rattle.is_theorems.proofs.Common.{local_place, MaintainsPairs, map, MatchOption, MayCheck, Message, nat_lt, nominated}
+use Rattle.is_theorems.proofs.Common.{nominated_by_peer, nominated_by_self, Nominates, nominates_at_once, NominatesWhere, None, not}
+use Rattle.is_theorems.proofs.Common.{numbers, Ok, Option, pair_of, pair_served, PairRecord, Path, path_left, Queues, Receives}
+use Rattle.is_theorems.proofs.Common.{RecordsAndResponds, refl, remains, RemotePlace, removes, RemovesExpired, RemovesInTurn, request_at}
+use Rattle.is_theorems.proofs.Common.{request_counted, request_in, RequestRecord, Reselects, ResolvesRoleConflict, ResolvesRoleConflictBy}
+use Rattle.is_theorems.proofs.Common.{Result, selection_of, selects_at_requests, Send487, served, Serves, state_updated, sides_of, SidesRecord}
+use Rattle.is_theorems.proofs.Common.{silent_gone, slice_set, Some, state_from, state_once_sent, Stream, StunTiming, subst, Succeeded}
+use Rattle.is_theorems.proofs.Common.{switched, switched_sides, SwitchRole, sym, Takes, taking_over, timeout_begun, TimesOut, Tries, true}
+use Rattle.is_theorems.proofs.Common.{undue, Unknown, unwrap_or, Vacant, Waiting, with_pair, with_priority_in, with_request, with_sender}
+use Rattle.is_theorems.proofs.Common.{with_sender_at, without, ℕ}
 use Rattle.is_theorems.proofs.CallEffects.ChecksAndResponses.{Has-set}
 use Rattle.is_theorems.proofs.RuleEffects.ChangedPairs.{Has-map}
 use Rattle.is_theorems.proofs.RuleEffects.EarlierAndNewPairs.{choose, Has-filter, Has-push}
@@ -50,7 +28,6 @@ use Rattle.is_theorems.proofs.RuleEffects.UnchangedSettings.{either}
 use Rattle.is_theorems.proofs.BasicLemmas.PairsInTurn.{by-begins, sent-pairs, sent_at}
 use Rattle.is_theorems.proofs.BasicLemmas.ServedPairs.{numbered-by}
 use Rattle.is_theorems.proofs.RuleEffects.NotedErrors.{coded, recoded, by_failure}
-use Rattle.is_rules.specs.Leaving.{gives_way, hastened, path_left, silent_gone}
 use Rattle.is_theorems.proofs.RuleEffects.HastenedPairs.{by-hastened, Hastens}
 
 -- ---- one pair
@@ -183,7 +160,7 @@ module _ {H P : Type 0} where
   gives-up-firm now old new path h f = either (list_any (is_expired now old) old.pairs) h
       (λ _ k. made-firm (evaluated now k.0) new k.2
       (nominates-firm (expired_gone now old) k.0 path k.1 (f.0, answered-filter (λ p. not (is_expired now old p)) old.pairs f.1)))
-      (λ _ k. made-firm (settled true now old) new k.1 f)
+      (λ _ k. made-firm (state_updated true now old) new k.1 f)
 
   pub reselects-firm : (loses : Bool) (old new : AgentRecord H P) (path : Option Path) → Reselects loses old path new → Keeps old new
   reselects-firm true old new path (named, nominates, made) f =
@@ -198,17 +175,17 @@ module _ {H P : Type 0} where
   check-firm mac now (Some remote) old new s t issued h f = either old.lite h
       (λ _ k. subst (λ (a : AgentRecord H P). IsFirm a) (sym k.1) (f.0, answered-map (heard now) old.pairs (λ p a. heard-answered now p.last_request p a) f.1))
       (λ _ k. next k.0 k.2) where
-        asks : AreAnswered (map (asked now old.timing) old.pairs)
-        asks = answered-map (asked now old.timing) old.pairs (λ p a. a) f.1
+        asks : AreAnswered (map (scheduled now old.timing) old.pairs)
+        asks = answered-map (scheduled now old.timing) old.pairs (λ p a. a) f.1
 
-        next : (top : Option PairRecord) → ChecksTop mac now remote top (all_asked now old) s issued new t → IsFirm new
+        next : (top : Option PairRecord) → ChecksTop mac now remote top (all_scheduled now old) s issued new t → IsFirm new
         next None (is, made, drawn) = subst (λ (a : AgentRecord H P). IsFirm a) (sym made) (f.0, asks)
         next (Some p) (id, drawn, values, is, made) = subst (λ (a : AgentRecord H P). IsFirm a) (sym made) (
           f.0,
-          (let begins : Bool = nominates_at_once (all_asked now old) in
+          (let begins : Bool = nominates_at_once (all_scheduled now old) in
               let change : PairRecord → PairRecord = sent_at begins now old.timing old.controlling id in
-              subst (λ ps. AreAnswered ps) (sym (sent-pairs begins p.number now old.timing old.controlling id (map (asked now old.timing) old.pairs)))
-              (answered-map (change_at p.number change) (map (asked now old.timing) old.pairs)
+              subst (λ ps. AreAnswered ps) (sym (sent-pairs begins p.number now old.timing old.controlling id (map (scheduled now old.timing) old.pairs)))
+              (answered-map (change_at p.number change) (map (scheduled now old.timing) old.pairs)
               (λ x a. at-answered p.number change x a
               (by-begins begins (λ y. IsAnswered y) now old.timing old.controlling id x (λ valid. a (sent-valid x.state valid)) (checked-answered now old.timing old.controlling id x a))) asks)),
         )
@@ -282,7 +259,7 @@ module _ {H P : Type 0} where
     here (Some l) s new emitted h f = resolves-by (conflict_of s q) l s new emitted h f
 
     serves : (s new : AgentRecord H P) (emitted : Emitted) → Serves mac q s emitted new → Keeps s new
-    serves s new emitted h f = either (is_for_other_peer s q) h (λ _ k. made-firm s new k.1 f) (λ _ k. here (local_place s.local q) s new emitted k f)
+    serves s new emitted h f = either (is_for_other_peer s q) (in_turn mac q s new emitted h) (λ _ k. made-firm s new k.1 f) (λ _ k. here (local_place s.local q) s new emitted k f)
 
     requested : (remote : Option IceCreds) (s new : AgentRecord H P) (emitted : Emitted) → MatchOption remote (Queues q s emitted new) (λ _. Serves mac q s emitted new) → Keeps s new
     requested None s new emitted h f = subst (λ (a : AgentRecord H P). IsFirm a) (sym h.1) f

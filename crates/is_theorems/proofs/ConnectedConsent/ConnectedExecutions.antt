@@ -1,19 +1,9 @@
 -- An agent that is connected after a `handle_timeout` call has selected the path of a pair with consent.
-use Rattle.std.proofs.Common.{◌≡◌, ℕ, true, false, List, [], ◌∷◌, ◌++◌, None, Result, Ok, Err, refl, ap, sym, ◌∙◌, subst}
-use Rattle.std.specs.Prelude.{MatchOption}
-use Rattle.rand_core.specs.Stream.{Stream}
-use Rattle.is_proto.specs.declared.error.IceError.{IceError}
-use Rattle.is_candidate.specs.Candidates.{CandidateRecord}
-use Rattle.is_pair.specs.Pairs.{is_nominated, is_valid}
-use Rattle.is_rules.specs.Agent.{AgentRecord}
-use Rattle.is_rules.specs.Connecting.{is_connected}
-use Rattle.is_rules.specs.declared.emitted.Emitted.{Emitted}
-use Rattle.is_rules.specs.Queue.{request_at}
-use Rattle.is_rules.specs.Sound.{IsSound}
-use Rattle.is_rules.specs.Steps.{answer_by, Done, done, Entry, HandleTimeout, Rejected}
-use Rattle.is_rules.specs.Timeouts.{at_request, MaintainsPairs, ServesQueued, timeout_begun, TimesOut}
-use Rattle.is_theorems.specs.AskedExecutions.{selected_along}
-use Rattle.is_theorems.specs.ConsentExecutions.{ConnectedHaveConsent}
+use Rattle.is_theorems.proofs.Common.{[], ◌++◌, ◌∙◌, ◌∷◌, ◌≡◌, AgentRecord, answer_by, ap, at_request, CandidateRecord}
+use Rattle.is_theorems.proofs.Common.{ConnectedHaveConsent, Done, done, Emitted, Entry, Err, false, HandleTimeout, IceError, is_connected}
+use Rattle.is_theorems.proofs.Common.{is_nominated, is_valid, IsSound, List, MaintainsPairs, MatchOption, None, Ok, refl, Rejected}
+use Rattle.is_theorems.proofs.Common.{request_at, Result, selected_along, ServesQueued, Stream, subst, sym, timeout_begun, TimesOut, true}
+use Rattle.is_theorems.proofs.Common.{ℕ}
 use Rattle.is_theorems.proofs.BasicLemmas.EqualAddresses.{both}
 use Rattle.is_theorems.proofs.CallEffects.FailedCallsAndNewAgents.{fresh_sound}
 use Rattle.is_theorems.proofs.CallEffects.PathAndTradeEffects.{path_theorem}

@@ -1,20 +1,9 @@
 -- An entry of a log ends an execution, oldest call first: so what holds of a connected agent after an execution holds at each entry.
-use Rattle.std.proofs.Common.{◌≡◌, ℕ, true, false, List, [], ◌∷◌, ◌++◌, Option, Some, None, inl, inr, refl, ap, sym, ◌∙◌, subst}
-use Rattle.rand_core.specs.Stream.{Stream}
-use Rattle.is_proto.specs.Lists.{Has}
-use Rattle.is_stun.specs.Timing.{consent_of}
-use Rattle.is_candidate.specs.Candidates.{CandidateRecord}
-use Rattle.is_rules.specs.Agent.{AgentRecord}
-use Rattle.is_rules.specs.Connecting.{is_connected}
-use Rattle.is_rules.specs.declared.emitted.Path.{Path}
-use Rattle.is_rules.specs.Effects.{lite_set_by}
-use Rattle.is_rules.specs.Queue.{request_at}
-use Rattle.is_rules.specs.Steps.{Call, Done, Entry, HandleTimeout, Step}
-use Rattle.is_theorems.specs.AskedExecutions.{selected_along}
-use Rattle.is_theorems.specs.ConsentExecutions.{AreNeverLite, ConnectedAreAnswered, ConnectedHaveConsent, HasConsentOn, IsConnectedAfter}
 use Rattle.is_theorems.specs.ConsentLogs.{IsConnectedAt, SelectedAreAlive, SelectedHaveConsent}
-use Rattle.is_theorems.specs.Logs.{last_selected, Logged, NeverLite}
-use Rattle.is_theorems.specs.Runs.{IsFresh, Point}
+use Rattle.is_theorems.proofs.Common.{[], ◌++◌, ◌∙◌, ◌∷◌, ◌≡◌, AgentRecord, ap, AreNeverLite, Call, CandidateRecord, ConnectedAreAnswered}
+use Rattle.is_theorems.proofs.Common.{ConnectedHaveConsent, consent_of, Done, Entry, false, HandleTimeout, Has, HasConsentOn, inl, inr}
+use Rattle.is_theorems.proofs.Common.{is_connected, IsConnectedAfter, IsFresh, last_selected, List, lite_set_by, Logged, NeverLite, None}
+use Rattle.is_theorems.proofs.Common.{Option, Path, Point, refl, request_at, selected_along, Some, Step, Stream, subst, sym, true, ℕ}
 use Rattle.is_theorems.proofs.ExecutionLogs.SegmentsAsExecutions.{calls_onto, execution_to, onto_is}
 
 module _ {P : Type 0} where

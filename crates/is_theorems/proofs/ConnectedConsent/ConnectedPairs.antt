@@ -1,24 +1,12 @@
 -- If the agent is connected after a `handle_timeout` call that serves no early request, a pair is valid and nominated.
-use Rattle.std.proofs.Common.{◌≡◌, ℕ, ◌&&◌, ◌||◌, Bool, true, false, not, List, [], ◌∷◌, map, Option, Some, None, inl, inr, refl, ap, sym, ◌∙◌, subst, if◌then◌else◌}
-use Rattle.std.specs.List.{list_any}
-use Rattle.rand_core.specs.Stream.{Stream}
-use Rattle.is_proto.specs.Lists.{Has}
-use Rattle.is_pair.specs.Due.{asked}
-use Rattle.is_pair.specs.Multiset.{change_at, is_numbered, change_pair}
-use Rattle.is_pair.specs.Pairs.{PairRecord, heard, is_nominated, is_valid, nominated, renominated}
-use Rattle.is_rules.specs.Agent.{AgentRecord}
-use Rattle.is_rules.specs.Checking.{all_asked, ChecksTop, MayCheck}
-use Rattle.is_rules.specs.Connecting.{is_connected}
-use Rattle.is_rules.specs.declared.credentials.IceCreds.{IceCreds}
-use Rattle.is_rules.specs.declared.emitted.Emitted.{Emitted}
-use Rattle.is_rules.specs.declared.emitted.Issued.{Issued}
-use Rattle.is_rules.specs.declared.emitted.Path.{Path}
-use Rattle.is_rules.specs.declared.event.IceConnectionState.{IceConnectionState}
-use Rattle.is_rules.specs.declared.event.IceConnectionState.TheVariants.{New, Checking, Connected, Completed, Disconnected}
-use Rattle.is_rules.specs.Nominating.{followed, nominated_by_self, nominated_emitted, with_selection, Nominates, remains, selection_of, nominates_at_once}
-use Rattle.is_rules.specs.Settling.{settled, settles, state_at}
-use Rattle.is_rules.specs.States.{evaluated, has_nominated, has_possible, is_nominated_and_valid, next_state, same_state}
-use Rattle.is_rules.specs.Timeouts.{at_timeout, is_expired, MaintainsPairs, RemovesExpired, timeout_begun}
+use Rattle.is_theorems.proofs.Common.{[], ◌&&◌, ◌||◌, ◌∙◌, ◌∷◌, ◌≡◌, AgentRecord, all_scheduled, ap, scheduled, at_timeout, Bool, change_at}
+use Rattle.is_theorems.proofs.Common.{change_pair, Checking, ChecksTop, Completed, Connected, Disconnected, Emitted, evaluated, false}
+use Rattle.is_theorems.proofs.Common.{followed, Has, has_nominated, has_possible, heard, IceConnectionState, IceCreds, if◌then◌else◌, inl}
+use Rattle.is_theorems.proofs.Common.{inr, is_connected, is_expired, is_modern, is_nominated, is_nominated_and_valid, is_numbered, is_valid}
+use Rattle.is_theorems.proofs.Common.{Issued, List, list_any, MaintainsPairs, map, MayCheck, New, next_state, nominated, nominated_by_self}
+use Rattle.is_theorems.proofs.Common.{nominated_emitted, Nominates, nominates_at_once, None, not, Option, PairRecord, Path, path_left, refl}
+use Rattle.is_theorems.proofs.Common.{remains, RemovesExpired, renominated, same_state, selection_of, state_updated, updates_late, Some, state_at}
+use Rattle.is_theorems.proofs.Common.{Stream, StunTiming, subst, sym, timeout_begun, true, with_selection, ℕ}
 use Rattle.is_theorems.proofs.BasicLemmas.EqualAddresses.{both}
 use Rattle.is_theorems.proofs.CallEffects.ChecksAndResponses.{again_nominated}
 use Rattle.is_theorems.proofs.CallEffects.ServedRequests.{Has-mapped}
@@ -26,9 +14,6 @@ use Rattle.is_theorems.proofs.PathSelection.NominationPoints.{Alike, checked_ali
 use Rattle.is_theorems.proofs.RuleEffects.NominatedPairs.{SelectsPath, selects_path}
 use Rattle.is_theorems.proofs.RuleEffects.UnchangedSettings.{either}
 use Rattle.is_theorems.proofs.BasicLemmas.PairsInTurn.{by-begins, sent-pairs, sent_at}
-use Rattle.is_stun.specs.declared.timing.StunTiming.{StunTiming}
-use Rattle.is_stun.specs.Timing.{is_modern}
-use Rattle.is_rules.specs.Leaving.{path_left}
 use Rattle.is_theorems.proofs.RuleEffects.PathsThatAreLeft.{original-left}
 
 -- ---- the next state
@@ -105,8 +90,8 @@ module _ {H P : Type 0} where
   evaluated-backed now a connected =
       any-found is_nominated_and_valid a.pairs (connected-selected a.state (has_nominated a) (has_possible now a) a.lite connected)
 
-  settled-backs : (now : ℕ) (a : AgentRecord H P) → Backs a (settled true now a)
-  settled-backs now a b = by (settles a) where
+  updated-backs : (now : ℕ) (a : AgentRecord H P) → Backs a (state_updated true now a)
+  updated-backs now a b = by (updates_late a) where
     by : (evaluates : Bool) → is_connected (if evaluates then state_at now a else a.state) ≡ true → HasNominated a.pairs
     by true connected = evaluated-backed now a connected
     by false connected = b connected
@@ -126,18 +111,18 @@ module _ {H P : Type 0} where
   gives-up-backs : (now : ℕ) (old new : AgentRecord H P) (path : Option Path) → RemovesExpired now old path new → Backs old new
   gives-up-backs now old new path h b = either (list_any (is_expired now old) old.pairs) h
       (λ _ k. subst (λ (a : AgentRecord H P). IsBacked a) (sym k.2) (evaluated-backed now k.0))
-      (λ _ k. same-backs (settled true now old) new k.1 (settled-backs now old b))
+      (λ _ k. same-backs (state_updated true now old) new k.1 (updated-backs now old b))
 
   -- with `Modern` the state is evaluated in any case
-  gives-up-settled : (now : ℕ) (old new : AgentRecord H P) (path : Option Path) → settles old ≡ true → RemovesExpired now old path new → IsBacked new
+  gives-up-settled : (now : ℕ) (old new : AgentRecord H P) (path : Option Path) → updates_late old ≡ true → RemovesExpired now old path new → IsBacked new
   gives-up-settled now old new path on h = either (list_any (is_expired now old) old.pairs) h
       (λ _ k. subst (λ (a : AgentRecord H P). IsBacked a) (sym k.2) (evaluated-backed now k.0))
       (λ _ k. subst (λ (a : AgentRecord H P). IsBacked a) (sym k.1) (λ connected.
       evaluated-backed now old (subst (λ (b : Bool). is_connected (if b then state_at now old else old.state) ≡ true) on connected)))
 
-  pub settles-named : (old new : AgentRecord H P) (path : Option Path) → Nominates old path new → settles new ≡ settles old
-  settles-named old new path (chosen, names, made) = ap (λ (a : AgentRecord H P). settles a) made ∙ emits path (with_selection chosen old) where
-    emits : (path : Option Path) (a : AgentRecord H P) → settles (nominated_emitted path a) ≡ settles a
+  pub settles-named : (old new : AgentRecord H P) (path : Option Path) → Nominates old path new → updates_late new ≡ updates_late old
+  settles-named old new path (chosen, names, made) = ap (λ (a : AgentRecord H P). updates_late a) made ∙ emits path (with_selection chosen old) where
+    emits : (path : Option Path) (a : AgentRecord H P) → updates_late (nominated_emitted path a) ≡ updates_late a
     emits None a = refl
     emits (Some path) a = refl
 
@@ -149,29 +134,29 @@ module _ {H P : Type 0} where
         (λ _ k. subst (λ (a : AgentRecord H P). IsBacked a) (sym k.1) (λ connected.
         alike-nominated (heard now) old.pairs (λ p. heard_alike false now p.last_request p) (b connected)))
         (λ _ k. next k.0 k.2) where
-          asks : is_connected old.state ≡ true → HasNominated (map (asked now old.timing) old.pairs)
-          asks connected = alike-nominated (asked now old.timing) old.pairs (λ p. record { number = refl; priority = refl; greatest = refl; eligible = refl }) (b connected)
+          asks : is_connected old.state ≡ true → HasNominated (map (scheduled now old.timing) old.pairs)
+          asks connected = alike-nominated (scheduled now old.timing) old.pairs (λ p. record { number = refl; priority = refl; greatest = refl; eligible = refl }) (b connected)
 
-          next : (due : Option PairRecord) → ChecksTop mac now peer due (all_asked now old) s issued new t → IsBacked new
+          next : (due : Option PairRecord) → ChecksTop mac now peer due (all_scheduled now old) s issued new t → IsBacked new
           next None (is, made, drawn) = subst (λ (a : AgentRecord H P). IsBacked a) (sym made) asks
           next (Some p) (id, drawn, values, is, made) = subst (λ (a : AgentRecord H P). IsBacked a) (sym made) (λ connected.
-              let begins : Bool = nominates_at_once (all_asked now old) in
-              subst (λ ps. HasNominated ps) (sym (sent-pairs begins p.number now old.timing old.controlling id (map (asked now old.timing) old.pairs)))
-              (sent-nominates begins now old.timing old.controlling id p.number (map (asked now old.timing) old.pairs) (asks connected)))
+              let begins : Bool = nominates_at_once (all_scheduled now old) in
+              subst (λ ps. HasNominated ps) (sym (sent-pairs begins p.number now old.timing old.controlling id (map (scheduled now old.timing) old.pairs)))
+              (sent-nominates begins now old.timing old.controlling id p.number (map (scheduled now old.timing) old.pairs) (asks connected)))
 
     -- ---- the call
 
     pub maintained-backed : (now : ℕ) (old new : AgentRecord H P) (s t : Stream) (emitted : Emitted)
         → MaintainsPairs mac now (timeout_begun now old) s emitted new t → IsBacked new
     maintained-backed now old new s t emitted (first, second, issued, named, kept, nominating, giving, checking, is) =
-        checks-backs now kept.remote_creds kept new s t issued checking (by (settles old) refl) where
+        checks-backs now kept.remote_creds kept new s t issued checking (by (updates_late old) refl) where
           base : AgentRecord H P
           base = at_timeout now (timeout_begun now old)
 
-          state-is : (b : Bool) → settles old ≡ b → base.state ≡ (if b then old.state else state_at now old)
+          state-is : (b : Bool) → updates_late old ≡ b → base.state ≡ (if b then old.state else state_at now old)
           state-is b is = ap (λ (c : Bool). if c then old.state else state_at now old) is
 
-          by : (b : Bool) → settles old ≡ b → IsBacked kept
+          by : (b : Bool) → updates_late old ≡ b → IsBacked kept
           by true is =
               let on = ap (λ (state : IceConnectionState). is_modern old.timing && not (same_state state New)) (state-is true is) ∙ is in
               gives-up-settled now named kept second (settles-named (path_left now base) named first nominating ∙ on) giving

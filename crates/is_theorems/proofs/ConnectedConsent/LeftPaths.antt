@@ -1,38 +1,15 @@
 -- A punctual caller makes the first `handle_timeout` call after consent on a path ended in time, and after it the agent is not connected on
 -- this path.
-use Rattle.std.proofs.Common.{◌≡◌, ℕ, ◌+◌, ◌*◌, ◌<◌, ◌≤◌, Bool, true, false, max, List, [], ◌∷◌, ◌++◌, is_some, Option, Some, None, inl, inr, ◌⊎◌, refl, ap, sym, ◌∙◌, subst, arith, if◌then◌else◌}
-use Rattle.std.specs.Option.{option_map_or}
-use Rattle.rand_core.specs.Stream.{Stream}
-use Rattle.is_proto.specs.Lists.{Has}
-use Rattle.is_proto.specs.Times.{later, MAX, SECOND}
-use Rattle.is_candidate.specs.Candidates.{CandidateRecord}
-use Rattle.is_pair.specs.Due.{consent_end, heard_until}
-use Rattle.is_pair.specs.Pairs.{is_valid, PairRecord}
-use Rattle.is_stun.specs.declared.timing.Consent.{Consent}
-use Rattle.is_stun.specs.declared.timing.StunTiming.{StunTiming}
-use Rattle.is_stun.specs.Timing.{consent_of}
-use Rattle.is_rules.specs.Agent.{AgentRecord}
-use Rattle.is_rules.specs.Connecting.{is_connected}
-use Rattle.is_rules.specs.declared.credentials.IceCreds.{IceCreds}
-use Rattle.is_rules.specs.declared.emitted.Path.{Path}
-use Rattle.is_rules.specs.Effects.{lite_set_by, remote_after}
-use Rattle.is_rules.specs.Issuing.{Waits, WaitsPast, WaitsWith}
-use Rattle.is_rules.specs.Queue.{next_request, queue_left, request_at}
-use Rattle.is_rules.specs.Request.{RequestRecord}
-use Rattle.is_rules.specs.Sending.{path_of}
-use Rattle.is_rules.specs.Sound.{GivesBased, IsSound}
-use Rattle.is_rules.specs.Steps.{Answer, Call, Done, Entry, HandleTimeout, is_done, NextTimeout, PollTimeout, RestartIce, SetIceLite, SetRemoteCredentials, SetTimingAdvance, Step}
-use Rattle.is_rules.specs.Timeouts.{timeout_begun}
-use Rattle.is_theorems.specs.AskedExecutions.{EndsAlong, IsAnsweredAlong, selected_along}
-use Rattle.is_theorems.specs.ConsentExecutions.{AreNeverLite, IsAliveBy, IsConnectedAfter}
-use Rattle.is_theorems.specs.Executions.{ExecutionRound}
-use Rattle.is_theorems.specs.Exchange.{Execution}
-use Rattle.is_theorems.specs.FirstTimeouts.{AreInRound}
-use Rattle.is_theorems.specs.InTime.{IsPrompt, IsPunctual, KeepsPace}
 use Rattle.is_theorems.specs.LeftInTime.{BeginsBy, consent_until, IsConnectedOn, IsRequestedAlong, IsSilentRound, LeavesBy, LeavesInTime}
-use Rattle.is_theorems.specs.Reached.{is_in_round}
-use Rattle.is_theorems.specs.ReachedExecutions.{PassRounds}
-use Rattle.is_theorems.specs.Runs.{IsFresh}
+use Rattle.is_theorems.proofs.Common.{[], ◌*◌, ◌++◌, ◌+◌, ◌<◌, ◌∙◌, ◌∷◌, ◌≡◌, ◌≤◌, ◌⊎◌, AgentRecord, Answer, ap, AreInRound, AreNeverLite}
+use Rattle.is_theorems.proofs.Common.{arith, Bool, Call, CandidateRecord, Consent, consent_end, consent_of, Done, EndsAlong, Entry}
+use Rattle.is_theorems.proofs.Common.{Execution, ExecutionRound, false, GivesBased, HandleTimeout, Has, heard_until, IceCreds}
+use Rattle.is_theorems.proofs.Common.{if◌then◌else◌, inl, inr, is_connected, is_done, is_in_round, is_some, is_valid, IsAliveBy}
+use Rattle.is_theorems.proofs.Common.{IsAnsweredAlong, IsConnectedAfter, IsFresh, IsPrompt, IsPunctual, IsSound, KeepsPace, later, List}
+use Rattle.is_theorems.proofs.Common.{lite_set_by, MAX, max, next_request, NextTimeout, None, Option, option_map_or, PairRecord, PassRounds}
+use Rattle.is_theorems.proofs.Common.{Path, path_of, PollTimeout, queue_left, refl, remote_after, request_at, RequestRecord, RestartIce}
+use Rattle.is_theorems.proofs.Common.{SECOND, selected_along, SetIceLite, SetRemoteCredentials, SetTimingAdvance, Some, Step, Stream}
+use Rattle.is_theorems.proofs.Common.{StunTiming, subst, sym, timeout_begun, true, Waits, WaitsPast, WaitsWith, ℕ}
 use Rattle.is_theorems.proofs.CallEffects.FailedCallsAndNewAgents.{fresh_sound}
 use Rattle.is_theorems.proofs.CallEffects.PathAndTradeEffects.{path_theorem, trade_theorem}
 use Rattle.is_theorems.proofs.ConnectedConsent.AnsweredExecutions.{along, steps}

@@ -1,34 +1,15 @@
 -- Calls in which no response and no request arrives on a path, and `handle_timeout` calls: the times from which consent on it is counted stay.
-use Rattle.std.proofs.Common.{◌≡◌, ℕ, Bool, true, false, not, List, map, Option, Some, None, Result, Ok, Err, inl, inr, refl, ap, sym, ◌∙◌, subst}
-use Rattle.rand_core.specs.Stream.{Stream}
-use Rattle.is_proto.specs.declared.error.IceError.{IceError}
-use Rattle.is_proto.specs.Lists.{Has}
-use Rattle.is_candidate.specs.Candidates.{CandidateRecord}
-use Rattle.is_pair.specs.Due.{asked}
-use Rattle.is_pair.specs.Pairs.{PairRecord}
-use Rattle.is_stun.specs.declared.header.Class.{Class}
 use Rattle.is_stun.specs.declared.header.Class.TheVariants as class
-use Rattle.is_stun.specs.Message.{Message}
-use Rattle.is_rules.specs.Accepting.{discovered_emitted, Takes}
-use Rattle.is_rules.specs.Agent.{AgentRecord}
-use Rattle.is_rules.specs.Answers.{is_reverse, keeps_check_on, HandlesFailure, HandlesSuccess}
-use Rattle.is_rules.specs.Brought.{Brings}
-use Rattle.is_rules.specs.declared.emitted.Emitted.{Emitted}
-use Rattle.is_rules.specs.declared.emitted.Path.{Path}
-use Rattle.is_rules.specs.Emitted.{reversed}
-use Rattle.is_rules.specs.Forming.{Combination, FormsAll}
-use Rattle.is_rules.specs.Local.{AddsLocal, appended, enabled_again}
-use Rattle.is_rules.specs.Discarding.{is_local_at, local_discarded}
-use Rattle.is_rules.specs.Remote.{AddsRemote, as_remote, with_remote}
-use Rattle.is_rules.specs.Request.{request_in}
-use Rattle.is_rules.specs.Roles.{switched_sides, with_priority_in}
-use Rattle.is_rules.specs.Sending.{path_of}
-use Rattle.is_rules.specs.Settling.{loses_selected}
-use Rattle.is_rules.specs.Sound.{IsSound}
-use Rattle.is_rules.specs.Steps.{AddLocalCandidate, AddRemoteCandidate, Call, Entry, HandleTimeout, PollEvent, PollTimeout, PollTransmit, ReceivePacket, Receives, SetControlling, SetControlTieBreaker, SetLocalCredentials, SetLocalPreference, SetMaxCandidatePairs, SetMaxDiscovered, SetMtu, SetRenomination, SetTimingAdvance, Step}
-use Rattle.is_rules.specs.Timeouts.{MaintainsPairs, timeout_begun}
-use Rattle.is_theorems.specs.AskedExecutions.{AcceptsSuccessOn}
-use Rattle.is_theorems.specs.Reached.{is_in_round}
+use Rattle.is_theorems.proofs.Common.{◌∙◌, ◌≡◌, AcceptsSuccessOn, AddLocalCandidate, AddRemoteCandidate, AddsLocal, AddsRemote, AgentRecord}
+use Rattle.is_theorems.proofs.Common.{ap, appended, as_remote, scheduled, Bool, Brings, Call, CandidateRecord, Class, Combination}
+use Rattle.is_theorems.proofs.Common.{discovered_emitted, Emitted, enabled_again, Entry, Err, false, FormsAll, HandlesFailure}
+use Rattle.is_theorems.proofs.Common.{HandlesSuccess, HandleTimeout, Has, IceError, inl, inr, is_in_round, is_local_at, is_reverse, IsSound}
+use Rattle.is_theorems.proofs.Common.{keeps_check_on, List, local_discarded, loses_selected, MaintainsPairs, map, Message, None, not, Ok}
+use Rattle.is_theorems.proofs.Common.{Option, PairRecord, Path, path_of, PollEvent, PollTimeout, PollTransmit, ReceivePacket, Receives}
+use Rattle.is_theorems.proofs.Common.{refl, request_in, Result, reversed, SetControlling, SetControlTieBreaker, SetLocalCredentials}
+use Rattle.is_theorems.proofs.Common.{SetLocalPreference, SetMaxCandidatePairs, SetMaxDiscovered, SetMtu, SetRenomination, SetTimingAdvance}
+use Rattle.is_theorems.proofs.Common.{Some, Step, Stream, subst, switched_sides, sym, Takes, timeout_begun, true, with_priority_in}
+use Rattle.is_theorems.proofs.Common.{with_remote, ℕ}
 use Rattle.is_theorems.proofs.BasicLemmas.EqualAddresses.{both}
 use Rattle.is_theorems.proofs.CallEffects.AddedCandidates.{by_adding_local, by_adding_remote, by_waking}
 use Rattle.is_theorems.proofs.CallEffects.ChangedCandidates.{discards_local, local_changes, remote_changes}
@@ -36,7 +17,8 @@ use Rattle.is_theorems.proofs.CallEffects.ChecksAndResponses.{Has-get, Has-set, 
 use Rattle.is_theorems.proofs.CallEffects.FailedCallsAndNewAgents.{enrolment_kept, local_kept, mtu_kept, storing_kept}
 use Rattle.is_theorems.proofs.CallEffects.PathAndTradeEffects.{path_theorem}
 use Rattle.is_theorems.proofs.CallEffects.ServedRequests.{remote_joins}
-use Rattle.is_theorems.proofs.ConnectedConsent.SilentPairs.{Carried, carried-over, forms-over, Goes, IsOver, made-over, moved-over, over-as, PairsOver, parts, reselects-over}
+use Rattle.is_theorems.proofs.ConnectedConsent.SilentPairs.{Carried, carried-over, forms-over, Goes, IsOver, made-over, moved-over, over-as}
+use Rattle.is_theorems.proofs.ConnectedConsent.SilentPairs.{PairsOver, parts, reselects-over}
 use Rattle.is_theorems.proofs.ConnectedConsent.SilentRequests.{requested-over}
 use Rattle.is_theorems.proofs.DuePairs.AfterNominationAndRemoval.{nominates-thins}
 use Rattle.is_theorems.proofs.DuePairs.ConsentAfterTimeouts.{maintains-consents}
@@ -154,7 +136,7 @@ module _ {H P : Type 0} (mac : H → List ℕ → List ℕ → List ℕ) (answer
   step-over PollTransmit e old new s t is silent sound (given, reported, (polled, made), drawn) o = subst (λ (a : AgentRecord H P). Over a) (sym made) o
   step-over PollTimeout e old new s t is silent sound (deadline, reported, h, drawn) o = by_waking old new deadline h
       (λ made. made-of old new made o)
-      (λ at made. subst (λ (a : AgentRecord H P). Over a) (sym made) (same-over (asked at old.timing) old (λ p. (refl, refl, refl, refl)) o))
+      (λ at made. subst (λ (a : AgentRecord H P). Over a) (sym made) (same-over (scheduled at old.timing) old (λ p. (refl, refl, refl, refl)) o))
   step-over PollEvent e old new s t is silent sound (given, reported, (polled, made), drawn) o = subst (λ (a : AgentRecord H P). Over a) (sym made) o
   step-over (AddLocalCandidate c) e old new s t is silent sound (r, emitted, reported, (named, mid, h, again, emits), drawn) o =
       reselects-over strict sent heard path (loses_selected old mid) mid new named again (adds-local old mid c r (fit_of old sound) h o)

@@ -1,25 +1,15 @@
 -- The pairs on a path on which no response and no request arrives: the times from which consent is counted stay.
-use Rattle.std.proofs.Common.{◌≡◌, ℕ, ◌<◌, ◌≤◌, Bool, true, false, not, List, [], ◌∷◌, nat_lt, Option, Some, None, inl, inr, ◌⊎◌, refl, ap, sym, ◌∙◌, subst, arith}
-use Rattle.is_proto.specs.Lists.{Has}
-use Rattle.is_candidate.specs.Candidates.{CandidateRecord, base_of, candidate_at}
-use Rattle.is_pair.specs.Multiset.{is_numbered, without}
-use Rattle.is_pair.specs.Pairs.{PairRecord, last_of, taking_over}
-use Rattle.is_rules.specs.Agent.{AgentRecord}
-use Rattle.is_rules.specs.Brought.{Continues}
-use Rattle.is_rules.specs.declared.emitted.Path.{Path}
-use Rattle.is_rules.specs.Each.{Each}
-use Rattle.is_rules.specs.Forming.{Combination, combined_priority, Formed, FormsAll, pair_of, SidesRecord, sides_of, Tries}
-use Rattle.is_rules.specs.Nominating.{Nominates, NominatesWhere}
-use Rattle.is_rules.specs.Sending.{path_of}
-use Rattle.is_rules.specs.Settling.{Reselects}
-use Rattle.is_rules.specs.Sound.{IsSound}
-use Rattle.is_rules.specs.States.{evaluated}
-use Rattle.is_rules.proofs.PairLists.RemovedInTurn.{removes, RemovesInTurn}
-use Rattle.is_rules.proofs.PairLists.RisingNumbers.{below-each, rising-each}
+use Rattle.is_pair.specs.Pairs.{last_of}
+use Rattle.is_theorems.proofs.Common.{[], ◌<◌, ◌∙◌, ◌∷◌, ◌≡◌, ◌≤◌, ◌⊎◌, AgentRecord, ap, arith, base_of, below-each, Bool, candidate_at}
+use Rattle.is_theorems.proofs.Common.{CandidateRecord, Combination, combined_priority, Continues, Each, evaluated, false, Formed, FormsAll}
+use Rattle.is_theorems.proofs.Common.{Has, inl, inr, is_numbered, IsSound, List, nat_lt, Nominates, NominatesWhere, None, not, Option}
+use Rattle.is_theorems.proofs.Common.{pair_of, PairRecord, Path, path_of, refl, removes, RemovesInTurn, Reselects, rising-each, sides_of}
+use Rattle.is_theorems.proofs.Common.{SidesRecord, Some, subst, sym, taking_over, Tries, true, without, ℕ}
 use Rattle.is_theorems.proofs.DuePairs.AfterNominationAndRemoval.{Base, nominates-thins, Thins}
 use Rattle.is_theorems.proofs.PathSelection.NominationPoints.{All1, All3, AllNumbers}
 use Rattle.is_theorems.proofs.RuleEffects.ChangedPairs.{parts_of}
-use Rattle.is_theorems.proofs.RuleEffects.EarlierAndNewPairs.{choose, Fit, Has-filter, Has-push, Onward, Parts, parts_with, path_in, redundant_path, taken_consent, taken_rest}
+use Rattle.is_theorems.proofs.RuleEffects.EarlierAndNewPairs.{choose, Fit, Has-filter, Has-push, Onward, Parts, parts_with, path_in}
+use Rattle.is_theorems.proofs.RuleEffects.EarlierAndNewPairs.{redundant_path, taken_consent, taken_rest}
 use Rattle.is_theorems.proofs.RuleEffects.SelectedPaths.{none_is, one_pair}
 
 abbrev pub Goes : Parts → Parts → Type 0

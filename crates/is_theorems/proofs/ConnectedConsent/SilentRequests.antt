@@ -1,31 +1,18 @@
 -- A request on another path leaves the times from which consent on this one is counted.
-use Rattle.std.proofs.Common.{◌≡◌, ◌≢◌, ℕ, ◌<◌, Bool, true, false, List, length, Option, Some, None, inl, inr, refl, ap, sym, ◌∙◌, subst, arith, if◌then◌else◌, ◌&&◌}
-use Rattle.std.specs.Prelude.{MatchOption}
-use Rattle.is_proto.specs.Lists.{Has}
-use Rattle.is_candidate.specs.Candidates.{base_of, candidate_at, CandidateRecord, IsBased}
-use Rattle.is_pair.specs.Multiset.{change_at, is_numbered, is_valid_at, IsPairBetween}
-use Rattle.is_pair.specs.Pairs.{PairRecord}
-use Rattle.is_rules.specs.Agent.{AgentRecord}
-use Rattle.is_rules.specs.declared.credentials.IceCreds.{IceCreds}
-use Rattle.is_rules.specs.declared.emitted.Emitted.{Emitted}
-use Rattle.is_rules.specs.declared.emitted.Path.{Path}
-use Rattle.is_rules.specs.declared.places.RemotePlace.{RemotePlace}
-use Rattle.is_rules.specs.declared.places.RemotePlace.TheVariants.{Known, Barred, Unknown, Vacant, Full}
-use Rattle.is_rules.specs.declared.roles.Conflict.{Conflict}
-use Rattle.is_rules.specs.declared.roles.Conflict.TheVariants.{Absent, Send487, SwitchRole}
-use Rattle.is_rules.specs.Emitted.{reversed}
-use Rattle.is_rules.specs.Forming.{formed, with_pair}
-use Rattle.is_rules.specs.Limit.{IsSenderPlace}
-use Rattle.is_rules.specs.Nominating.{numbers}
-use Rattle.is_rules.specs.Places.{local_place}
-use Rattle.is_rules.specs.Request.{RequestRecord}
-use Rattle.is_rules.specs.Roles.{conflict_of, switched, switched_sides, with_priority_in}
-use Rattle.is_rules.specs.Sending.{path_between}
-use Rattle.is_rules.specs.Serving.{AddsUnknownSender, after_request, as_taken, CountsAndServes, Drops, FindsOrAddsPair, is_misled, is_for_other_peer, pair_served, Queues, RecordsAndResponds, request_counted, ResolvesRoleConflict, ResolvesRoleConflictBy, selects_at_requests, sender_candidate, Serves, with_sender, with_sender_at}
+use Rattle.is_theorems.proofs.Common.{◌&&◌, ◌<◌, ◌∙◌, ◌≡◌, ◌≢◌, Absent, AddsUnknownSender, after_request, AgentRecord, ap, arith, as_taken}
+use Rattle.is_theorems.proofs.Common.{Barred, base_of, Bool, candidate_at, CandidateRecord, change_at, Conflict, conflict_of}
+use Rattle.is_theorems.proofs.Common.{CountsAndServes, Drops, Emitted, false, FindsOrAddsPair, formed, Full, Has, IceCreds, if◌then◌else◌}
+use Rattle.is_theorems.proofs.Common.{in_turn, inl, inr, is_for_other_peer, is_misled, is_numbered, is_valid_at, IsBased, IsPairBetween}
+use Rattle.is_theorems.proofs.Common.{IsSenderPlace, Known, length, List, local_place, MatchOption, None, numbers, Option, pair_served}
+use Rattle.is_theorems.proofs.Common.{PairRecord, Path, path_between, Queues, RecordsAndResponds, refl, RemotePlace, request_counted}
+use Rattle.is_theorems.proofs.Common.{RequestRecord, ResolvesRoleConflict, ResolvesRoleConflictBy, reversed, selects_at_requests, Send487}
+use Rattle.is_theorems.proofs.Common.{sender_candidate, Serves, Some, subst, switched, switched_sides, SwitchRole, sym, true, Unknown}
+use Rattle.is_theorems.proofs.Common.{Vacant, with_pair, with_priority_in, with_sender, with_sender_at, ℕ}
 use Rattle.is_theorems.proofs.BasicLemmas.CandidatesByIndex.{at-end}
 use Rattle.is_theorems.proofs.BasicLemmas.VacantIndices.{known-in, put-here, vacant-at}
 use Rattle.is_theorems.proofs.CallEffects.ChecksAndResponses.{numbered}
-use Rattle.is_theorems.proofs.CallEffects.ServedRequests.{is_at_places, known_at, reached, remote_joins, remote_puts, request_at_places, switches}
+use Rattle.is_theorems.proofs.CallEffects.ServedRequests.{is_at_places, known_at, reached, remote_joins, remote_puts, request_at_places}
+use Rattle.is_theorems.proofs.CallEffects.ServedRequests.{switches}
 use Rattle.is_theorems.proofs.ConnectedConsent.SilentPairs.{IsOver, made-over, moved-over, over-as, over-new, PairsOver, parts, where-over}
 use Rattle.is_theorems.proofs.DuePairs.AfterNominationAndRemoval.{Kept}
 use Rattle.is_theorems.proofs.EarlierChecks.ChangedPairs.{served-mild}
@@ -151,7 +138,7 @@ module _ {H P : Type 0} (mac : H → List ℕ → List ℕ → List ℕ) (strict
   finds (Some l) s new emitted is based fit h o = resolves-by (conflict_of s q) l s new emitted fit (reached s.local q l based is).1 h o
 
   serves : (s new : AgentRecord H P) (emitted : Emitted) → ((c : CandidateRecord) → Has s.local c → IsBased c) → FitIn s → Serves mac q s emitted new → Over s → Over new
-  serves s new emitted based fit h o = either (is_for_other_peer s q) h
+  serves s new emitted based fit h o = either (is_for_other_peer s q) (in_turn mac q s new emitted h)
       (λ _ k. made-of s new k.1 o)
       (λ _ k. finds (local_place s.local q) s new emitted refl based fit k o)
 

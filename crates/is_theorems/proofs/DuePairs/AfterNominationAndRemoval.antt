@@ -1,37 +1,20 @@
 -- What nomination and removal leave of a list of pairs: fewer of them, each due as it was. As a silent path is left, pairs may become due
 -- sooner, but only after the call.
-use Rattle.std.proofs.Common.{◌≡◌, ℕ, ◌<◌, ◌≤◌, ◌&&◌, ◌||◌, Bool, true, false, not, min, List, [], ◌∷◌, length, map, filter, nat_le, nat_lt, Option, Some, None, is_some, option_map, unwrap_or, inl, inr, ◌⊎◌, refl, ap, sym, ◌∙◌, subst, arith, if◌then◌else◌}
-use Rattle.std.specs.List.{list_any}
-use Rattle.std.specs.Option.{option_map_or}
-use Rattle.is_proto.specs.Lists.{Has}
-use Rattle.is_proto.specs.Times.{later}
-use Rattle.is_candidate.specs.Candidates.{CandidateRecord}
-use Rattle.is_pair.specs.Pairs.{PairRecord, is_nominated, is_recent, is_valid, nominated}
-use Rattle.is_pair.specs.Checks.{Check, unanswered_count}
 use Rattle.is_pair.specs.Due as due
-use Rattle.is_pair.specs.Multiset.{is_numbered, change_at, is_named_by}
-use Rattle.is_pair.specs.Silence.{silence_of}
-use Rattle.is_stun.specs.declared.timing.StunTiming.{StunTiming}
-use Rattle.is_stun.specs.declared.timing.Consent.{Consent}
-use Rattle.is_stun.specs.Timing.{is_modern, consent_of}
-use Rattle.is_rules.specs.declared.credentials.IceCreds.{IceCreds}
-use Rattle.is_rules.specs.declared.emitted.Path.{Path}
-use Rattle.is_rules.specs.Request.{RequestRecord}
-use Rattle.is_rules.specs.Agent.{AgentRecord}
-use Rattle.is_rules.specs.Nominating.{nominated_by_self, Nominates, followed, remains, selection_of, is_eligible}
-use Rattle.is_rules.specs.Timeouts.{is_expired, expired_gone, RemovesExpired}
+use Rattle.is_theorems.proofs.Common.{[], ◌&&◌, ◌<◌, ◌||◌, ◌∙◌, ◌∷◌, ◌≡◌, ◌≤◌, ◌⊎◌, AgentRecord, ap, arith, awaits_nomination, Bool}
+use Rattle.is_theorems.proofs.Common.{CandidateRecord, change_at, Check, ChecksInTurn, Consent, consent_of, expired_gone, false, filter}
+use Rattle.is_theorems.proofs.Common.{followed, gives_way, Has, hastened, IceCreds, if◌then◌else◌, inl, inr, is_eligible, is_expired}
+use Rattle.is_theorems.proofs.Common.{is_modern, is_named_by, is_nominated, is_numbered, is_recent, is_silent_enough, is_some, is_valid}
+use Rattle.is_theorems.proofs.Common.{IsGone, IsLasting, IsSound, later, length, List, list_any, map, may_replace, min, nat_le, nat_lt}
+use Rattle.is_theorems.proofs.Common.{nat_tests, no-more, nominated, nominated_by_self, Nominates, None, not, Option, option_map}
+use Rattle.is_theorems.proofs.Common.{option_map_or, PairRecord, Path, path_left, refl, remains, RemovesExpired, RequestRecord}
+use Rattle.is_theorems.proofs.Common.{selection_of, silence_of, silent_gone, Some, StunTiming, subst, sym, thinner, true, unanswered_count}
+use Rattle.is_theorems.proofs.Common.{unwrap_or, ℕ}
 use Rattle.is_theorems.proofs.RuleEffects.UnchangedSettings.{either}
 use Rattle.is_theorems.proofs.RuleEffects.ChangedPairs.{Has-map}
 use Rattle.is_theorems.proofs.RuleEffects.EarlierAndNewPairs.{Has-filter}
 use Rattle.is_theorems.proofs.CallEffects.ServedRequests.{Has-mapped}
 use Rattle.is_theorems.proofs.RuleEffects.NominatedPairs.{SelectsPath, selects_path}
-use Rattle.is_pair.proofs.DueTimes.CountOfDuePairs.{no-more, thinner}
-use Rattle.is_theorems.specs.Progress.{IsGone, ChecksInTurn}
-use Rattle.is_theorems.specs.Reached.{IsLasting}
-use Rattle.is_rules.specs.Sound.{IsSound}
-use Rattle.std.proofs.lemmas.Bool.Decides.{nat_tests}
-use Rattle.is_rules.specs.Due.{awaits_nomination}
-use Rattle.is_rules.specs.Leaving.{gives_way, hastened, is_silent_enough, may_replace, path_left, silent_gone}
 use Rattle.is_theorems.proofs.RuleEffects.HastenedPairs.{due_next, Hastens}
 
 -- ---- lists
@@ -40,7 +23,7 @@ use Rattle.is_theorems.proofs.RuleEffects.HastenedPairs.{due_next, Hastens}
 abbrev pub Distinct : List PairRecord → Type 0
 Distinct ps = (p q : PairRecord) → Has ps p → Has ps q → p.number ≡ q.number → p ≡ q
 
--- the same pair, due as it was
+-- q is the pair p, due as it was
 pub record Alike (p q : PairRecord) : Type 0 where
   pub number : q.number ≡ p.number
   pub local : q.local ≡ p.local
@@ -64,23 +47,11 @@ alike-kept p q a = ap (λ cs. let k : Kept = (cs, q.consented) in k) a.checks �
 alike-same : (p : PairRecord) → Alike p p
 alike-same p = record { number = refl; local = refl; remote = refl; due = refl; checks = refl; valid = refl; consented = refl; heard = refl }
 
-alike-on : (p q r : PairRecord) → Alike p q → Alike q r → Alike p r
-alike-on p q r a b = record {
-  number = b.number ∙ a.number;
-  local = b.local ∙ a.local;
-  remote = b.remote ∙ a.remote;
-  due = b.due ∙ a.due;
-  checks = b.checks ∙ a.checks;
-  valid = b.valid ∙ a.valid;
-  consented = b.consented ∙ a.consented;
-  heard = b.heard ∙ a.heard;
-}
-
 -- its due time, if it is fixed, is at most this time
 abbrev pub is_fixed_by : ℕ → PairRecord → Bool
 is_fixed_by by p = nat_le (unwrap_or p.due 0) by
 
--- the same pair; it may be due sooner, but not before this time
+-- q is the pair p; it may be due sooner, but not before this time
 pub record Akin (to : ℕ) (p q : PairRecord) : Type 0 where
   pub number : q.number ≡ p.number
   pub local : q.local ≡ p.local

@@ -1,55 +1,31 @@
 -- A packet that is not an accepted success response leaves a controlling agent's pairs due as they were, and adds
 -- none that is due early.
-use Rattle.std.proofs.Common.{◌≡◌, ℕ, ◌+◌, ◌<◌, ◌≤◌, ◌==◌, ◌&&◌, ◌||◌, Bool, true, false, not, List, [], ◌∷◌, ◌++◌, length, map, filter, min, Option, Some, None, is_some, option_map, unwrap_or, Ok, Err, inl, inr, ◌⊎◌, refl, ap, sym, ◌∙◌, subst, arith, if◌then◌else◌, max}
-use Rattle.std.specs.Prelude.{MatchOption, nat_lt}
-use Rattle.std.specs.List.{list_any}
-use Rattle.std.specs.Option.{option_map_or}
-use Rattle.is_proto.specs.Lists.{Has, same}
-use Rattle.is_proto.specs.Times.{MAX, later}
-use Rattle.is_candidate.specs.Candidates.{CandidateRecord, candidate_at}
-use Rattle.is_pair.specs.Pairs.{PairRecord, is_valid, new_pair, with_request}
-use Rattle.is_pair.specs.Checks.{Check, last_check, unanswered_count, last_round_trip}
-use Rattle.is_pair.specs.States.{is_nominating, is_nominated_state}
-use Rattle.is_pair.specs.declared.pair.states.NominationState.{NominationState}
-use Rattle.is_pair.specs.declared.pair.states.NominationState.TheVariants.{None as Unnominated, Nominated, Attempt, Success}
-use Rattle.is_pair.specs.Due.{is_early_on, is_within, computed_due_time, delay_of, due_time_of, is_triggered, moved_up, next_due_time, triggered, usual_delay, HUSHED_INTERVAL, HUSHED_TIME, LATENESS, SHORT_INTERVAL}
-use Rattle.is_pair.specs.Multiset.{is_numbered, change_at, passes_at, is_valid_at}
-use Rattle.is_stun.specs.declared.header.Class.{Class}
+use Rattle.is_pair.specs.Due.{response_wait}
+use Rattle.is_pair.specs.declared.pair.states.NominationState.TheVariants.{None as Unnominated}
 use Rattle.is_stun.specs.declared.header.Class.TheVariants as class
-use Rattle.is_stun.specs.declared.timing.StunTiming.{StunTiming}
-use Rattle.is_stun.specs.Timing.{early_delay, is_modern}
-use Rattle.is_stun.specs.Message.{Message}
-use Rattle.is_rules.specs.declared.credentials.IceCreds.{IceCreds}
-use Rattle.is_rules.specs.declared.places.RemotePlace.{RemotePlace}
-use Rattle.is_rules.specs.declared.places.RemotePlace.TheVariants.{Known, Barred, Unknown, Vacant, Full}
-use Rattle.is_rules.specs.declared.roles.Conflict.{Conflict}
-use Rattle.is_rules.specs.declared.roles.Conflict.TheVariants.{Absent, Send487, SwitchRole}
-use Rattle.is_rules.specs.declared.emitted.Path.{Path}
-use Rattle.is_rules.specs.declared.emitted.Emitted.{Emitted}
-use Rattle.is_rules.specs.Request.{RequestRecord, request_in}
-use Rattle.is_rules.specs.Places.{local_place}
-use Rattle.is_rules.specs.Limit.{IsSenderPlace}
-use Rattle.is_rules.specs.Agent.{AgentRecord}
-use Rattle.is_rules.specs.Sending.{path_between}
-use Rattle.is_rules.specs.Forming.{formed, with_pair, priority_between}
-use Rattle.is_rules.specs.Nominating.{numbers, NominatesWhere}
-use Rattle.is_rules.specs.Roles.{conflict_of, switched}
-use Rattle.is_rules.specs.Settling.{settled}
-use Rattle.is_rules.specs.Serving.{as_taken, after_request, served, selects_at_requests, trigger_time, is_misled, is_for_other_peer, pair_served, request_counted, with_sender, with_sender_at, sender_candidate, replied, Drops, Queues, RecordsAndResponds, FindsOrAddsPair, AddsUnknownSender, CountsAndServes, ResolvesRoleConflictBy, ResolvesRoleConflict, Serves}
-use Rattle.is_rules.specs.Answers.{HandlesFailure}
-use Rattle.rand_core.specs.Stream.{Stream}
-use Rattle.is_rules.specs.Steps.{Entry, Flag, ReceivePacket, Step}
-use Rattle.is_rules.specs.Accepting.{Takes, HandlesPacket}
+use Rattle.is_theorems.proofs.Common.{[], ◌&&◌, ◌++◌, ◌+◌, ◌<◌, ◌==◌, ◌||◌, ◌∙◌, ◌∷◌, ◌≡◌, ◌≤◌, ◌⊎◌, Absent, AddsUnknownSender}
+use Rattle.is_theorems.proofs.Common.{after_request, AgentRecord, AllBelow, ap, arith, Arrival, as_taken, Attempt, Barred, Bool}
+use Rattle.is_theorems.proofs.Common.{candidate_at, CandidateRecord, change_at, Check, Class, computed_due_time, Conflict, conflict_of}
+use Rattle.is_theorems.proofs.Common.{CountsAndServes, delay_of, Drops, due_by, due_time_of, early_delay, Emitted, Entry, Err, false}
+use Rattle.is_theorems.proofs.Common.{filter, FindsOrAddsPair, Flag, formed, Full, HandlesFailure, HandlesPacket, Has, HUSHED_INTERVAL}
+use Rattle.is_theorems.proofs.Common.{HUSHED_TIME, IceCreds, if◌then◌else◌, in_turn, inl, inr, is_due_by, is_early_on, is_for_other_peer}
+use Rattle.is_theorems.proofs.Common.{is_misled, is_modern, is_nominated_state, is_nominating, is_numbered, is_some, is_triggered, is_valid}
+use Rattle.is_theorems.proofs.Common.{is_valid_at, is_within, IsSenderPlace, IsSuccess, Known, last_check, last_round_trip, LATENESS, later}
+use Rattle.is_theorems.proofs.Common.{length, List, list_any, local_place, map, MatchOption, MAX, max, Message, min, moved_up, nat_lt}
+use Rattle.is_theorems.proofs.Common.{new_pair, next_due_time, no-more, Nominated, NominatesWhere, NominationState, None, not, not-by}
+use Rattle.is_theorems.proofs.Common.{numbers, Ok, Option, option_map, option_map_or, pair_served, PairRecord, passes_at, Path}
+use Rattle.is_theorems.proofs.Common.{path_between, priority_between, Queues, ReceivePacket, RecordsAndResponds, refl, RemotePlace, replied}
+use Rattle.is_theorems.proofs.Common.{request_counted, request_in, RequestRecord, ResolvesRoleConflict, ResolvesRoleConflictBy, same}
+use Rattle.is_theorems.proofs.Common.{selects_at_requests, Send487, sender_candidate, served, Serves, state_updated, SHORT_INTERVAL, Some, Step}
+use Rattle.is_theorems.proofs.Common.{Stream, StunTiming, subst, Success, switched, SwitchRole, sym, Takes, trigger_time, triggered, true}
+use Rattle.is_theorems.proofs.Common.{unanswered_count, Unknown, unwrap_or, usual_delay, Vacant, with_pair, with_request, with_sender}
+use Rattle.is_theorems.proofs.Common.{with_sender_at, ℕ}
 use Rattle.is_theorems.proofs.RuleEffects.UnchangedSettings.{either, Frame, admits}
 use Rattle.is_theorems.proofs.RuleEffects.ChangedPairs.{Has-map}
 use Rattle.is_theorems.proofs.RuleEffects.EarlierAndNewPairs.{Has-push}
-use Rattle.is_rules.proofs.PairLists.RisingNumbers.{AllBelow}
 use Rattle.is_theorems.proofs.CallEffects.ServedRequests.{Has-mapped}
 use Rattle.is_theorems.proofs.BasicLemmas.ServedPairs.{unnumbered-pair}
 use Rattle.is_theorems.proofs.BasicLemmas.VacantIndices.{KeepsRemote, keeps-remote-same, keeps-remote-more, keeps-remote-put, vacant-at}
-use Rattle.is_pair.specs.Turns.{is_due_by, due_by}
-use Rattle.is_pair.proofs.DueTimes.CountOfDuePairs.{no-more, not-by}
-use Rattle.is_theorems.specs.Progress.{Arrival, IsSuccess}
 use Rattle.is_theorems.proofs.DuePairs.AfterNominationAndRemoval.{Distinct, last_time_of}
 use Rattle.is_theorems.proofs.DuePairs.FirstDuePair.{Matches, le-from, le-is, matches-on, follows-map}
 use Rattle.is_theorems.proofs.RuleEffects.NotedErrors.{coded, recoded, by_failure}
@@ -90,7 +66,7 @@ delay-same now t p q alike =
       by n s cs sent first again v had =
           if is_modern t
           then (if v && is_nominated_state s && nat_lt 0 (unanswered_count cs)
-          then min (max (interval cs had) (later (unwrap_or (last_round_trip cs) 0) LATENESS)) (repeated n s cs sent first again)
+          then min (max (interval cs had) (response_wait cs)) (repeated n s cs sent first again)
           else repeated n s cs sent first again)
           else usual_delay now t cs
 
@@ -392,7 +368,7 @@ module _ {H P : Type 0} where
       pair l r number s new emitted role full none (path, mid, nominates, (values, is, made)) =
           let k : (path ≡ None) × (mid ≡ pair_served q number s) =
           subst (λ b. NominatesWhere b (pair_served q number s) path mid) (and-false (selects_at_requests s) (is_valid_at number s.pairs) (none-passes number s.pairs none)) nominates in
-          subst (λ (a : AgentRecord H P). Rests s a) (sym (made ∙ ap (λ (a : AgentRecord H P). replied mac q (path_between s l r) (settled (is_some path) (trigger_time q s) a)) k.1)) (
+          subst (λ (a : AgentRecord H P). Rests s a) (sym (made ∙ ap (λ (a : AgentRecord H P). replied mac q (path_between s l r) (state_updated (is_some path) (trigger_time q s) a)) k.1)) (
             refl,
             refl,
             spares-map by (last_time_of s) at s.timing s.next_number (change_at number (after_request q s)) s.pairs
@@ -442,7 +418,7 @@ module _ {H P : Type 0} where
       requested : (remote : Option IceCreds) (s new : AgentRecord H P) (emitted : Emitted) → is_some remote ≡ true → s.controlling ≡ true → s.lite ≡ false → NoneValid s.pairs → new.controlling ≡ true
           → MatchOption remote (Queues q s emitted new) (λ _. Serves mac q s emitted new) → Arrived s new
       requested None s new emitted known role full none stays h = absurd (cc)
-      requested (Some peer) s new emitted known role full none stays h = either (is_for_other_peer s q) h
+      requested (Some peer) s new emitted known role full none stays h = either (is_for_other_peer s q) (in_turn mac q s new emitted h)
           (λ _ k. arrived-same s new k.1)
           (λ _ k. here (local_place s.local q) s new emitted role full none stays k)
 

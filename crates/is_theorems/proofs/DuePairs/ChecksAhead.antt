@@ -1,14 +1,7 @@
 -- A check may go ahead of the pair that is due first, but no two checks one after another do.
-use Rattle.std.proofs.Common.{◌≡◌, ℕ, suc, ◌+◌, ◌*◌, ◌<◌, ◌≤◌, ◌&&◌, Bool, true, false, List, length, min, refl, sym, ◌∙◌, inl, inr, ◌⊎◌, arith, if◌then◌else◌}
-use Rattle.is_proto.specs.Times.{MAX}
-use Rattle.is_pair.specs.Due.{due_time_of}
-use Rattle.is_pair.specs.Multiset.{is_numbered, change_at, change_pair}
-use Rattle.is_pair.specs.Pairs.{PairRecord, checked}
-use Rattle.is_pair.specs.Turns.{IsPaced, is_due_by, due_by}
-use Rattle.is_pair.proofs.DueTimes.CountOfDuePairs.{no-more, not-by}
-use Rattle.is_pair.proofs.DueTimes.LaterAfterCheck.{checked-later}
-use Rattle.is_rules.specs.Owed.{one_if}
-use Rattle.is_stun.specs.declared.timing.StunTiming.{StunTiming}
+use Rattle.is_theorems.proofs.Common.{◌&&◌, ◌*◌, ◌+◌, ◌<◌, ◌∙◌, ◌≡◌, ◌≤◌, ◌⊎◌, arith, Bool, change_at, change_pair, checked, checked-later}
+use Rattle.is_theorems.proofs.Common.{due_by, due_time_of, false, if◌then◌else◌, inl, inr, is_due_by, is_numbered, IsPaced, length, List}
+use Rattle.is_theorems.proofs.Common.{MAX, min, no-more, not-by, one_if, PairRecord, refl, StunTiming, suc, sym, true, ℕ}
 
 -- ---- the number of calls
 
@@ -47,7 +40,7 @@ calls-fall false turn next_turn n m (inl less) = one-fewer n m less where
   one-fewer n m h = omega (arith, h)
 calls-fall false turn next_turn n m (inr (le, ahead, turn_is, over)) = absurd (cc)
 
--- the same of other names for the numbers, and from more
+-- the numbers also fall under other names, and from more
 pub falls-from : (b c t u next_turn : Bool) (n k m : ℕ) → c ≡ b → u ≡ t → n ≤ k → Falls b t next_turn n m → Falls c u next_turn k m
 falls-from b c t u next_turn n k m same same_turn le (inl less) = inl (omega (arith, le, less))
 falls-from b c t u next_turn n k m same same_turn le (inr (no_more, ahead, turn, over)) = inr (omega (arith, le, no_more), same ∙ ahead, same_turn ∙ turn, over)

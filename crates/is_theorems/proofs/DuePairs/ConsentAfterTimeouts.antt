@@ -1,30 +1,15 @@
 -- After a `handle_timeout` call that serves no early request each pair has consent, and the responses and requests that it had before.
-use Rattle.std.proofs.Common.{◌≡◌, ℕ, ◌-◌, ◌*◌, ◌<◌, ◌≤◌, ◌&&◌, ◌||◌, Bool, true, false, not, max, List, [], ◌∷◌, map, nat_lt, Option, Some, None, inl, inr, refl, ap, sym, ◌∙◌, subst, arith, if◌then◌else◌}
-use Rattle.std.specs.List.{list_any}
-use Rattle.std.specs.Option.{option_map_or}
-use Rattle.std.proofs.lemmas.Bool.Decides.{nat_tests}
-use Rattle.rand_core.specs.Stream.{Stream}
-use Rattle.is_proto.specs.Lists.{Has}
-use Rattle.is_proto.specs.Times.{MAX, SECOND, later}
-use Rattle.is_pair.specs.Due.{asked, consent_end, has_consent, heard_until, is_answered_lately, is_heard, is_pair_expired, is_possible}
-use Rattle.is_pair.specs.Multiset.{change_at, is_numbered}
-use Rattle.is_pair.specs.Pairs.{PairRecord, is_recent}
-use Rattle.is_stun.specs.declared.timing.Consent.{Consent}
-use Rattle.is_stun.specs.declared.timing.StunTiming.{StunTiming}
-use Rattle.is_stun.specs.Timing.{consent_of}
-use Rattle.is_rules.specs.declared.credentials.IceCreds.{IceCreds}
-use Rattle.is_rules.specs.declared.emitted.Issued.{Issued}
-use Rattle.is_rules.specs.declared.emitted.Path.{Path}
-use Rattle.is_rules.specs.declared.emitted.Emitted.{Emitted}
-use Rattle.is_rules.specs.Agent.{AgentRecord}
-use Rattle.is_rules.specs.Checking.{all_asked, ChecksTop, MayCheck}
-use Rattle.is_rules.specs.Timeouts.{at_timeout, is_expired, expired_gone, MaintainsPairs, RemovesExpired}
-use Rattle.is_theorems.specs.NotStarved.{HaveConsent}
+use Rattle.is_theorems.proofs.Common.{[], ◌&&◌, ◌*◌, ◌-◌, ◌<◌, ◌||◌, ◌∙◌, ◌∷◌, ◌≡◌, ◌≤◌, AgentRecord, all_scheduled, ap, arith, scheduled}
+use Rattle.is_theorems.proofs.Common.{at_timeout, Bool, change_at, ChecksTop, Consent, consent_end, consent_of, Emitted, expired_gone}
+use Rattle.is_theorems.proofs.Common.{false, Has, has_consent, HaveConsent, heard_until, IceCreds, if◌then◌else◌, inl, inr}
+use Rattle.is_theorems.proofs.Common.{is_answered_lately, is_expired, is_heard, is_numbered, is_pair_expired, is_possible, is_recent}
+use Rattle.is_theorems.proofs.Common.{Issued, later, List, list_any, MaintainsPairs, map, MAX, max, MayCheck, nat_lt, nat_tests}
+use Rattle.is_theorems.proofs.Common.{nominates_at_once, None, not, Option, option_map_or, PairRecord, Path, refl, RemovesExpired, SECOND}
+use Rattle.is_theorems.proofs.Common.{Some, Stream, StunTiming, subst, sym, true, ℕ}
 use Rattle.is_theorems.proofs.RuleEffects.UnchangedSettings.{either}
 use Rattle.is_theorems.proofs.RuleEffects.ChangedPairs.{Has-map}
 use Rattle.is_theorems.proofs.DuePairs.AfterNominationAndRemoval.{Base, consent-same, gives-up-thins, nominates-thins, names-thins, passed}
 use Rattle.is_theorems.proofs.DuePairs.FirstDuePair.{next-check}
-use Rattle.is_rules.specs.Nominating.{nominates_at_once}
 use Rattle.is_theorems.proofs.BasicLemmas.PairsInTurn.{by-begins, sent-pairs, sent_at}
 
 -- ---- one pair
@@ -71,7 +56,7 @@ any-none f (y ∷ ys) x none has = by (f y) refl none has (any-none f ys x) wher
   by false is h (inl same) others = ap f (sym same) ∙ is
   by false is h (inr there) others = others h there
 
--- the same responses and requests
+-- p and q are one pair, with the same responses and requests
 pub record SameConsent (p q : PairRecord) : Type 0 where
   pub number : q.number ≡ p.number
   pub consented : q.consented ≡ p.consented
@@ -115,19 +100,19 @@ module _ {H P : Type 0} where
     check-leaves : (now : ℕ) (remote : Option IceCreds) (old new : AgentRecord H P) (s t : Stream) (issued : Option Issued) → old.lite ≡ false → MayCheck mac now remote old s issued new t → Checks old new
     check-leaves now None old new s t issued full (is, made, drawn) = subst (λ (a : AgentRecord H P). Checks old a) (sym made) (refl, leaves-all old.pairs)
     check-leaves now (Some peer) old new s t issued full h = let k = next-check mac now (Some peer) old new s t issued refl full h in by-next k.0 k.1 k.3 where
-      asks : Leaves old.pairs (map (asked now old.timing) old.pairs)
-      asks = leaves-map (asked now old.timing) old.pairs (λ p. record { number = refl; consented = refl; heard = refl })
+      asks : Leaves old.pairs (map (scheduled now old.timing) old.pairs)
+      asks = leaves-map (scheduled now old.timing) old.pairs (λ p. record { number = refl; consented = refl; heard = refl })
 
-      by-next : (peer : IceCreds) (next : Option PairRecord) → ChecksTop mac now peer next (all_asked now old) s issued new t → Checks old new
+      by-next : (peer : IceCreds) (next : Option PairRecord) → ChecksTop mac now peer next (all_scheduled now old) s issued new t → Checks old new
       by-next peer None (is, made, drawn) = subst (λ (a : AgentRecord H P). Checks old a) (sym made) (refl, asks)
       by-next peer (Some q) (id, drawn, values, is, made) = subst (λ (a : AgentRecord H P). Checks old a) (sym made) (
         refl,
-        leaves-on old.pairs (map (asked now old.timing) old.pairs) _ asks
-            (subst (λ ps. Leaves (map (asked now old.timing) old.pairs) ps) (sym (sent-pairs begins q.number now old.timing old.controlling id (map (asked now old.timing) old.pairs)))
-            (leaves-map (change_at q.number (sent_at begins now old.timing old.controlling id)) (map (asked now old.timing) old.pairs) (λ p. once p (is_numbered q.number p)))),
+        leaves-on old.pairs (map (scheduled now old.timing) old.pairs) _ asks
+            (subst (λ ps. Leaves (map (scheduled now old.timing) old.pairs) ps) (sym (sent-pairs begins q.number now old.timing old.controlling id (map (scheduled now old.timing) old.pairs)))
+            (leaves-map (change_at q.number (sent_at begins now old.timing old.controlling id)) (map (scheduled now old.timing) old.pairs) (λ p. once p (is_numbered q.number p)))),
       ) where
         begins : Bool
-        begins = nominates_at_once (all_asked now old)
+        begins = nominates_at_once (all_scheduled now old)
 
         once : (p : PairRecord) (b : Bool) → SameConsent p (if b then sent_at begins now old.timing old.controlling id p else p)
         once p true = by-begins begins (λ x. SameConsent p x) now old.timing old.controlling id p

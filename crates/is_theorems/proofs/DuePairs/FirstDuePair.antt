@@ -1,43 +1,24 @@
 -- A `handle_timeout` call checks the pair that is due first, or another one that is due and goes ahead, and leaves the others due as
 -- they were.
-use Rattle.std.proofs.Common.{◌≡◌, ℕ, ◌<◌, ◌≤◌, ◌||◌, Bool, true, false, not, List, length, map, filter, min, nat_le, Option, Some, None, is_some, unwrap_or, inl, inr, ◌⊎◌, refl, ap, sym, ◌∙◌, subst, arith, if◌then◌else◌}
-use Rattle.std.specs.Prelude.{MatchBool}
-use Rattle.std.proofs.lemmas.Bool.{eqb-true}
-use Rattle.std.proofs.lemmas.Bool.Decides.{nat_tests}
-use Rattle.rand_core.specs.Stream.{Stream}
-use Rattle.is_proto.specs.Lists.{Has}
-use Rattle.is_proto.specs.Times.{MAX, later}
-use Rattle.is_candidate.specs.Candidates.{CandidateRecord, base_of, candidate_at}
-use Rattle.is_pair.specs.declared.pair.states.CheckState.{CheckState}
-use Rattle.is_pair.specs.declared.pair.states.CheckState.TheVariants.{Waiting, InProgress, Succeeded}
-use Rattle.is_pair.specs.States.{is_valid_state, state_once_sent}
-use Rattle.is_pair.specs.Pairs.{PairRecord, is_valid, checked}
-use Rattle.is_pair.specs.Due.{asked, computed_due_time, due_time_of, is_due, GoesBefore}
-use Rattle.is_pair.specs.Multiset.{is_numbered, change_at, change_pair}
 use Rattle.is_stun.specs.declared.header.Class.TheVariants as class
-use Rattle.is_stun.specs.declared.timing.StunTiming.{StunTiming}
-use Rattle.is_stun.specs.Timing.{is_modern}
-use Rattle.is_rules.specs.declared.credentials.IceCreds.{IceCreds}
-use Rattle.is_rules.specs.declared.emitted.Issued.{Issued}
-use Rattle.is_rules.specs.declared.emitted.Path.{Path}
-use Rattle.is_rules.specs.declared.emitted.Emitted.{Emitted}
-use Rattle.is_rules.specs.Emitted.{issued_as}
-use Rattle.is_rules.specs.Agent.{AgentRecord}
-use Rattle.is_rules.specs.Sending.{path_of}
-use Rattle.is_rules.specs.Checking.{all_asked, all_heard, are_kinds_in_turn, check_sent, has_first, is_ahead_turn, IsNextToCheck, ChecksTop, ChecksNext, MayCheck}
-use Rattle.is_rules.specs.Timeouts.{at_timeout, MaintainsPairs, RemovesExpired}
+use Rattle.is_theorems.proofs.Common.{◌<◌, ◌||◌, ◌∙◌, ◌≡◌, ◌≤◌, ◌⊎◌, AgentRecord, all_scheduled, all_heard, ap, are_kinds_in_turn, arith, scheduled}
+use Rattle.is_theorems.proofs.Common.{at_timeout, base_of, Bool, candidate_at, CandidateRecord, change_at, change_pair, check_sent, checked}
+use Rattle.is_theorems.proofs.Common.{ChecksInTurn, ChecksNext, ChecksOn, CheckState, ChecksTop, computed_due_time, due_by, due_time_of}
+use Rattle.is_theorems.proofs.Common.{Emitted, eqb-true, false, fewer-due, filter, GoesBefore, Has, has_first, IceCreds, if◌then◌else◌, inl}
+use Rattle.is_theorems.proofs.Common.{InProgress, inr, is_ahead_turn, is_due, is_due_by, is_modern, is_numbered, is_some, is_valid}
+use Rattle.is_theorems.proofs.Common.{is_valid_state, IsGone, IsNextToCheck, IsPaced, Issued, issued_as, later, length, List}
+use Rattle.is_theorems.proofs.Common.{MaintainsPairs, map, MatchBool, MAX, MayCheck, min, nat_le, nat_tests, no-more, Nominates}
+use Rattle.is_theorems.proofs.Common.{nominates_at_once, None, none_pass, not, Option, PairRecord, Path, path_left, path_of, refl}
+use Rattle.is_theorems.proofs.Common.{RemovesExpired, Some, state_once_sent, Stream, StunTiming, subst, Succeeded, sym, true, unwrap_or}
+use Rattle.is_theorems.proofs.Common.{Waiting, ℕ}
 use Rattle.is_theorems.proofs.RuleEffects.ChangedPairs.{Has-map}
 use Rattle.is_theorems.proofs.RuleEffects.HastenedPairs.{due_next}
 use Rattle.is_theorems.proofs.CallEffects.ServedRequests.{Has-mapped}
-use Rattle.is_rules.proofs.PairLists.ChosenPair.{none_pass}
-use Rattle.is_theorems.proofs.BasicLemmas.PairsInTurn.{by-begins, next-has, none-is-due, none-at-once, next-in-turn, pairs-checked, pairs-sent, sent_at}
-use Rattle.is_pair.specs.Turns.{IsPaced, is_due_by, due_by}
-use Rattle.is_pair.proofs.DueTimes.CountOfDuePairs.{no-more, fewer-due}
-use Rattle.is_theorems.specs.Progress.{IsGone, ChecksOn, ChecksInTurn}
+use Rattle.is_theorems.proofs.BasicLemmas.PairsInTurn.{by-begins, next-has, none-is-due, none-at-once, next-in-turn, pairs-checked}
+use Rattle.is_theorems.proofs.BasicLemmas.PairsInTurn.{pairs-sent, sent_at}
 use Rattle.is_theorems.proofs.DuePairs.ChecksAhead.{Falls, falls-from, is-turn, no-more-due}
-use Rattle.is_theorems.proofs.DuePairs.AfterNominationAndRemoval.{Distinct, Akin, Thinned, is_fixed_by, Base, Thins, base_of as agent_base, turns-by, thins-on, names-thins, gives-up-thins}
-use Rattle.is_rules.specs.Nominating.{nominates_at_once, Nominates}
-use Rattle.is_rules.specs.Leaving.{path_left}
+use Rattle.is_theorems.proofs.DuePairs.AfterNominationAndRemoval.{Distinct, Akin, Thinned, is_fixed_by, Base, Thins, base_of as agent_base}
+use Rattle.is_theorems.proofs.DuePairs.AfterNominationAndRemoval.{turns-by, thins-on, names-thins, gives-up-thins}
 
 -- ---- pairs
 
@@ -58,8 +39,8 @@ akin-matches to p q a = record { number = a.number; local = a.local; remote = a.
 abbrev pub AllAsked : List PairRecord → Type 0
 AllAsked ps = (p : PairRecord) → Has ps p → is_some p.due ≡ true
 
-asked-on : (to : ℕ) (xs ys : List PairRecord) → Thinned to xs ys → AllAsked xs → AllAsked ys
-asked-on to xs ys t all q has = let o = t.back q has in o.2.fixed ∙ all o.0 o.1
+scheduled-on : (to : ℕ) (xs ys : List PairRecord) → Thinned to xs ys → AllAsked xs → AllAsked ys
+scheduled-on to xs ys t all q has = let o = t.back q has in o.2.fixed ∙ all o.0 o.1
 
 pub fixed-is : (o : Option ℕ) (x : ℕ) → is_some o ≡ true → unwrap_or o x ≡ unwrap_or o 0
 fixed-is None x is = absurd (cc)
@@ -79,12 +60,6 @@ sent-valid : (state : CheckState) → is_valid_state (state_once_sent state) ≡
 sent-valid Waiting = refl
 sent-valid InProgress = refl
 sent-valid Succeeded = refl
-
-checked-matches : (now n : ℕ) (t : StunTiming) (c : Bool) (id : List ℕ) (p : PairRecord) → Matches p (change_at n (checked now t c id) (asked now t p))
-checked-matches now n t c id p = apart (is_numbered n (asked now t p)) where
-  apart : (b : Bool) → Matches p (if b then checked now t c id (asked now t p) else asked now t p)
-  apart true = record { number = refl; local = refl; remote = refl; valid = sent-valid p.state }
-  apart false = record { number = refl; local = refl; remote = refl; valid = refl }
 
 -- the pairs of a list that matches another one
 pub record Follows (old new : List PairRecord) : Type 0 where
@@ -130,7 +105,7 @@ via local remote l r = record {
 module _ {H P : Type 0} where
   -- at a check no nomination is to be sent at once
   abbrev pub NoneAtCheck : ℕ → AgentRecord H P → Type 0
-  NoneAtCheck now a = nominates_at_once (all_asked now a) ≡ false
+  NoneAtCheck now a = nominates_at_once (all_scheduled now a) ≡ false
 
   -- at the check of a `handle_timeout` call, once nomination was evaluated
   abbrev pub NoneAtOnce : ℕ → AgentRecord H P → Type 0
@@ -148,32 +123,32 @@ module _ {H P : Type 0} where
 
     pub next-check : (now : ℕ) (remote : Option IceCreds) (old new : AgentRecord H P) (s t : Stream) (issued : Option Issued) → is_some remote ≡ true → old.lite ≡ false
         → MayCheck mac now remote old s issued new t
-        → (peer : IceCreds) × (next : Option PairRecord) × IsNextToCheck now (all_asked now old) next × ChecksTop mac now peer next (all_asked now old) s issued new t
+        → (peer : IceCreds) × (next : Option PairRecord) × IsNextToCheck now (all_scheduled now old) next × ChecksTop mac now peer next (all_scheduled now old) s issued new t
     next-check now None old new s t issued known full h = absurd (cc)
     next-check now (Some peer) old new s t issued known full h =
-        let k : ChecksNext mac now peer (all_asked now old) s issued new t =
-        subst (λ b. MatchBool b ((issued ≡ None) × (new ≡ all_heard now old) × (t ≡ s)) (ChecksNext mac now peer (all_asked now old) s issued new t)) full h in
+        let k : ChecksNext mac now peer (all_scheduled now old) s issued new t =
+        subst (λ b. MatchBool b ((issued ≡ None) × (new ≡ all_heard now old) × (t ≡ s)) (ChecksNext mac now peer (all_scheduled now old) s issued new t)) full h in
         (peer, k.0, k.1, k.2)
 
     pub check-follows : (now : ℕ) (remote : Option IceCreds) (old new : AgentRecord H P) (s t : Stream) (issued : Option Issued) → is_some remote ≡ true → old.lite ≡ false
         → MayCheck mac now remote old s issued new t → (agent_base new ≡ record (agent_base old) { ahead_turn = new.ahead_turn }) × Follows old.pairs new.pairs
     check-follows now remote old new s t issued known full h = let k = next-check now remote old new s t issued known full h in by-next k.0 k.1 k.3 where
-      by-next : (peer : IceCreds) (next : Option PairRecord) → ChecksTop mac now peer next (all_asked now old) s issued new t
+      by-next : (peer : IceCreds) (next : Option PairRecord) → ChecksTop mac now peer next (all_scheduled now old) s issued new t
           → (agent_base new ≡ record (agent_base old) { ahead_turn = new.ahead_turn }) × Follows old.pairs new.pairs
       by-next peer None (is, made, drawn) = (
         subst (λ (a : AgentRecord H P). agent_base a ≡ record (agent_base old) { ahead_turn = a.ahead_turn }) (sym made) refl,
         subst (λ ps. Follows old.pairs ps) (sym (ap (λ (a : AgentRecord H P). a.pairs) made))
-            (follows-map (asked now old.timing) old.pairs (λ p. record { number = refl; local = refl; remote = refl; valid = refl })),
+            (follows-map (scheduled now old.timing) old.pairs (λ p. record { number = refl; local = refl; remote = refl; valid = refl })),
       )
       by-next peer (Some q) (id, drawn, values, is, made) = (
         subst (λ (a : AgentRecord H P). agent_base a ≡ record (agent_base old) { ahead_turn = a.ahead_turn }) (sym made) refl,
-        subst (λ ps. Follows old.pairs ps) (sym (pairs-sent mac now peer q id (all_asked now old) new made))
-            (follows-on old.pairs (map (asked now old.timing) old.pairs) (change_pair q.number (sent_at begins now old.timing old.controlling id) (map (asked now old.timing) old.pairs))
-            (follows-map (asked now old.timing) old.pairs (λ p. record { number = refl; local = refl; remote = refl; valid = refl }))
-            (follows-map (change_at q.number (sent_at begins now old.timing old.controlling id)) (map (asked now old.timing) old.pairs) (λ p. once p (is_numbered q.number p)))),
+        subst (λ ps. Follows old.pairs ps) (sym (pairs-sent mac now peer q id (all_scheduled now old) new made))
+            (follows-on old.pairs (map (scheduled now old.timing) old.pairs) (change_pair q.number (sent_at begins now old.timing old.controlling id) (map (scheduled now old.timing) old.pairs))
+            (follows-map (scheduled now old.timing) old.pairs (λ p. record { number = refl; local = refl; remote = refl; valid = refl }))
+            (follows-map (change_at q.number (sent_at begins now old.timing old.controlling id)) (map (scheduled now old.timing) old.pairs) (λ p. once p (is_numbered q.number p)))),
       ) where
         begins : Bool
-        begins = nominates_at_once (all_asked now old)
+        begins = nominates_at_once (all_scheduled now old)
 
         once : (p : PairRecord) (b : Bool) → Matches p (if b then sent_at begins now old.timing old.controlling id p else p)
         once p true = by-begins begins (λ x. Matches p x) now old.timing old.controlling id p
@@ -194,65 +169,65 @@ module _ {H P : Type 0} where
 
     module _ (now by n : ℕ) (old : AgentRecord H P) (distinct : Distinct old.pairs) (from : by ≤ now)
         (p : PairRecord) (has : Has old.pairs p) (own-due : due_time_of now old.timing p ≤ by)
-        (count-asked : length (due_by by now old.timing (map (asked now old.timing) old.pairs)) ≤ n) where
+        (count-asked : length (due_by by now old.timing (map (scheduled now old.timing) old.pairs)) ≤ n) where
       first-due : (x y : ℕ) (q : PairRecord) → (x < y) ⊎ ((x ≡ y) × (p.priority ≤ q.priority)) → y ≤ by → x ≤ by
       first-due x y q (inl less) le = omega (arith, less, le)
       first-due x y q (inr same) le = let e = same.0 in omega (arith, e, le)
 
       -- the pair itself is checked, or it stays as it is
       by-number : (new : AgentRecord H P) (s t : Stream) (issued : Option Issued) (peer : IceCreds) (q : PairRecord) (id : List ℕ)
-          → new ≡ check_sent mac now peer q id (all_asked now old) → (o : PairRecord) → Has old.pairs o → o.number ≡ q.number
-          → (b : Bool) → is_numbered q.number (asked now old.timing p) ≡ b
+          → new ≡ check_sent mac now peer q id (all_scheduled now old) → (o : PairRecord) → Has old.pairs o → o.number ≡ q.number
+          → (b : Bool) → is_numbered q.number (scheduled now old.timing p) ≡ b
           → (NoneAtCheck now old → IsPaced old.timing → now < MAX
           → Falls (is_modern old.timing) old.ahead_turn new.ahead_turn n
-          (length (due_by by now old.timing (change_pair q.number (checked now old.timing old.controlling id) (map (asked now old.timing) old.pairs)))))
+          (length (due_by by now old.timing (change_pair q.number (checked now old.timing old.controlling id) (map (scheduled now old.timing) old.pairs)))))
           → (o ≡ p) ⊎ WaitsOn (NoneAtCheck now old) now by n old new p
       by-number new s t issued peer q id made o there same true is fewer =
           inl (distinct o p there has (same ∙ sym (eqb-true p.number q.number is)))
       by-number new s t issued peer q id made o there same false is fewer =
-          let change : PairRecord → PairRecord = sent_at (nominates_at_once (all_asked now old)) now old.timing old.controlling id in
-          let in_new : Has new.pairs (change_at q.number change (asked now old.timing p)) =
-          subst (λ ps. Has ps (change_at q.number change (asked now old.timing p))) (sym (pairs-sent mac now peer q id (all_asked now old) new made))
-          (Has-mapped (change_at q.number change) (map (asked now old.timing) old.pairs) (asked now old.timing p)
-          (Has-mapped (asked now old.timing) old.pairs p has)) in
+          let change : PairRecord → PairRecord = sent_at (nominates_at_once (all_scheduled now old)) now old.timing old.controlling id in
+          let in_new : Has new.pairs (change_at q.number change (scheduled now old.timing p)) =
+          subst (λ ps. Has ps (change_at q.number change (scheduled now old.timing p))) (sym (pairs-sent mac now peer q id (all_scheduled now old) new made))
+          (Has-mapped (change_at q.number change) (map (scheduled now old.timing) old.pairs) (scheduled now old.timing p)
+          (Has-mapped (scheduled now old.timing) old.pairs p has)) in
           inr (
-            asked now old.timing p,
-            subst (λ b. Has new.pairs (if b then change (asked now old.timing p) else asked now old.timing p)) is in_new,
+            scheduled now old.timing p,
+            subst (λ b. Has new.pairs (if b then change (scheduled now old.timing p) else scheduled now old.timing p)) is in_new,
             record { number = refl; local = refl; remote = refl; valid = refl },
             refl,
             (λ at. own-due),
             (λ turn paced early. subst (λ ps. Falls (is_modern old.timing) old.ahead_turn new.ahead_turn n (length (due_by by now old.timing ps)))
-                (sym (pairs-checked mac now peer q id (all_asked now old) new turn made)) (fewer turn paced early)),
+                (sym (pairs-checked mac now peer q id (all_scheduled now old) new turn made)) (fewer turn paced early)),
           )
 
       by-next : (new : AgentRecord H P) (s t : Stream) (issued : Option Issued) (peer : IceCreds) (next : Option PairRecord)
-          → IsNextToCheck now (all_asked now old) next → ChecksTop mac now peer next (all_asked now old) s issued new t → Checked now by n old issued new p
+          → IsNextToCheck now (all_scheduled now old) next → ChecksTop mac now peer next (all_scheduled now old) s issued new t → Checked now by n old issued new p
       by-next new s t issued peer None chosen h =
-          let it : is_due now old.timing (asked now old.timing p) ≡ true = le-is (due_time_of now old.timing p) now (let d = own-due in omega (arith, d, from)) in
-          absurd (none_pass (is_due now old.timing) (map (asked now old.timing) old.pairs) (asked now old.timing p) (none-is-due now (all_asked now old) chosen)
-          (Has-mapped (asked now old.timing) old.pairs p has) it)
+          let it : is_due now old.timing (scheduled now old.timing p) ≡ true = le-is (due_time_of now old.timing p) now (let d = own-due in omega (arith, d, from)) in
+          absurd (none_pass (is_due now old.timing) (map (scheduled now old.timing) old.pairs) (scheduled now old.timing p) (none-is-due now (all_scheduled now old) chosen)
+          (Has-mapped (scheduled now old.timing) old.pairs p has) it)
       by-next new s t issued peer (Some q) chosen (id, drawn, values, is, made) =
-          let there : Has (map (asked now old.timing) old.pairs) q = next-has now (all_asked now old) q chosen in
-          let o = Has-map (asked now old.timing) old.pairs q there in (
+          let there : Has (map (scheduled now old.timing) old.pairs) q = next-has now (all_scheduled now old) q chosen in
+          let o = Has-map (scheduled now old.timing) old.pairs q there in (
             o.0,
             o.1,
             (id, is ∙ ap (λ (x : PairRecord). Some (issued_as (path_of old x) class.Request id)) (sym o.2)),
-            by-number new s t issued peer q id made o.0 o.1 (ap (λ (x : PairRecord). x.number) o.2) (is_numbered q.number (asked now old.timing p)) refl
-                (λ turn paced early. fewer there turn paced early (is_ahead_turn now (all_asked now old)) refl),
+            by-number new s t issued peer q id made o.0 o.1 (ap (λ (x : PairRecord). x.number) o.2) (is_numbered q.number (scheduled now old.timing p)) refl
+                (λ turn paced early. fewer there turn paced early (is_ahead_turn now (all_scheduled now old)) refl),
           ) where
-            fewer : Has (map (asked now old.timing) old.pairs) q → NoneAtCheck now old → IsPaced old.timing → now < MAX → (b : Bool) → is_ahead_turn now (all_asked now old) ≡ b
+            fewer : Has (map (scheduled now old.timing) old.pairs) q → NoneAtCheck now old → IsPaced old.timing → now < MAX → (b : Bool) → is_ahead_turn now (all_scheduled now old) ≡ b
                 → Falls (is_modern old.timing) old.ahead_turn new.ahead_turn n
-                (length (due_by by now old.timing (change_pair q.number (checked now old.timing old.controlling id) (map (asked now old.timing) old.pairs))))
+                (length (due_by by now old.timing (change_pair q.number (checked now old.timing old.controlling id) (map (scheduled now old.timing) old.pairs))))
             fewer there calm paced early true on =
-                let turn = is-turn (is_modern old.timing) old.ahead_turn (are_kinds_in_turn (all_asked now old) || has_first now (all_asked now old)) on in
-                let le = no-more-due now by old.timing old.controlling id paced early from q.number (map (asked now old.timing) old.pairs) in
+                let turn = is-turn (is_modern old.timing) old.ahead_turn (are_kinds_in_turn (all_scheduled now old) || has_first now (all_scheduled now old)) on in
+                let le = no-more-due now by old.timing old.controlling id paced early from q.number (map (scheduled now old.timing) old.pairs) in
                 let counted = count-asked in
                 inr (omega (arith, le, counted), turn.0, turn.1, ap (λ (a : AgentRecord H P). a.ahead_turn) made ∙ ap not on)
             fewer there calm paced early false off =
-                let next = next-in-turn now (all_asked now old) (Some q) calm off chosen in
-                let before : GoesBefore now old.timing q (asked now old.timing p) = next.0.1 (asked now old.timing p) (Has-mapped (asked now old.timing) old.pairs p has) in
+                let next = next-in-turn now (all_scheduled now old) (Some q) calm off chosen in
+                let before : GoesBefore now old.timing q (scheduled now old.timing p) = next.0.1 (scheduled now old.timing p) (Has-mapped (scheduled now old.timing) old.pairs p has) in
                 let q_due : due_time_of now old.timing q ≤ by = first-due (due_time_of now old.timing q) (due_time_of now old.timing p) q before own-due in
-                let drop = fewer-due now by old.timing old.controlling id paced early from (map (asked now old.timing) old.pairs) q there (le-is (due_time_of now old.timing q) by q_due) in
+                let drop = fewer-due now by old.timing old.controlling id paced early from (map (scheduled now old.timing) old.pairs) q there (le-is (due_time_of now old.timing q) by q_due) in
                 let counted = count-asked in
                 inl (omega (arith, drop, counted))
 
@@ -283,8 +258,8 @@ module _ {H P : Type 0} where
     fixed-due : (now by : ℕ) (a : AgentRecord H P) (p : PairRecord) → is_some p.due ≡ true → unwrap_or p.due 0 ≤ by → due_time_of now a.timing p ≤ by
     fixed-due now by a p fixed due = subst (λ n. n ≤ by) (sym (fixed-is p.due _ fixed)) due
 
-    fixed-count : (now by : ℕ) (a : AgentRecord H P) → AllAsked a.pairs → length (due_by by now a.timing (map (asked now a.timing) a.pairs)) ≤ length (filter (is_fixed_by by) a.pairs)
-    fixed-count now by a all = no-more (is_fixed_by by) (is_due_by by now a.timing) (asked now a.timing) a.pairs
+    fixed-count : (now by : ℕ) (a : AgentRecord H P) → AllAsked a.pairs → length (due_by by now a.timing (map (scheduled now a.timing) a.pairs)) ≤ length (filter (is_fixed_by by) a.pairs)
+    fixed-count now by a all = no-more (is_fixed_by by) (is_due_by by now a.timing) (scheduled now a.timing) a.pairs
         (λ q there is. ap (λ n. nat_le n by) (sym (fixed-is q.due _ (all q there))) ∙ is)
 
     pub timeout-moves : (now by : ℕ) (old new : AgentRecord H P) (s t : Stream) (emitted : Emitted) → is_some old.remote_creds ≡ true → old.lite ≡ false
@@ -306,8 +281,8 @@ module _ {H P : Type 0} where
             | inl k ↦
                 inr (on-kept now by old kept new s t emitted issued c timing from distinct p has k
                 (check-moves now by (length (filter (is_fixed_by by) kept.pairs)) kept (c.1.distinct distinct) from k.0 k.1
-                (fixed-due now by kept k.0 (asked-on (due_next now) old.pairs kept.pairs c.1 all k.0 k.1) (let sooner = k.2.sooner in omega (arith, sooner, due)))
-                (fixed-count now by kept (asked-on (due_next now) old.pairs kept.pairs c.1 all)) new s t issued kept.remote_creds known_kept full_kept checking)
+                (fixed-due now by kept k.0 (scheduled-on (due_next now) old.pairs kept.pairs c.1 all k.0 k.1) (let sooner = k.2.sooner in omega (arith, sooner, due)))
+                (fixed-count now by kept (scheduled-on (due_next now) old.pairs kept.pairs c.1 all)) new s t issued kept.remote_creds known_kept full_kept checking)
                 (ap (λ (x : Emitted). x.issued) is))
           ];
         } where
@@ -330,7 +305,7 @@ module _ {H P : Type 0} where
                       → Falls (is_modern old.timing) old.ahead_turn new.ahead_turn (length (filter (is_fixed_by by) old.pairs)) (length (due_by by now kept.timing new.pairs)) =
                       λ turn paced early. falls-from (is_modern kept.timing) (is_modern old.timing) kept.ahead_turn old.ahead_turn new.ahead_turn
                       (length (filter (is_fixed_by by) kept.pairs)) (length (filter (is_fixed_by by) old.pairs)) (length (due_by by now kept.timing new.pairs))
-                      (ap (λ (x : Base). is_modern x.timing) (sym c.0)) (ap (λ (x : Base). x.ahead_turn) (sym c.0)) (c.1.fewer by (omega (arith, from))) (fewer (none-at-once now (all_asked now kept) (turns-by (agent_base (at_timeout now old)) kept c.0 turn)) paced early) in
+                      (ap (λ (x : Base). is_modern x.timing) (sym c.0)) (ap (λ (x : Base). x.ahead_turn) (sym c.0)) (c.1.fewer by (omega (arith, from))) (fewer (none-at-once now (all_scheduled now kept) (turns-by (agent_base (at_timeout now old)) kept c.0 turn)) paced early) in
                       inr (
                         r,
                         r_there,

@@ -1,53 +1,26 @@
 -- An agent without a valid pair selects no path, so no nomination becomes due. If none is to be sent at once, none will be until a
 -- success response is accepted, in whichever role the agent is.
-use Rattle.std.proofs.Common.{◌≡◌, ℕ, ◌<◌, ◌&&◌, ◌||◌, Bool, true, false, not, List, ◌∷◌, ◌++◌, [], Option, Some, None, is_some, unwrap_or, Ok, Err, inl, inr, ◌⊎◌, refl, ap, sym, ◌∙◌, subst, arith, if◌then◌else◌}
-use Rattle.std.specs.List.{list_any}
-use Rattle.std.specs.Prelude.{MatchOption}
-use Rattle.std.proofs.lemmas.Bool.{eqb-true}
-use Rattle.rand_core.specs.Stream.{Stream}
-use Rattle.is_proto.specs.Lists.{Has, same}
-use Rattle.is_candidate.specs.Candidates.{CandidateRecord, candidate_at}
-use Rattle.is_pair.specs.Due.{asked}
-use Rattle.is_pair.specs.Multiset.{is_numbered, is_valid_at, pair_numbered, rises}
-use Rattle.is_pair.specs.Pairs.{PairRecord, is_valid, is_nominated}
-use Rattle.is_stun.specs.declared.header.Class.{Class}
 use Rattle.is_stun.specs.declared.header.Class.TheVariants as class
-use Rattle.is_stun.specs.Message.{Message}
-use Rattle.is_stun.specs.Timing.{is_modern, is_modern_profile}
-use Rattle.is_rules.specs.Accepting.{Takes}
-use Rattle.is_rules.specs.Agent.{AgentRecord}
-use Rattle.is_rules.specs.Answers.{HandlesFailure}
-use Rattle.is_rules.specs.Checking.{all_asked, ChecksTop, MayCheck}
-use Rattle.is_rules.specs.declared.credentials.IceCreds.{IceCreds}
-use Rattle.is_rules.specs.declared.places.RemotePlace.{RemotePlace}
-use Rattle.is_rules.specs.declared.places.RemotePlace.TheVariants.{Known, Barred, Unknown, Vacant, Full}
-use Rattle.is_rules.specs.declared.roles.Conflict.{Conflict}
-use Rattle.is_rules.specs.declared.roles.Conflict.TheVariants.{Absent, Send487, SwitchRole}
-use Rattle.is_rules.specs.declared.emitted.Emitted.{Emitted}
-use Rattle.is_rules.specs.declared.emitted.Issued.{Issued}
-use Rattle.is_rules.specs.declared.emitted.Path.{Path}
-use Rattle.is_rules.specs.Effects.{PathEffect, lite_set_by}
-use Rattle.is_rules.specs.Forming.{formed, with_pair, Combination, FormsAll}
-use Rattle.is_rules.specs.Nominating.{followed, selection_of, Nominates, NominatesWhere, nominates_at_once, numbers, pair_selected}
-use Rattle.is_rules.specs.Places.{local_place}
-use Rattle.is_rules.specs.Queue.{first_taken, request_at}
-use Rattle.is_rules.specs.Request.{RequestRecord, request_in}
-use Rattle.is_rules.specs.Roles.{conflict_of, switched, switched_sides, with_priority_in}
-use Rattle.is_rules.specs.Sending.{path_of, path_between}
-use Rattle.is_rules.specs.Serving.{is_misled, is_for_other_peer, pair_served, replied, request_counted, selects_at_requests, trigger_time, with_sender, with_sender_at, Drops, Queues, RecordsAndResponds, FindsOrAddsPair, AddsUnknownSender, CountsAndServes, ResolvesRoleConflictBy, ResolvesRoleConflict, Serves}
-use Rattle.is_rules.specs.Settling.{loses_selected, settled, Reselects}
-use Rattle.is_rules.specs.Sound.{IsSound, IsBelow, GivesBased}
-use Rattle.is_rules.specs.States.{evaluated}
-use Rattle.is_rules.specs.Steps.{Answer, is_done, Call, SetMtu, SetControlTieBreaker, SetMaxCandidatePairs, SetMaxDiscovered, SetIceLite, SetProfile, SetMaxStunRetransmits, SetRenomination, SetTimingAdvance, SetLocalPreference, SetControlling, SetLocalCredentials, AddLocalCandidate, AddRemoteCandidate, ReceivePacket, HandleTimeout, PollTransmit, PollTimeout, PollEvent, Entry, Receives, Step}
-use Rattle.is_rules.specs.Timeouts.{at_request, at_timeout, is_expired, expired_gone, timeout_begun, RemovesExpired, MaintainsPairs, ServesQueued}
-use Rattle.is_rules.proofs.PairLists.ChosenPair.{chosen-able, found-in}
-use Rattle.is_rules.proofs.PairLists.PairsByNumber.{numbered-found}
-use Rattle.is_theorems.specs.Executions.{AcceptsSuccess}
-use Rattle.is_theorems.specs.Exchange.{Execution}
-use Rattle.is_theorems.specs.FirstTimeouts.{AreInRound}
-use Rattle.is_theorems.specs.Progress.{IsGone}
-use Rattle.is_theorems.specs.Reached.{is_in_round}
-use Rattle.is_theorems.specs.Settings.{SettingsRecord, all_settings_of, settings_after}
+use Rattle.is_theorems.proofs.Common.{[], ◌&&◌, ◌++◌, ◌<◌, ◌||◌, ◌∙◌, ◌∷◌, ◌≡◌, ◌⊎◌, Absent, AcceptsSuccess, AddLocalCandidate}
+use Rattle.is_theorems.proofs.Common.{AddRemoteCandidate, AddsUnknownSender, AgentRecord, all_scheduled, all_settings_of, Answer, ap}
+use Rattle.is_theorems.proofs.Common.{AreInRound, arith, scheduled, at_request, at_timeout, Barred, Bool, Call, candidate_at, CandidateRecord}
+use Rattle.is_theorems.proofs.Common.{ChecksTop, chosen-able, Class, Combination, Conflict, conflict_of, CountsAndServes, Drops, Emitted}
+use Rattle.is_theorems.proofs.Common.{Entry, eqb-true, Err, evaluated, Execution, expired_gone, false, FindsOrAddsPair, first_taken}
+use Rattle.is_theorems.proofs.Common.{followed, formed, FormsAll, found-in, Full, GivesBased, HandlesFailure, HandleTimeout, Has, IceCreds}
+use Rattle.is_theorems.proofs.Common.{if◌then◌else◌, in_turn, inl, inr, is_done, is_expired, is_for_other_peer, is_in_round, is_misled}
+use Rattle.is_theorems.proofs.Common.{is_modern, is_modern_profile, is_nominated, is_numbered, is_some, is_valid, is_valid_at, IsBelow}
+use Rattle.is_theorems.proofs.Common.{IsGone, IsSound, Issued, Known, List, list_any, lite_set_by, local_place, loses_selected}
+use Rattle.is_theorems.proofs.Common.{MaintainsPairs, MatchOption, MayCheck, Message, Nominates, nominates_at_once, NominatesWhere, None}
+use Rattle.is_theorems.proofs.Common.{not, numbered-found, numbers, Ok, Option, pair_numbered, pair_selected, pair_served, PairRecord, Path}
+use Rattle.is_theorems.proofs.Common.{path_between, path_of, PathEffect, PollEvent, PollTimeout, PollTransmit, Queues, ReceivePacket}
+use Rattle.is_theorems.proofs.Common.{Receives, RecordsAndResponds, refl, RemotePlace, RemovesExpired, replied, request_at, request_counted}
+use Rattle.is_theorems.proofs.Common.{request_in, RequestRecord, Reselects, ResolvesRoleConflict, ResolvesRoleConflictBy, rises, same}
+use Rattle.is_theorems.proofs.Common.{selection_of, selects_at_requests, Send487, Serves, ServesQueued, SetControlling}
+use Rattle.is_theorems.proofs.Common.{SetControlTieBreaker, SetIceLite, SetLocalCredentials, SetLocalPreference, SetMaxCandidatePairs}
+use Rattle.is_theorems.proofs.Common.{SetMaxDiscovered, SetMaxStunRetransmits, SetMtu, SetProfile, SetRenomination, SetTimingAdvance}
+use Rattle.is_theorems.proofs.Common.{settings_after, SettingsRecord, state_updated, Some, Step, Stream, subst, switched, switched_sides}
+use Rattle.is_theorems.proofs.Common.{SwitchRole, sym, Takes, timeout_begun, trigger_time, true, Unknown, unwrap_or, Vacant, with_pair}
+use Rattle.is_theorems.proofs.Common.{with_priority_in, with_sender, with_sender_at, ℕ}
 use Rattle.is_theorems.proofs.CallEffects.AddedCandidates.{by_adding_local, by_adding_remote, by_waking}
 use Rattle.is_theorems.proofs.CallEffects.ChangedCandidates.{adds_local_goes, adds_remote_goes}
 use Rattle.is_theorems.proofs.CallEffects.FailedCallsAndNewAgents.{mtu_kept, local_kept, enrolment_kept, storing_kept}
@@ -236,7 +209,7 @@ module _ {H P : Type 0} where
           let k : (path ≡ None) × (mid ≡ pair_served q number s) =
           subst (λ b. NominatesWhere b (pair_served q number s) path mid) (and-false (selects_at_requests s) (is_valid_at number s.pairs) (none-passes number s.pairs none)) nominates in
           calmer-as s _ new (λ is. is, λ is. is, refl) (
-          made ∙ ap (λ (a : AgentRecord H P). replied mac q (path_between s l r) (settled (is_some path) (trigger_time q s) a)) k.1)
+          made ∙ ap (λ (a : AgentRecord H P). replied mac q (path_between s l r) (state_updated (is_some path) (trigger_time q s) a)) k.1)
 
       takes : (l r : ℕ) (number : Option ℕ) (s new : AgentRecord H P) (emitted : Emitted) → NoneValid s.pairs → FindsOrAddsPair mac q l r number s emitted new → Calmer s new
       takes l r (Some number) s new emitted none h = pair l r number s new emitted none h
@@ -274,7 +247,7 @@ module _ {H P : Type 0} where
       here (Some l) s new emitted none h = resolves (conflict_of s q) l s new emitted none h
 
       serves : (s new : AgentRecord H P) (emitted : Emitted) → NoneValid s.pairs → Serves mac q s emitted new → Calmer s new
-      serves s new emitted none h = either (is_for_other_peer s q) h
+      serves s new emitted none h = either (is_for_other_peer s q) (in_turn mac q s new emitted h)
           (λ _ k. calmer-same s new k.1)
           (λ _ k. here (local_place s.local q) s new emitted none k)
 
@@ -316,7 +289,7 @@ module _ {H P : Type 0} where
     checks now None old new s t issued h = calmer-same old new h.1
     checks now (Some peer) old new s t issued h = either old.lite h
         (λ _ k. calmer-as old _ new (λ is. is, λ is. is, refl) k.1)
-        (λ _ k. (let c = tops now peer k.0 (all_asked now old) new s t issued k.2 in (c.0, c.1, c.2)))
+        (λ _ k. (let c = tops now peer k.0 (all_scheduled now old) new s t issued k.2 in (c.0, c.1, c.2)))
 
     maintains : (now : ℕ) (old new : AgentRecord H P) (s t : Stream) (emitted : Emitted) → NoneValid old.pairs → MaintainsPairs mac now old s emitted new t → Calmer old new
     maintains now old new s t emitted none (first, second, issued, named, kept, nominating, giving, checking, is) =
@@ -332,8 +305,8 @@ module _ {H P : Type 0} where
         let one : named ≡ at_timeout now old = nominates-nothing (at_timeout now old) named first none
         (subst (λ (a : AgentRecord H P). Nominates a first named) (none-valid-left now (at_timeout now old) none) nominating) in
         let two = gives-up-calmer now (at_timeout now old) kept second none (subst (λ (a : AgentRecord H P). RemovesExpired now a second kept) one giving) in
-        none-is-due (all_asked now kept) (quiet-by old (all_asked now kept) (two.0.0, two.0.1, two.0.2)
-        (λ n named gone p has. (let o = Has-map (asked now kept.timing) kept.pairs p has in λ same. gone o.0 (two.1 o.0 o.1) (ap (λ (x : PairRecord). x.number) o.2 ∙ same))) quiet)
+        none-is-due (all_scheduled now kept) (quiet-by old (all_scheduled now kept) (two.0.0, two.0.1, two.0.2)
+        (λ n named gone p has. (let o = Has-map (scheduled now kept.timing) kept.pairs p has in λ same. gone o.0 (two.1 o.0 o.1) (ap (λ (x : PairRecord). x.number) o.2 ∙ same))) quiet)
 
     times-out : (now : ℕ) (request : Option RequestRecord) (old new : AgentRecord H P) (s t : Stream) (emitted : Emitted) → NoneValid old.pairs
         → MatchOption request (MaintainsPairs mac now old s emitted new t) (λ q. ServesQueued mac q (at_request now old) s emitted new t) → Calmer old new

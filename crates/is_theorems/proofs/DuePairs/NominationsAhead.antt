@@ -1,45 +1,22 @@
 -- A nomination becomes due only in a call that selects a path, and only if it is due it is sent at once. Then none is due.
-use Rattle.std.proofs.Common.{◌≡◌, ℕ, ◌+◌, ◌≤◌, ◌==◌, ◌&&◌, Bool, true, false, not, List, [], ◌∷◌, Option, Some, None, is_some, Ok, Err, inl, inr, ◌⊎◌, refl, ap, sym, ◌∙◌, subst, arith, if◌then◌else◌}
-use Rattle.std.specs.List.{list_any}
-use Rattle.std.specs.Option.{option_map_or}
-use Rattle.std.specs.Prelude.{MatchBool, MatchOption}
-use Rattle.std.proofs.lemmas.Bool.{eq-eqb, eqb-true}
-use Rattle.rand_core.specs.Stream.{Stream}
-use Rattle.is_candidate.specs.Candidates.{CandidateRecord, candidate_at}
-use Rattle.is_pair.specs.Multiset.{is_numbered, is_valid_at}
-use Rattle.is_pair.specs.Pairs.{PairRecord}
-use Rattle.is_stun.specs.declared.header.Class.{Class}
 use Rattle.is_stun.specs.declared.header.Class.TheVariants as class
-use Rattle.is_stun.specs.Message.{Message}
-use Rattle.is_stun.specs.Timing.{is_modern}
-use Rattle.is_rules.specs.Accepting.{Takes}
-use Rattle.is_rules.specs.Agent.{AgentRecord}
-use Rattle.is_rules.specs.Answers.{HandlesFailure, HandlesSuccess}
-use Rattle.is_rules.specs.Checking.{all_asked, is_selected_number, ChecksTop, IsNextInTurn, IsNextToCheck, MayCheck}
-use Rattle.is_rules.specs.declared.credentials.IceCreds.{IceCreds}
-use Rattle.is_rules.specs.declared.places.RemotePlace.{RemotePlace}
-use Rattle.is_rules.specs.declared.places.RemotePlace.TheVariants.{Known, Barred, Unknown, Vacant, Full}
-use Rattle.is_rules.specs.declared.roles.Conflict.{Conflict}
-use Rattle.is_rules.specs.declared.roles.Conflict.TheVariants.{Absent, Send487, SwitchRole}
-use Rattle.is_rules.specs.declared.emitted.Emitted.{Emitted}
-use Rattle.is_rules.specs.declared.emitted.Issued.{Issued}
-use Rattle.is_rules.specs.declared.emitted.Path.{Path}
-use Rattle.is_rules.specs.Effects.{last_of}
-use Rattle.is_rules.specs.Emitted.{selected_in, selected_only}
-use Rattle.is_rules.specs.Forming.{formed, with_pair, Combination, FormsAll}
-use Rattle.is_rules.specs.Nominating.{followed, remains, selection_of, Nominates, nominates_at_once, numbers, pair_selected}
-use Rattle.is_rules.specs.Owed.{one_if}
-use Rattle.is_rules.specs.Places.{local_place}
-use Rattle.is_rules.specs.Queue.{first_taken, request_at}
-use Rattle.is_rules.specs.Request.{RequestRecord, request_in}
-use Rattle.is_rules.specs.Roles.{conflict_of, switched}
-use Rattle.is_rules.specs.Sending.{path_between}
-use Rattle.is_rules.specs.Serving.{is_misled, is_for_other_peer, pair_served, replied, request_counted, selects_at_requests, trigger_time, with_sender, with_sender_at, Drops, Queues, RecordsAndResponds, FindsOrAddsPair, AddsUnknownSender, CountsAndServes, ResolvesRoleConflictBy, ResolvesRoleConflict, Serves}
-use Rattle.is_rules.specs.Settling.{loses_selected, settled, Reselects}
-use Rattle.is_rules.specs.Steps.{Answer, Call, SetMtu, SetControlTieBreaker, SetMaxCandidatePairs, SetMaxDiscovered, SetRenomination, SetTimingAdvance, SetLocalPreference, SetControlling, SetLocalCredentials, AddLocalCandidate, AddRemoteCandidate, ReceivePacket, HandleTimeout, PollTransmit, PollTimeout, PollEvent, Entry, Receives, Step}
-use Rattle.is_rules.specs.Timeouts.{at_request, at_timeout, is_expired, expired_gone, timeout_begun, RemovesExpired, MaintainsPairs, ServesQueued}
-use Rattle.is_rules.proofs.PairLists.ChosenPair.{found-in}
-use Rattle.is_theorems.specs.Reached.{is_in_round, selects}
+use Rattle.is_theorems.proofs.Common.{[], ◌&&◌, ◌+◌, ◌==◌, ◌∙◌, ◌∷◌, ◌≡◌, ◌≤◌, ◌⊎◌, Absent, AddLocalCandidate, AddRemoteCandidate}
+use Rattle.is_theorems.proofs.Common.{AddsUnknownSender, AgentRecord, all_scheduled, Answer, ap, arith, at_request, at_timeout, Barred, Bool}
+use Rattle.is_theorems.proofs.Common.{Call, candidate_at, CandidateRecord, ChecksTop, Class, Combination, Conflict, conflict_of}
+use Rattle.is_theorems.proofs.Common.{CountsAndServes, Drops, Emitted, Entry, eq-eqb, eqb-true, Err, expired_gone, false, FindsOrAddsPair}
+use Rattle.is_theorems.proofs.Common.{first_taken, followed, formed, FormsAll, found-in, Full, HandlesFailure, HandlesSuccess}
+use Rattle.is_theorems.proofs.Common.{HandleTimeout, IceCreds, if◌then◌else◌, in_turn, inl, inr, is_expired, is_for_other_peer, is_in_round}
+use Rattle.is_theorems.proofs.Common.{is_misled, is_modern, is_numbered, is_selected_number, is_some, is_valid_at, IsNextInTurn}
+use Rattle.is_theorems.proofs.Common.{IsNextToCheck, Issued, Known, last_of, List, list_any, local_place, loses_selected, MaintainsPairs}
+use Rattle.is_theorems.proofs.Common.{MatchBool, MatchOption, MayCheck, Message, Nominates, nominates_at_once, None, not, numbers, Ok}
+use Rattle.is_theorems.proofs.Common.{one_if, Option, option_map_or, pair_selected, pair_served, PairRecord, Path, path_between, path_left}
+use Rattle.is_theorems.proofs.Common.{PollEvent, PollTimeout, PollTransmit, Queues, ReceivePacket, Receives, RecordsAndResponds, refl}
+use Rattle.is_theorems.proofs.Common.{remains, RemotePlace, RemovesExpired, replied, request_at, request_counted, request_in, RequestRecord}
+use Rattle.is_theorems.proofs.Common.{Reselects, ResolvesRoleConflict, ResolvesRoleConflictBy, selected_in, selected_only, selection_of}
+use Rattle.is_theorems.proofs.Common.{selects, selects_at_requests, Send487, Serves, ServesQueued, SetControlling, SetControlTieBreaker}
+use Rattle.is_theorems.proofs.Common.{SetLocalCredentials, SetLocalPreference, SetMaxCandidatePairs, SetMaxDiscovered, SetMtu}
+use Rattle.is_theorems.proofs.Common.{SetRenomination, SetTimingAdvance, state_updated, Some, Step, Stream, subst, switched, SwitchRole, sym}
+use Rattle.is_theorems.proofs.Common.{Takes, timeout_begun, trigger_time, true, Unknown, Vacant, with_pair, with_sender, with_sender_at, ℕ}
 use Rattle.is_theorems.proofs.BasicLemmas.PairsInTurn.{none-to-send}
 use Rattle.is_theorems.proofs.CallEffects.AddedCandidates.{by_adding_local, by_adding_remote, by_waking}
 use Rattle.is_theorems.proofs.CallEffects.FailedCallsAndNewAgents.{mtu_kept, local_kept, enrolment_kept, storing_kept}
@@ -52,7 +29,6 @@ use Rattle.is_theorems.proofs.RuleEffects.HastenedPairs.{due_next}
 use Rattle.is_theorems.proofs.RuleEffects.NominatedPairs.{SelectsPath, selects_path}
 use Rattle.is_theorems.proofs.RuleEffects.UnchangedSettings.{either}
 use Rattle.is_theorems.proofs.RuleEffects.NotedErrors.{by_failure}
-use Rattle.is_rules.specs.Leaving.{path_left}
 
 -- ---- which paths a call selects
 
@@ -178,7 +154,7 @@ module _ {H P : Type 0} where
             ],
           ) made))
           (λ _ k. dues-as (selected emitted) s _ new (λ is. is, λ is. inl is) (
-          made ∙ ap (λ (a : AgentRecord H P). replied mac q (path_between s l r) (settled (is_some path) (trigger_time q s) a)) k.1))
+          made ∙ ap (λ (a : AgentRecord H P). replied mac q (path_between s l r) (state_updated (is_some path) (trigger_time q s) a)) k.1))
 
       takes : (l r : ℕ) (number : Option ℕ) (s new : AgentRecord H P) (emitted : Emitted) → FindsOrAddsPair mac q l r number s emitted new → Dues (selected emitted) s new
       takes l r (Some number) s new emitted h = pair l r number s new emitted h
@@ -208,7 +184,7 @@ module _ {H P : Type 0} where
       here (Some l) s new emitted h = resolves (conflict_of s q) l s new emitted h
 
       serves : (s new : AgentRecord H P) (emitted : Emitted) → Serves mac q s emitted new → Dues (selected emitted) s new
-      serves s new emitted h = either (is_for_other_peer s q) h
+      serves s new emitted h = either (is_for_other_peer s q) (in_turn mac q s new emitted h)
           (λ _ k. dues-same (selected emitted) s new k.1)
           (λ _ k. here (local_place s.local q) s new emitted k)
 
@@ -250,7 +226,7 @@ module _ {H P : Type 0} where
     checks b now None old new s t issued h = dues-same b old new h.1
     checks b now (Some peer) old new s t issued h = either old.lite h
         (λ _ k. dues-as b old _ new (λ is. is, λ is. inl is) k.1)
-        (λ _ k. (let d = tops b now peer k.0 (all_asked now old) new s t issued k.2 in (d.0, d.1)))
+        (λ _ k. (let d = tops b now peer k.0 (all_scheduled now old) new s t issued k.2 in (d.0, d.1)))
 
     -- up to the check
     nominated-dues : (now : ℕ) (old named kept : AgentRecord H P) (first second : Option Path) (issued : Option Issued) (emitted : Emitted) → Nominates (path_left now (at_timeout now old)) first named
@@ -273,7 +249,7 @@ module _ {H P : Type 0} where
 
     -- a check at once ends the nomination that was due, or became due in the call
     pub at-once-ends : (now : ℕ) (old new : AgentRecord H P) (s t : Stream) (emitted : Emitted) → is_some old.remote_creds ≡ true → old.lite ≡ false
-        → (h : MaintainsPairs mac now old s emitted new t) → nominates_at_once (all_asked now h.4) ≡ true
+        → (h : MaintainsPairs mac now old s emitted new t) → nominates_at_once (all_scheduled now h.4) ≡ true
         → (new.nomination_due ≡ false) × (numbers old ≡ true) × ((old.nomination_due ≡ true) ⊎ (selected emitted ≡ true))
     at-once-ends now old new s t emitted known full (first, second, issued, named, kept, nominating, giving, checking, is) due =
         let c = thins-on (due_next now) (at_timeout now old) named kept (names-thins now (at_timeout now old) named first nominating) (gives-up-thins (due_next now) now named kept second giving) in
@@ -299,13 +275,13 @@ module _ {H P : Type 0} where
             | inr some ↦ inr some
           ]
 
-          ends : (peer : IceCreds) (next : Option PairRecord) → IsNextToCheck now (all_asked now kept) next → ChecksTop mac now peer next (all_asked now kept) s issued new t → new.nomination_due ≡ false
-          ends peer None chosen h = absurd (none-to-send now (all_asked now kept) chosen due)
+          ends : (peer : IceCreds) (next : Option PairRecord) → IsNextToCheck now (all_scheduled now kept) next → ChecksTop mac now peer next (all_scheduled now kept) s issued new t → new.nomination_due ≡ false
+          ends peer None chosen h = absurd (none-to-send now (all_scheduled now kept) chosen due)
           ends peer (Some q) chosen (id, drawn, values, out, made) =
-              let names : Some q ≡ pair_selected kept.selected_pair (all_asked now kept).pairs =
-              subst (λ b. MatchBool b (Some q ≡ pair_selected kept.selected_pair (all_asked now kept).pairs) (IsNextInTurn now (all_asked now kept) (Some q))) due chosen in
+              let names : Some q ≡ pair_selected kept.selected_pair (all_scheduled now kept).pairs =
+              subst (λ b. MatchBool b (Some q ≡ pair_selected kept.selected_pair (all_scheduled now kept).pairs) (IsNextInTurn now (all_scheduled now kept) (Some q))) due chosen in
               ap (λ (a : AgentRecord H P). a.nomination_due) made
-              ∙ not-both kept.nomination_due (is_selected_number (all_asked now kept) q.number) (selected-named kept.selected_pair (all_asked now kept).pairs q names)
+              ∙ not-both kept.nomination_due (is_selected_number (all_scheduled now kept) q.number) (selected-named kept.selected_pair (all_scheduled now kept).pairs q names)
 
     -- ---- the calls of rounds
 

@@ -1,46 +1,28 @@
 -- Starvation freedom: a pair that is due is checked within as many polling cycles as there are pairs that are due no
 -- later, or within twice as many if checks may go ahead.
-use Rattle.std.proofs.Common.{◌≡◌, ℕ, suc, ◌+◌, ◌<◌, ◌≤◌, Bool, true, false, List, [], ◌∷◌, length, map, filter, drop, take_while, min, max, nat_le, Option, Some, None, is_some, Ok, inl, inr, ◌⊎◌, refl, ap, sym, ◌∙◌, subst, arith, ◌&&◌}
-use Rattle.std.specs.Prelude.{MatchOption}
-use Rattle.std.proofs.lemmas.Bool.Decides.{nat_tests}
-use Rattle.std.proofs.lemmas.List.{length-drop}
-use Rattle.rand_core.specs.Stream.{Stream}
-use Rattle.is_proto.specs.Lists.{Has, is_empty, head, drop_while}
-use Rattle.is_proto.specs.Times.{MAX}
-use Rattle.is_pair.specs.Pairs.{PairRecord}
-use Rattle.is_pair.specs.Due.{asked, consent_end, due_time_of, has_consent, call_time_of, call_time_with}
 use Rattle.is_stun.specs.declared.header.Class.TheVariants as class
-use Rattle.is_stun.specs.declared.timing.Consent.{Consent}
-use Rattle.is_stun.specs.declared.timing.StunTiming.{StunTiming}
-use Rattle.is_stun.specs.Timing.{is_modern, consent_of}
-use Rattle.is_rules.specs.declared.credentials.IceCreds.{IceCreds}
-use Rattle.is_rules.specs.declared.emitted.Emitted.{Emitted}
-use Rattle.is_rules.specs.Emitted.{issued_as}
-use Rattle.is_rules.specs.Request.{RequestRecord}
-use Rattle.is_rules.specs.Agent.{AgentRecord}
-use Rattle.is_rules.specs.Checking.{all_asked}
-use Rattle.is_rules.specs.Sending.{path_of}
-use Rattle.is_rules.specs.Queue.{is_outdated, queue_left, next_request, first_taken, request_at}
-use Rattle.is_rules.specs.Polls.{PollsTimeout, NextTimeoutFrom, soon, earliest_call}
-use Rattle.is_rules.specs.Timeouts.{at_request, timeout_begun, MaintainsPairs, ServesQueued, TimesOut}
-use Rattle.is_rules.specs.Sound.{IsSound}
+use Rattle.is_theorems.proofs.Common.{[], ◌&&◌, ◌+◌, ◌<◌, ◌∙◌, ◌∷◌, ◌≡◌, ◌≤◌, ◌⊎◌, AgentRecord, all-are-scheduled, all_scheduled, ap, arith, scheduled}
+use Rattle.is_theorems.proofs.Common.{at_request, Bool, call_time_of, call_time_with, ChecksInTurn, ChecksOn, Consent, consent_end}
+use Rattle.is_theorems.proofs.Common.{consent_of, drop, drop_while, due_by, due_time_of, earliest_call, Emitted, false, filter, first_taken}
+use Rattle.is_theorems.proofs.Common.{Has, has_consent, head, IceCreds, inl, inr, is_due_by, is_empty, is_modern, is_outdated, is_pressing}
+use Rattle.is_theorems.proofs.Common.{is_some, IsChecking, IsGone, IsIdle, IsOfUse, IsPaced, IsSound, issued_as, least-is, length}
+use Rattle.is_theorems.proofs.Common.{length-drop, List, MaintainsPairs, map, MatchOption, MAX, max, min, nat_le, nat_tests, next_request}
+use Rattle.is_theorems.proofs.Common.{NextTimeoutFrom, no-more, None, NoPairIsStarved, Ok, Option, PairRecord, path_of, PollsTimeout}
+use Rattle.is_theorems.proofs.Common.{queue_left, refl, request_at, RequestRecord, rising-each, ServesQueued, Some, some-pass, soon, Stream}
+use Rattle.is_theorems.proofs.Common.{StunTiming, subst, suc, sym, take_while, timeout_begun, timeouts-from, TimeoutsAreOfUse, TimesOut}
+use Rattle.is_theorems.proofs.Common.{true, Turn, Turns, ℕ}
 use Rattle.is_theorems.proofs.RuleEffects.UnchangedSettings.{Frame, Turns as SwitchRole, serves}
 use Rattle.is_theorems.proofs.RuleEffects.ChangedPairs.{Has-map}
 use Rattle.is_theorems.proofs.CallEffects.AddedCandidates.{by_deadline}
 use Rattle.is_theorems.proofs.CallEffects.ServedRequests.{Has-mapped}
-use Rattle.is_rules.proofs.PairLists.RisingNumbers.{rising-each}
 use Rattle.is_theorems.proofs.RuleEffects.SelectedPaths.{one_pair}
-use Rattle.is_pair.specs.Turns.{IsPaced, is_due_by, due_by}
-use Rattle.is_pair.proofs.DueTimes.CountOfDuePairs.{no-more, some-pass}
-use Rattle.is_theorems.specs.Progress.{IsGone, IsChecking, ChecksOn, IsOfUse, TimeoutsAreOfUse, Turn, Turns, IsIdle, NoPairIsStarved, ChecksInTurn}
-use Rattle.is_rules.specs.Nominating.{is_pressing}
 use Rattle.is_rules.proofs.PollsAndResponses.CalmTimeouts.{calm-after}
-use Rattle.is_rules.proofs.PollsAndResponses.NextTimeout.{timeouts-from, all-are-asked, least-is}
 use Rattle.is_theorems.proofs.DuePairs.AfterNominationAndRemoval.{Distinct, is_fixed_by, Base, base_of, consent-same}
 use Rattle.is_theorems.proofs.DuePairs.ConsentAfterTimeouts.{consent-ended, maintains-consents}
-use Rattle.is_theorems.proofs.DuePairs.PressingTimeouts.{asked-presses, pressing-goes}
+use Rattle.is_theorems.proofs.DuePairs.PressingTimeouts.{scheduled-presses, pressing-goes}
 use Rattle.is_theorems.proofs.DuePairs.ChecksAhead.{calls_left, Falls, falls-from, calls-fall, calls-some, calls-from}
-use Rattle.is_theorems.proofs.DuePairs.FirstDuePair.{Matches, Follows, follows-on, follows-same, follows-map, gone-follows, same-path, Moved, timeout-follows, timeout-moves}
+use Rattle.is_theorems.proofs.DuePairs.FirstDuePair.{Matches, Follows, follows-on, follows-same, follows-map, gone-follows, same-path}
+use Rattle.is_theorems.proofs.DuePairs.FirstDuePair.{Moved, timeout-follows, timeout-moves}
 
 le-is : (n m : ℕ) → n ≤ m → nat_le n m ≡ true
 le-is n m h = grind (arith, nat_tests, h)
@@ -111,11 +93,11 @@ module _ {H P : Type 0} where
       same : new ≡ old → (base_of new ≡ base_of old) × Follows old.pairs new.pairs
       same e = (ap (λ (a : AgentRecord H P). base_of a) e, subst (λ (a : AgentRecord H P). Follows old.pairs a.pairs) (sym e) (follows-same old.pairs))
 
-      changed : new ≡ record old { pairs = map (asked at old.timing) old.pairs } → (base_of new ≡ base_of old) × Follows old.pairs new.pairs
+      changed : new ≡ record old { pairs = map (scheduled at old.timing) old.pairs } → (base_of new ≡ base_of old) × Follows old.pairs new.pairs
       changed e = (
         ap (λ (a : AgentRecord H P). base_of a) e,
         subst (λ (a : AgentRecord H P). Follows old.pairs a.pairs) (sym e)
-            (follows-map (asked at old.timing) old.pairs (λ p. record { number = refl; local = refl; remote = refl; valid = refl })),
+            (follows-map (scheduled at old.timing) old.pairs (λ p. record { number = refl; local = refl; remote = refl; valid = refl })),
       )
 
     pub maintains_pairs-from : (now : ℕ) (a : AgentRecord H P) (s t : Stream) (emitted : Emitted) (new : AgentRecord H P) → a.queue ≡ [] → TimesOut mac now a s (Ok tt) emitted new t
@@ -175,27 +157,27 @@ module _ {H P : Type 0} where
         IsGone p.number new.pairs ⊎ ((o : PairRecord) × Has old.pairs o × ChecksOn old emitted o × ((o.number ≡ p.number) ⊎ StillWaits at now by old new p))
 
     -- the `handle_timeout` call after `poll_timeout`
-    asked-moves : (old new : AgentRecord H P) (s t : Stream) (at now by : ℕ) (emitted : Emitted) → Distinct old.pairs → IsChecking old → old.queue ≡ [] → by ≤ now
+    scheduled-moves : (old new : AgentRecord H P) (s t : Stream) (at now by : ℕ) (emitted : Emitted) → Distinct old.pairs → IsChecking old → old.queue ≡ [] → by ≤ now
         → (p : PairRecord) → Has old.pairs p → due_time_of at old.timing p ≤ by
-        → TimesOut mac now (record old { pairs = map (asked at old.timing) old.pairs }) s (Ok tt) emitted new t
+        → TimesOut mac now (record old { pairs = map (scheduled at old.timing) old.pairs }) s (Ok tt) emitted new t
         → Does at now by old emitted new p
-    asked-moves old new s t at now by emitted distinct checking queue from p has due h =
-        let a : AgentRecord H P = record old { pairs = map (asked at old.timing) old.pairs } in
-        let f = follows-map (asked at old.timing) old.pairs (λ q. record { number = refl; local = refl; remote = refl; valid = refl }) in
+    scheduled-moves old new s t at now by emitted distinct checking queue from p has due h =
+        let a : AgentRecord H P = record old { pairs = map (scheduled at old.timing) old.pairs } in
+        let f = follows-map (scheduled at old.timing) old.pairs (λ q. record { number = refl; local = refl; remote = refl; valid = refl }) in
         let m = timeout-moves mac now by (timeout_begun now a) new s t emitted checking.peer checking.full (f.distinct distinct)
-        (λ q there. (let o = Has-map (asked at old.timing) old.pairs q there in ap (λ (x : PairRecord). is_some x.due) (sym o.2)))
-        from (asked at old.timing p) (Has-mapped (asked at old.timing) old.pairs p has) due
+        (λ q there. (let o = Has-map (scheduled at old.timing) old.pairs q there in ap (λ (x : PairRecord). is_some x.due) (sym o.2)))
+        from (scheduled at old.timing p) (Has-mapped (scheduled at old.timing) old.pairs p has) due
         (maintains_pairs-from now a s t emitted new queue h) in
         on-does at now by old new emitted p m where
-          counted : (at by : ℕ) (old : AgentRecord H P) → length (filter (is_fixed_by by) (map (asked at old.timing) old.pairs)) ≤ length (due_by by at old.timing old.pairs)
-          counted at by old = no-more (is_due_by by at old.timing) (is_fixed_by by) (asked at old.timing) old.pairs (λ q there is. is)
+          counted : (at by : ℕ) (old : AgentRecord H P) → length (filter (is_fixed_by by) (map (scheduled at old.timing) old.pairs)) ≤ length (due_by by at old.timing old.pairs)
+          counted at by old = no-more (is_due_by by at old.timing) (is_fixed_by by) (scheduled at old.timing) old.pairs (λ q there is. is)
 
           on-does : (at now by : ℕ) (old new : AgentRecord H P) (emitted : Emitted) (p : PairRecord)
-              → Moved mac now by (timeout_begun now (record old { pairs = map (asked at old.timing) old.pairs })) emitted new (asked at old.timing p) → Does at now by old emitted new p
+              → Moved mac now by (timeout_begun now (record old { pairs = map (scheduled at old.timing) old.pairs })) emitted new (scheduled at old.timing p) → Does at now by old emitted new p
           on-does at now by old new emitted p m = elim m.does [
             | inl gone ↦ inl gone
             | inr (o, there, out, which) ↦
-                (let x = Has-map (asked at old.timing) old.pairs o there in
+                (let x = Has-map (scheduled at old.timing) old.pairs o there in
                 let timing : new.timing ≡ old.timing = ap (λ (b : Base). b.timing) m.base in
                 inr (
                   x.0,
@@ -207,7 +189,7 @@ module _ {H P : Type 0} where
                         (let fewer_old : ChecksInTurn old → IsPaced old.timing → now < MAX
                         → Falls (is_modern old.timing) old.ahead_turn new.ahead_turn (length (due_by by at old.timing old.pairs)) (length (due_by by now old.timing new.pairs)) =
                         λ turn paced early. falls-from (is_modern old.timing) (is_modern old.timing) old.ahead_turn old.ahead_turn new.ahead_turn
-                        (length (filter (is_fixed_by by) (map (asked at old.timing) old.pairs))) (length (due_by by at old.timing old.pairs))
+                        (length (filter (is_fixed_by by) (map (scheduled at old.timing) old.pairs))) (length (due_by by at old.timing old.pairs))
                         (length (due_by by now old.timing new.pairs)) refl refl (counted at by old) (fewer turn paced early) in
                         inr (
                           q,
@@ -226,10 +208,10 @@ module _ {H P : Type 0} where
     pub turn-moves : (old new : AgentRecord H P) (at now by : ℕ) (emitted : Emitted) → Fits at old → by ≤ now
         → (p : PairRecord) → Has old.pairs p → due_time_of at old.timing p ≤ by → Turn mac old now emitted new → Does at now by old emitted new p
     turn-moves old new at now by emitted f from p has due turn =
-        let a = all-are-asked old turn.asked at turn.deadline f.last f.checking.full f.idle.packets f.idle.queue f.calm (some-pairs old.pairs p has) turn.polled in
-        let m : TimesOut mac now (record old { pairs = map (asked at old.timing) old.pairs }) turn.before (Ok tt) emitted turn.after turn.following =
+        let a = all-are-scheduled old turn.asked at turn.deadline f.last f.checking.full f.idle.packets f.idle.queue f.calm (some-pairs old.pairs p has) turn.polled in
+        let m : TimesOut mac now (record old { pairs = map (scheduled at old.timing) old.pairs }) turn.before (Ok tt) emitted turn.after turn.following =
         subst (λ (x : AgentRecord H P). TimesOut mac now x turn.before (Ok tt) emitted turn.after turn.following) a.1 turn.timeout in
-        let d = asked-moves old turn.after turn.before turn.following at now by emitted f.distinct f.checking f.idle.queue from p has due m in
+        let d = scheduled-moves old turn.after turn.before turn.following at now by emitted f.distinct f.checking f.idle.queue from p has due m in
         subst (λ (x : AgentRecord H P). Does at now by old emitted x p) (sym turn.taken) d
 
     -- ---- one polling cycle after another
@@ -315,13 +297,13 @@ module _ {H P : Type 0} where
 
         idle : old.queue ≡ [] → is_pressing old ≡ false → IsOfUse old emitted new
         idle none calm =
-            let a = all-are-asked old asked_old at deadline is checking.full packets none calm some polled in
+            let a = all-are-scheduled old asked_old at deadline is checking.full packets none calm some polled in
             let low : earliest_call old at ≤ deadline = below (earliest_call old at) (soon old at) a.0 in
             let p = least-is (call_time_of at old.timing) MAX deadline old.pairs low early in
-            let m : TimesOut mac now (record old { pairs = map (asked at old.timing) old.pairs }) s (Ok tt) emitted new t =
+            let m : TimesOut mac now (record old { pairs = map (scheduled at old.timing) old.pairs }) s (Ok tt) emitted new t =
             subst (λ (x : AgentRecord H P). TimesOut mac now x s (Ok tt) emitted new t) a.1 h in
             elim (woken (consent_of old.timing) refl p.0 p.2) [
-              | inl due ↦ use_of p.0 p.1 (asked-moves old new s t at now now emitted (distinct-sound old sound) checking none (omega arith) p.0 p.1 (omega (arith, due, kept)) m)
+              | inl due ↦ use_of p.0 p.1 (scheduled-moves old new s t at now now emitted (distinct-sound old sound) checking none (omega arith) p.0 p.1 (omega (arith, due, kept)) m)
               | inr (c, is_c, ended) ↦ inl (p.0, p.1, inr (ended-goes c is_c p.0 p.1 ended m))
             ] where
               below : (x y : ℕ) → deadline ≡ max x y → x ≤ deadline
@@ -343,16 +325,16 @@ module _ {H P : Type 0} where
 
               -- then the call removes it
               ended-goes : (c : Consent) → consent_of old.timing ≡ Some c → (p : PairRecord) → Has old.pairs p → consent_end c p ≤ deadline
-                  → TimesOut mac now (record old { pairs = map (asked at old.timing) old.pairs }) s (Ok tt) emitted new t → IsGone p.number new.pairs
+                  → TimesOut mac now (record old { pairs = map (scheduled at old.timing) old.pairs }) s (Ok tt) emitted new t → IsGone p.number new.pairs
               ended-goes c is_c p has ended m q there same =
-                  let asking : AgentRecord H P = record old { pairs = map (asked at old.timing) old.pairs } in
+                  let asking : AgentRecord H P = record old { pairs = map (scheduled at old.timing) old.pairs } in
                   let k = maintains-consents mac now (timeout_begun now asking) new s t emitted checking.full (maintains_pairs-from now asking s t emitted new none m) in
                   let o = k.1 q there in
-                  let was = Has-map (asked at old.timing) old.pairs o.0 o.1 in
+                  let was = Has-map (scheduled at old.timing) old.pairs o.0 o.1 in
                   let one : was.0 ≡ p = distinct-sound old sound was.0 p was.1 has (ap (λ (x : PairRecord). x.number) was.2 ∙ (sym o.2.number ∙ same)) in
                   let has_it : has_consent (consent_of old.timing) now q ≡ true = ap (λ (x : StunTiming). has_consent (consent_of x) now q) (sym k.0) ∙ k.2 q there in
-                  let asked_it : has_consent (Some c) now (asked at old.timing p) ≡ false = consent-ended c (asked at old.timing p) deadline now ended early kept in
-                  let same_pair : asked at old.timing p ≡ o.0 = ap (asked at old.timing) (sym one) ∙ was.2 in
+                  let asked_it : has_consent (Some c) now (scheduled at old.timing p) ≡ false = consent-ended c (scheduled at old.timing p) deadline now ended early kept in
+                  let same_pair : scheduled at old.timing p ≡ o.0 = ap (scheduled at old.timing) (sym one) ∙ was.2 in
                   let no : true ≡ false =
                   sym has_it ∙ (consent-same (consent_of old.timing) now o.0 q o.2.consented o.2.heard
                   ∙ (ap (λ (r : Option Consent). has_consent r now o.0) is_c ∙ (ap (λ (x : PairRecord). has_consent (Some c) now x) (sym same_pair) ∙ asked_it))) in
@@ -373,17 +355,17 @@ module _ {H P : Type 0} where
                 | inr selects ↦ inr (inr (presses, selects))
               ]
 
-          fixed : asked_old ≡ all_asked at old → IsOfUse old emitted new
+          fixed : asked_old ≡ all_scheduled at old → IsOfUse old emitted new
           fixed made =
-              let follows = follows-map (asked at old.timing) old.pairs (λ q. record { number = refl; local = refl; remote = refl; valid = refl }) in
-              let m = maintains_pairs-from now (all_asked at old) s t emitted new none (subst (λ (x : AgentRecord H P). TimesOut mac now x s (Ok tt) emitted new t) made h) in
-              elim (pressing-goes mac now (timeout_begun now (all_asked at old)) new s t emitted checking.peer checking.full (follows.distinct (distinct-sound old sound))
-              (asked-presses at old ∙ presses) m) [
+              let follows = follows-map (scheduled at old.timing) old.pairs (λ q. record { number = refl; local = refl; remote = refl; valid = refl }) in
+              let m = maintains_pairs-from now (all_scheduled at old) s t emitted new none (subst (λ (x : AgentRecord H P). TimesOut mac now x s (Ok tt) emitted new t) made h) in
+              elim (pressing-goes mac now (timeout_begun now (all_scheduled at old)) new s t emitted checking.peer checking.full (follows.distinct (distinct-sound old sound))
+              (scheduled-presses at old ∙ presses) m) [
                 | inl (q, has, inl (id, out)) ↦
-                    (let x = Has-map (asked at old.timing) old.pairs q has in
+                    (let x = Has-map (scheduled at old.timing) old.pairs q has in
                     inl (x.0, x.1, inl (id, out ∙ ap (λ (y : PairRecord). Some (issued_as (path_of old y) class.Request id)) (sym x.2))))
                 | inl (q, has, inr gone) ↦
-                    (let x = Has-map (asked at old.timing) old.pairs q has in
+                    (let x = Has-map (scheduled at old.timing) old.pairs q has in
                     inl (x.0, x.1, inr (subst (λ n. IsGone n new.pairs) (sym (ap (λ (y : PairRecord). y.number) x.2)) gone)))
                 | inr selects ↦ inr (inr (presses, selects))
               ]

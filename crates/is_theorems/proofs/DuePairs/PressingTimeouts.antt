@@ -1,29 +1,14 @@
 -- A `handle_timeout` call while a path is to be selected or nominated at once: a check is sent, a pair is removed, or a path is selected.
-use Rattle.std.proofs.Common.{◌≡◌, ℕ, ◌==◌, ◌&&◌, ◌||◌, Bool, true, false, not, List, [], ◌∷◌, find, map, Option, Some, None, is_some, inl, inr, ◌⊎◌, refl, ap, sym, ◌∙◌, subst, if◌then◌else◌}
-use Rattle.std.specs.List.{list_any}
-use Rattle.std.proofs.lemmas.Bool.{eq-eqb}
-use Rattle.std.specs.Option.{option_map_or}
-use Rattle.rand_core.specs.Stream.{Stream}
-use Rattle.is_proto.specs.Lists.{Has}
-use Rattle.is_stun.specs.declared.timing.StunTiming.{StunTiming}
-use Rattle.is_pair.specs.Due.{asked}
 use Rattle.is_stun.specs.declared.header.Class.TheVariants as class
-use Rattle.is_pair.specs.Multiset.{is_numbered}
-use Rattle.is_pair.specs.Pairs.{PairRecord}
-use Rattle.is_rules.proofs.PairLists.ChosenPair.{chosen-able, chosen-none, named-by, none_pass}
-use Rattle.is_rules.specs.declared.credentials.IceCreds.{IceCreds}
-use Rattle.is_rules.specs.declared.emitted.Emitted.{Emitted}
-use Rattle.is_rules.specs.declared.emitted.Issued.{Issued}
-use Rattle.is_rules.specs.declared.emitted.Path.{Path}
-use Rattle.is_rules.specs.Agent.{AgentRecord}
-use Rattle.is_rules.specs.Checking.{all_asked, IsNextToCheck, ChecksTop, MayCheck}
-use Rattle.is_rules.specs.Emitted.{issued_as, selected_in}
-use Rattle.is_rules.specs.Nominating.{followed, is_eligible, is_pressing, nominates_at_once, numbers, pair_selected, remains, selection_of, Nominates}
-use Rattle.is_rules.specs.Sending.{path_of}
-use Rattle.is_rules.specs.Settling.{settled}
-use Rattle.is_rules.specs.Timeouts.{at_timeout, is_expired, expired_gone, MaintainsPairs, RemovesExpired}
-use Rattle.is_theorems.specs.Progress.{ChecksOn, IsGone}
-use Rattle.is_theorems.proofs.DuePairs.AfterNominationAndRemoval.{Base, Distinct, Thins, base_of, hastened-akin, nominates-thins, passed, gives-up-thins}
+use Rattle.is_theorems.proofs.Common.{[], ◌&&◌, ◌==◌, ◌||◌, ◌∙◌, ◌∷◌, ◌≡◌, ◌⊎◌, AgentRecord, all_scheduled, ap, scheduled, at_timeout, Bool}
+use Rattle.is_theorems.proofs.Common.{ChecksOn, ChecksTop, chosen-able, chosen-none, Emitted, eq-eqb, expired_gone, false, find, followed}
+use Rattle.is_theorems.proofs.Common.{gives_way, Has, hastened, IceCreds, if◌then◌else◌, inl, inr, is_eligible, is_expired, is_numbered}
+use Rattle.is_theorems.proofs.Common.{is_pressing, is_some, IsGone, IsNextToCheck, Issued, issued_as, List, list_any, MaintainsPairs, map}
+use Rattle.is_theorems.proofs.Common.{MayCheck, named-by, Nominates, nominates_at_once, None, none_pass, not, numbers, Option}
+use Rattle.is_theorems.proofs.Common.{option_map_or, pair_selected, PairRecord, Path, path_left, path_of, refl, remains, RemovesExpired}
+use Rattle.is_theorems.proofs.Common.{selected_in, selection_of, state_updated, silent_gone, Some, Stream, StunTiming, subst, sym, true, ℕ}
+use Rattle.is_theorems.proofs.DuePairs.AfterNominationAndRemoval.{Base, Distinct, Thins, base_of, hastened-akin, nominates-thins, passed}
+use Rattle.is_theorems.proofs.DuePairs.AfterNominationAndRemoval.{gives-up-thins}
 use Rattle.is_theorems.proofs.BasicLemmas.PairsInTurn.{next-has, none-to-send}
 use Rattle.is_theorems.proofs.DuePairs.FirstDuePair.{check-follows, gone-follows, next-check}
 use Rattle.is_theorems.proofs.RuleEffects.ChangedPairs.{Has-map}
@@ -31,23 +16,22 @@ use Rattle.is_theorems.proofs.RuleEffects.EarlierAndNewPairs.{Has-filter}
 use Rattle.is_theorems.proofs.RuleEffects.HastenedPairs.{Hastens}
 use Rattle.is_theorems.proofs.RuleEffects.NominatedPairs.{SelectsPath, selects_path}
 use Rattle.is_theorems.proofs.RuleEffects.UnchangedSettings.{either}
-use Rattle.is_rules.specs.Leaving.{gives_way, hastened, path_left, silent_gone}
 use Rattle.is_theorems.proofs.DuePairs.ConsentAfterTimeouts.{any-none}
 use Rattle.is_theorems.proofs.RuleEffects.PathsThatAreLeft.{none-left}
 
 -- ---- the selected pair
 
-asked-found : (n now : ℕ) (t : StunTiming) (ps : List PairRecord) → is_some (find (is_numbered n) (map (asked now t) ps)) ≡ is_some (find (is_numbered n) ps)
-asked-found n now t [] = refl
-asked-found n now t (p ∷ ps) =
-    elim (is_numbered n p) as (λ b. is_some (if b then Some (asked now t p) else find (is_numbered n) (map (asked now t) ps)) ≡ is_some (if b then Some p else find (is_numbered n) ps)) [
+scheduled-found : (n now : ℕ) (t : StunTiming) (ps : List PairRecord) → is_some (find (is_numbered n) (map (scheduled now t) ps)) ≡ is_some (find (is_numbered n) ps)
+scheduled-found n now t [] = refl
+scheduled-found n now t (p ∷ ps) =
+    elim (is_numbered n p) as (λ b. is_some (if b then Some (scheduled now t p) else find (is_numbered n) (map (scheduled now t) ps)) ≡ is_some (if b then Some p else find (is_numbered n) ps)) [
       | true ↦ refl
-      | false ↦ asked-found n now t ps
+      | false ↦ scheduled-found n now t ps
     ]
 
-asked-selected : (o : Option ℕ) (now : ℕ) (t : StunTiming) (ps : List PairRecord) → is_some (pair_selected o (map (asked now t) ps)) ≡ is_some (pair_selected o ps)
-asked-selected None now t ps = refl
-asked-selected (Some n) now t ps = asked-found n now t ps
+scheduled-selected : (o : Option ℕ) (now : ℕ) (t : StunTiming) (ps : List PairRecord) → is_some (pair_selected o (map (scheduled now t) ps)) ≡ is_some (pair_selected o ps)
+scheduled-selected None now t ps = refl
+scheduled-selected (Some n) now t ps = scheduled-found n now t ps
 
 found-some : (ps : List PairRecord) (p : PairRecord) → Has ps p → is_some (find (is_numbered p.number) ps) ≡ true
 found-some [] p has = absurd has
@@ -59,17 +43,17 @@ found-some (q ∷ ps) p has = by (is_numbered p.number q) refl (λ rest. found-s
     own = eq-eqb p.number p.number refl
   by false is later (inr rest) = later rest
 
-any-asked : (now : ℕ) (t : StunTiming) (c : Bool) (ps : List PairRecord) → list_any (is_eligible c) (map (asked now t) ps) ≡ list_any (is_eligible c) ps
-any-asked now t c [] = refl
-any-asked now t c (p ∷ ps) = ap (λ b. is_eligible c p || b) (any-asked now t c ps)
+any-scheduled : (now : ℕ) (t : StunTiming) (c : Bool) (ps : List PairRecord) → list_any (is_eligible c) (map (scheduled now t) ps) ≡ list_any (is_eligible c) ps
+any-scheduled now t c [] = refl
+any-scheduled now t c (p ∷ ps) = ap (λ b. is_eligible c p || b) (any-scheduled now t c ps)
 
 -- fixed due times leave what presses
-pub asked-presses : {H P : Type 0} (at : ℕ) (a : AgentRecord H P) → is_pressing (all_asked at a) ≡ is_pressing a
-asked-presses at a =
-    ap (λ b. numbers a && (if b then a.controlling && not a.lite && a.nomination_due else list_any (is_eligible a.controlling) (map (asked at a.timing) a.pairs)))
-    (asked-selected a.selected_pair at a.timing a.pairs)
+pub scheduled-presses : {H P : Type 0} (at : ℕ) (a : AgentRecord H P) → is_pressing (all_scheduled at a) ≡ is_pressing a
+scheduled-presses at a =
+    ap (λ b. numbers a && (if b then a.controlling && not a.lite && a.nomination_due else list_any (is_eligible a.controlling) (map (scheduled at a.timing) a.pairs)))
+    (scheduled-selected a.selected_pair at a.timing a.pairs)
     ∙ ap (λ b. numbers a && (if is_some (pair_selected a.selected_pair a.pairs) then a.controlling && not a.lite && a.nomination_due else b))
-    (any-asked at a.timing a.controlling a.pairs)
+    (any-scheduled at a.timing a.controlling a.pairs)
 
 -- what presses
 presses-why : (n e c l d x : Bool) → (n && (if e then c && not l && d else x)) ≡ true → ((c && not l && n && d && e) ≡ true) ⊎ ((e ≡ false) × (x ≡ true))
@@ -128,11 +112,11 @@ module _ {H P : Type 0} where
         ⊎ ((path : Path) × Has emitted.selected_paths (Some path))
 
     -- no path is selected, and no pair is removed: a check is sent
-    sends : (kept : AgentRecord H P) (issued : Option Issued) → kept ≡ settled true now (at_timeout now old) → SelectsPath (at_timeout now old) None (at_timeout now old)
-        → emitted.issued ≡ issued → (peer : IceCreds) (next : Option PairRecord) → IsNextToCheck now (all_asked now kept) next → ChecksTop mac now peer next (all_asked now kept) s issued new t → OfUse
+    sends : (kept : AgentRecord H P) (issued : Option Issued) → kept ≡ state_updated true now (at_timeout now old) → SelectsPath (at_timeout now old) None (at_timeout now old)
+        → emitted.issued ≡ issued → (peer : IceCreds) (next : Option PairRecord) → IsNextToCheck now (all_scheduled now kept) next → ChecksTop mac now peer next (all_scheduled now kept) s issued new t → OfUse
     sends kept issued same named out peer (Some q) chosen (id, drawn, values, is, made) =
-        let has : Has (map (asked now kept.timing) kept.pairs) q = next-has now (all_asked now kept) q chosen in
-        let o = Has-map (asked now kept.timing) kept.pairs q has in
+        let has : Has (map (scheduled now kept.timing) kept.pairs) q = next-has now (all_scheduled now kept) q chosen in
+        let o = Has-map (scheduled now kept.timing) kept.pairs q has in
         inl (
           o.0,
           subst (λ (a : AgentRecord H P). Has a.pairs o.0) same o.1,
@@ -140,13 +124,13 @@ module _ {H P : Type 0} where
         )
     sends kept issued same named out peer None chosen h =
         absurd (elim (presses-why (numbers old) (is_some (pair_selected old.selected_pair old.pairs)) old.controlling old.lite old.nomination_due (list_any (is_eligible old.controlling) old.pairs) presses) [
-          | inl due ↦ none-once (subst (λ (a : AgentRecord H P). nominates_at_once (all_asked now a) ≡ true) (sym same)
+          | inl due ↦ none-once (subst (λ (a : AgentRecord H P). nominates_at_once (all_scheduled now a) ≡ true) (sym same)
               (all-facts old.controlling old.lite (numbers old) old.nomination_due (is_some (pair_selected old.selected_pair old.pairs))
-              (is_some (pair_selected old.selected_pair (map (asked now old.timing) old.pairs))) (asked-selected old.selected_pair now old.timing old.pairs) due))
+              (is_some (pair_selected old.selected_pair (map (scheduled now old.timing) old.pairs))) (scheduled-selected old.selected_pair now old.timing old.pairs) due))
           | inr (gone, able) ↦ selects-some (at_timeout now old) (at_timeout now old) named gone able
         ]) where
-          none-once : nominates_at_once (all_asked now kept) ≡ true → ⊥
-          none-once due = none-to-send now (all_asked now kept) chosen due
+          none-once : nominates_at_once (all_scheduled now kept) ≡ true → ⊥
+          none-once due = none-to-send now (all_scheduled now kept) chosen due
 
     on-removed : (first second : Option Path) (issued : Option Issued) (named kept : AgentRecord H P) → first ≡ None → second ≡ None
         → SelectsPath (at_timeout now old) first named → RemovesExpired now named second kept → MayCheck mac now kept.remote_creds kept s issued new t → emitted.issued ≡ issued → OfUse
@@ -157,7 +141,7 @@ module _ {H P : Type 0} where
         (λ some k. removed same k.0 (ap (λ (a : AgentRecord H P). a.pairs) k.2) (nominates-thins 0 (expired_gone now named) k.0 second k.1) (passes-any (is_expired now named) named.pairs some)
         (ap (λ (a : AgentRecord H P). base_of a) k.2))
         (λ _ k. (
-        let stays : kept ≡ settled true now (at_timeout now old) = k.1 ∙ ap (λ (a : AgentRecord H P). settled true now a) same in
+        let stays : kept ≡ state_updated true now (at_timeout now old) = k.1 ∙ ap (λ (a : AgentRecord H P). state_updated true now a) same in
         let n = next-check mac now kept.remote_creds kept new s t issued (ap (λ (a : AgentRecord H P). is_some a.remote_creds) stays ∙ known) (ap (λ (a : AgentRecord H P). a.lite) stays ∙ full) checking in
         sends kept issued stays (subst (λ (a : AgentRecord H P). SelectsPath (at_timeout now old) None a) same named_none) out n.0 n.1 n.2 n.3)) where
           removed : named ≡ at_timeout now old → (mid : AgentRecord H P) → kept.pairs ≡ mid.pairs → Thins 0 (expired_gone now named) mid

@@ -1,50 +1,28 @@
 -- A `handle_timeout` call of a controlling agent without a valid pair, with or without `poll_timeout` before it: the
 -- pair that is due first is checked, or another one that goes ahead, and a waiting pair is due as it was.
-use Rattle.std.proofs.Common.{◌≡◌, ℕ, ◌+◌, ◌<◌, ◌≤◌, Bool, true, false, not, suc, List, [], length, map, filter, min, nat_lt, Option, Some, None, is_some, Ok, inl, inr, ◌⊎◌, refl, ap, sym, ◌∙◌, subst, arith, if◌then◌else◌}
-use Rattle.std.specs.List.{list_any}
-use Rattle.std.proofs.lemmas.Bool.Decides.{nat_tests}
-use Rattle.rand_core.specs.Stream.{Stream}
-use Rattle.is_proto.specs.Lists.{Has}
-use Rattle.is_proto.specs.Times.{MAX}
-use Rattle.is_proto.specs.Packets.{Packet}
-use Rattle.is_candidate.specs.Candidates.{CandidateRecord}
-use Rattle.is_pair.specs.Checks.{unanswered_count}
-use Rattle.is_pair.specs.Pairs.{PairRecord, checked, renominated}
-use Rattle.is_pair.specs.Due.{asked, due_time_of}
-use Rattle.is_pair.specs.Multiset.{is_numbered, change_at, change_pair}
-use Rattle.is_pair.specs.Turns.{IsPaced, is_due_by, due_by}
-use Rattle.is_pair.proofs.DueTimes.CountOfDuePairs.{no-more, no-more-pass, some-pass, thinner}
-use Rattle.is_pair.proofs.DueTimes.LaterAfterCheck.{checked-later}
 use Rattle.is_stun.specs.declared.header.Class.TheVariants as class
-use Rattle.is_stun.specs.declared.timing.StunTiming.{StunTiming}
-use Rattle.is_stun.specs.Timing.{is_modern}
-use Rattle.is_rules.specs.declared.credentials.IceCreds.{IceCreds}
-use Rattle.is_rules.specs.declared.event.IceAgentEvent.{IceAgentEvent}
-use Rattle.is_rules.specs.declared.emitted.Issued.{Issued}
-use Rattle.is_rules.specs.declared.emitted.Path.{Path}
-use Rattle.is_rules.specs.declared.emitted.Emitted.{Emitted}
-use Rattle.is_rules.specs.Emitted.{issued_as}
-use Rattle.is_rules.specs.Agent.{AgentRecord}
-use Rattle.is_rules.specs.Sending.{path_of}
-use Rattle.is_rules.specs.Nominating.{Nominates, nominates_at_once}
-use Rattle.is_rules.specs.Checking.{all_asked, ChecksTop, MayCheck}
-use Rattle.is_rules.specs.Timeouts.{timeout_begun, at_timeout, is_expired, expired_gone, RemovesExpired, MaintainsPairs}
-use Rattle.is_rules.specs.States.{evaluated}
-use Rattle.is_rules.specs.Sound.{IsSound}
-use Rattle.is_rules.specs.Polls.{PollsTimeout}
-use Rattle.is_rules.specs.Steps.{Done, NextTimeout, quiet, HandleTimeout, PollTimeout}
-use Rattle.is_theorems.specs.Progress.{IsChecking, ChecksOn, Awaits, IsUnanswered, Passes}
+use Rattle.is_theorems.proofs.Common.{[], ◌+◌, ◌<◌, ◌∙◌, ◌≡◌, ◌≤◌, ◌⊎◌, AgentRecord, all_scheduled, AllBelow, ap, arith, scheduled, at_timeout}
+use Rattle.is_theorems.proofs.Common.{Awaits, below-each, Bool, CandidateRecord, change_at, change_pair, checked, checked-later, ChecksOn}
+use Rattle.is_theorems.proofs.Common.{ChecksTop, Done, due_by, due_time_of, Emitted, evaluated, expired_gone, false, filter, HandleTimeout}
+use Rattle.is_theorems.proofs.Common.{Has, IceAgentEvent, IceCreds, if◌then◌else◌, inl, inr, is_due_by, is_expired, is_modern, is_numbered}
+use Rattle.is_theorems.proofs.Common.{is_some, IsChecking, IsPaced, IsSound, Issued, issued_as, IsUnanswered, length, List, list_any}
+use Rattle.is_theorems.proofs.Common.{MaintainsPairs, map, MAX, MayCheck, min, nat_lt, nat_tests, NextTimeout, no-more, no-more-pass}
+use Rattle.is_theorems.proofs.Common.{Nominates, nominates_at_once, None, not, Ok, Option, Packet, PairRecord, Passes, Path, path_of}
+use Rattle.is_theorems.proofs.Common.{PollsTimeout, PollTimeout, quiet, refl, RemovesExpired, renominated, Some, some-pass, Stream}
+use Rattle.is_theorems.proofs.Common.{StunTiming, subst, suc, sym, thinner, timeout_begun, true, unanswered_count, ℕ}
 use Rattle.is_theorems.proofs.CallEffects.PathAndTradeEffects.{path_theorem}
 use Rattle.is_theorems.proofs.RuleEffects.UnchangedSettings.{either}
 use Rattle.is_theorems.proofs.RuleEffects.ChangedPairs.{Has-map}
 use Rattle.is_theorems.proofs.RuleEffects.EarlierAndNewPairs.{Has-filter}
-use Rattle.is_rules.proofs.PairLists.RisingNumbers.{AllBelow, below-each}
-use Rattle.is_theorems.proofs.DuePairs.AfterNominationAndRemoval.{Distinct, Base, base_of as agent_base, gives-up-has, answered-if, answered_at}
+use Rattle.is_theorems.proofs.DuePairs.AfterNominationAndRemoval.{Distinct, Base, base_of as agent_base, gives-up-has, answered-if}
+use Rattle.is_theorems.proofs.DuePairs.AfterNominationAndRemoval.{answered_at}
 use Rattle.is_theorems.proofs.DuePairs.ChecksAhead.{calls_left, Falls, falls-from, calls-kept, calls-go-on, calls-some}
-use Rattle.is_theorems.proofs.DuePairs.FirstDuePair.{Follows, le-from, le-is, same-path, WaitsOn, NoneAtCheck, NoneAtOnce, next-check, check-moves, timeout-follows}
+use Rattle.is_theorems.proofs.DuePairs.FirstDuePair.{Follows, le-from, le-is, same-path, WaitsOn, NoneAtCheck, NoneAtOnce, next-check}
+use Rattle.is_theorems.proofs.DuePairs.FirstDuePair.{check-moves, timeout-follows}
 use Rattle.is_theorems.proofs.DuePairs.PollingCycles.{none-left, maintains_pairs-from, distinct-sound}
 use Rattle.is_theorems.proofs.DuePairs.AfterPackets.{NoneValid, Held}
-use Rattle.is_theorems.proofs.DuePairs.NoNominationDue.{NoneIsDue, Quiet, due-none, nominates-nothing, none-at-check, quiet-call, quiet-timeout}
+use Rattle.is_theorems.proofs.DuePairs.NoNominationDue.{NoneIsDue, Quiet, due-none, nominates-nothing, none-at-check, quiet-call}
+use Rattle.is_theorems.proofs.DuePairs.NoNominationDue.{quiet-timeout}
 use Rattle.is_theorems.proofs.BasicLemmas.PairsInTurn.{by-begins, sent_at, pairs-sent}
 use Rattle.is_theorems.proofs.RuleEffects.PathsThatAreLeft.{none-valid-left}
 
@@ -89,13 +67,13 @@ module _ {H P : Type 0} where
     check-held : (now by : ℕ) (remote : Option IceCreds) (old new : AgentRecord H P) (s t : Stream) (issued : Option Issued) → is_some remote ≡ true → old.lite ≡ false
         → IsPaced old.timing → by ≤ now → now < MAX → MayCheck mac now remote old s issued new t → Held by now old.timing new.pairs
     check-held now by remote old new s t issued known full paced from early h = let k = next-check mac now remote old new s t issued known full h in by-next k.0 k.1 k.3 where
-      fixed : Held by now old.timing (map (asked now old.timing) old.pairs)
+      fixed : Held by now old.timing (map (scheduled now old.timing) old.pairs)
       fixed q has m above le =
-          let o = Has-map (asked now old.timing) old.pairs q has in
+          let o = Has-map (scheduled now old.timing) old.pairs q has in
           subst (λ (x : PairRecord). due_time_of now old.timing x ≤ by) o.2 (subst (λ (x : PairRecord). due_time_of m old.timing x ≤ by) (sym o.2) le)
 
       begins : Bool
-      begins = nominates_at_once (all_asked now old)
+      begins = nominates_at_once (all_scheduled now old)
 
       change : List ℕ → PairRecord → PairRecord
       change id x = sent_at begins now old.timing old.controlling id x
@@ -111,19 +89,19 @@ module _ {H P : Type 0} where
       following id x m above = by-begins begins (λ y. due_time_of m old.timing y ≤ by → ⊥) now old.timing old.controlling id x
           (follows-check id (renominated x) m above) (follows-check id x m above)
 
-      once : (n : ℕ) (id : List ℕ) (x : PairRecord) → Has (map (asked now old.timing) old.pairs) x → (m : ℕ) → by < m → (b : Bool)
+      once : (n : ℕ) (id : List ℕ) (x : PairRecord) → Has (map (scheduled now old.timing) old.pairs) x → (m : ℕ) → by < m → (b : Bool)
           → due_time_of m old.timing (if b then change id x else x) ≤ by
           → due_time_of now old.timing (if b then change id x else x) ≤ by
       once n id x has m above true le = absurd (following id x m above le)
       once n id x has m above false le = fixed x has m above le
 
-      by-next : (peer : IceCreds) (next : Option PairRecord) → ChecksTop mac now peer next (all_asked now old) s issued new t → Held by now old.timing new.pairs
+      by-next : (peer : IceCreds) (next : Option PairRecord) → ChecksTop mac now peer next (all_scheduled now old) s issued new t → Held by now old.timing new.pairs
       by-next peer None (is, made, drawn) = subst (λ ps. Held by now old.timing ps) (sym (ap (λ (a : AgentRecord H P). a.pairs) made)) fixed
       by-next peer (Some q) (id, drawn, values, is, made) =
-          subst (λ ps. Held by now old.timing ps) (sym (pairs-sent mac now peer q id (all_asked now old) new made)) changed where
-            changed : Held by now old.timing (change_pair q.number (change id) (map (asked now old.timing) old.pairs))
+          subst (λ ps. Held by now old.timing ps) (sym (pairs-sent mac now peer q id (all_scheduled now old) new made)) changed where
+            changed : Held by now old.timing (change_pair q.number (change id) (map (scheduled now old.timing) old.pairs))
             changed r has m above le =
-                let o = Has-map (change_at q.number (change id)) (map (asked now old.timing) old.pairs) r has in
+                let o = Has-map (change_at q.number (change id)) (map (scheduled now old.timing) old.pairs) r has in
                 subst (λ (x : PairRecord). due_time_of now old.timing x ≤ by) o.2
                 (once q.number id o.0 o.1 m above (is_numbered q.number o.0) (subst (λ (x : PairRecord). due_time_of m old.timing x ≤ by) (sym o.2) le))
 
@@ -157,10 +135,10 @@ module _ {H P : Type 0} where
               (check-held now by kept.remote_creds kept new s t issued known_kept full_kept (subst (λ (x : StunTiming). IsPaced x) (sym timing) paced) from early checking),
         ) where
           counted : (kept : AgentRecord H P) → kept.timing ≡ old.timing → Sifted old.pairs kept.pairs
-              → length (due_by by now kept.timing (map (asked now kept.timing) kept.pairs)) ≤ length (due_by by now old.timing old.pairs)
+              → length (due_by by now kept.timing (map (scheduled now kept.timing) kept.pairs)) ≤ length (due_by by now old.timing old.pairs)
           counted kept timing sifted =
-              let all : length (due_by by now kept.timing (map (asked now kept.timing) kept.pairs)) ≤ length (due_by by now kept.timing kept.pairs) =
-              no-more (is_due_by by now kept.timing) (is_due_by by now kept.timing) (asked now kept.timing) kept.pairs (λ q there is. is) in
+              let all : length (due_by by now kept.timing (map (scheduled now kept.timing) kept.pairs)) ≤ length (due_by by now kept.timing kept.pairs) =
+              no-more (is_due_by by now kept.timing) (is_due_by by now kept.timing) (scheduled now kept.timing) kept.pairs (λ q there is. is) in
               let less : length (due_by by now kept.timing kept.pairs) ≤ length (due_by by now old.timing old.pairs) =
               subst (λ (x : StunTiming). length (due_by by now x kept.pairs) ≤ length (due_by by now old.timing old.pairs)) (sym timing) (sifted.fewer (is_due_by by now old.timing)) in
               omega (arith, all, less)
@@ -235,7 +213,7 @@ module _ {H P : Type 0} where
     pub on : path_of a pair ≡ path
     pub count : calls_left (is_modern a.timing) a.ahead_turn (length (due_by by now a.timing a.pairs)) + k ≤ n
 
-  -- the same after a `handle_timeout` call, whenever the due time is computed
+  -- A pair of the path is due by a time, after a `handle_timeout` call and whenever this is computed, and k rounds are over.
   pub record Waits (by n : ℕ) (path : Path) (at k : ℕ) (a : AgentRecord H P) : Type 0 where
     pub calm : Calm a
     pub last : a.last_time ≡ Some at

@@ -1,28 +1,17 @@
 -- A candidate that is added between two `handle_timeout` calls leaves no more checks of other pairs before a pair, except for
 -- one by each pair that it adds.
-use Rattle.std.proofs.Common.{◌≡◌, ℕ, ◌+◌, ◌≤◌, Bool, true, false, not, nat_lt, List, [], ◌∷◌, ◌++◌, Some, None, Ok, inl, inr, ◌⊎◌, refl, ap, sym, ◌∙◌, subst, arith, if◌then◌else◌}
-use Rattle.is_proto.specs.Lists.{Has}
-use Rattle.is_candidate.specs.Candidates.{CandidateRecord}
-use Rattle.is_pair.specs.Multiset.{is_numbered, without}
-use Rattle.is_pair.specs.Pairs.{PairRecord, taking_over}
-use Rattle.is_pair.specs.declared.pair.states.NominationState.{NominationState}
-use Rattle.is_pair.specs.declared.pair.states.NominationState.TheVariants.{None as Unnominated, Nominated, Attempt, Success}
-use Rattle.is_rules.specs.Agent.{AgentRecord}
-use Rattle.is_rules.specs.Discarding.{is_local_at, local_discarded}
-use Rattle.is_rules.specs.Each.{Each}
-use Rattle.is_rules.specs.Forming.{SidesRecord, Formed, Combination, combined_priority, pair_of, sides_of, formed_of, Tries, FormsAll}
-use Rattle.is_rules.specs.Owed.{one_if}
-use Rattle.is_rules.specs.Local.{appended, enabled_again, AddsLocal}
-use Rattle.is_rules.specs.Remote.{as_remote, with_remote, AddsRemote}
-use Rattle.is_theorems.specs.Removing.{MayEndByLocal, MayEndByRemote}
-use Rattle.is_rules.specs.Sound.{IsSound}
+use Rattle.is_pair.specs.declared.pair.states.NominationState.TheVariants.{None as Unnominated}
+use Rattle.is_theorems.proofs.Common.{[], ◌++◌, ◌+◌, ◌∙◌, ◌∷◌, ◌≡◌, ◌≤◌, ◌⊎◌, AddsLocal, AddsRemote, AgentRecord, ap, appended, arith}
+use Rattle.is_theorems.proofs.Common.{as_remote, Attempt, Bool, CandidateRecord, Combination, combined_priority, Each, enabled_again, false}
+use Rattle.is_theorems.proofs.Common.{Formed, formed_of, FormsAll, Has, if◌then◌else◌, inl, inr, is_local_at, is_numbered, IsSound, List}
+use Rattle.is_theorems.proofs.Common.{local_discarded, MayEndByLocal, MayEndByRemote, nat_lt, Nominated, NominationState, None, not, Ok}
+use Rattle.is_theorems.proofs.Common.{one_if, pair_of, PairRecord, refl, removes, RemovesInTurn, rising-each, sides_of, SidesRecord, Some}
+use Rattle.is_theorems.proofs.Common.{subst, Success, sym, taking_over, Tries, true, with_remote, without, ℕ}
 use Rattle.is_theorems.proofs.CallEffects.AddedCandidates.{by_adding_local, by_adding_remote}
 use Rattle.is_theorems.proofs.DuePairs.AfterNominationAndRemoval.{kept_of}
 use Rattle.is_theorems.proofs.EarlierChecks.ChecksOfOtherPairs.{formed_by, own, leads, Measure, leads-filter, leads-push, weight}
 use Rattle.is_theorems.proofs.EarlierChecks.BetweenTimeouts.{ground_of, Goes, goes-same}
 use Rattle.is_theorems.proofs.StoredPairs.PairsAfterForming.{local-leaves, remote-leaves}
-use Rattle.is_rules.proofs.PairLists.RemovedInTurn.{removes, RemovesInTurn}
-use Rattle.is_rules.proofs.PairLists.RisingNumbers.{rising-each}
 use Rattle.is_theorems.proofs.RuleEffects.SelectedPaths.{one_pair}
 
 -- ---- one pair

@@ -1,44 +1,25 @@
 -- Whatever happens between two `handle_timeout` calls leaves no more checks of other pairs before a pair, except for
 -- one by each added pair, unless the pair itself is answered.
-use Rattle.std.proofs.Common.{◌≡◌, ℕ, ◌≤◌, ◌&&◌, ◌||◌, Bool, true, false, List, Option, Some, None, is_some, unwrap_or, Ok, Err, inl, inr, ◌⊎◌, refl, ap, sym, ◌∙◌, subst, arith}
-use Rattle.std.specs.Prelude.{MatchOption}
-use Rattle.std.proofs.lemmas.Bool.{eq-eqb, eqb-true}
-use Rattle.is_proto.specs.Lists.{Has}
-use Rattle.is_candidate.specs.Candidates.{CandidateRecord, candidate_at}
-use Rattle.is_pair.specs.Multiset.{is_numbered, change_at, is_valid_at, keeps_check}
-use Rattle.is_pair.specs.Due.{triggered}
-use Rattle.is_pair.specs.Pairs.{PairRecord, is_nominated}
-use Rattle.is_stun.specs.declared.header.Class.{Class}
 use Rattle.is_stun.specs.declared.header.Class.TheVariants as class
-use Rattle.is_stun.specs.declared.timing.StunTiming.{StunTiming}
-use Rattle.is_stun.specs.Message.{Message}
-use Rattle.is_rules.specs.Accepting.{discovered_emitted, Takes}
-use Rattle.is_rules.specs.Agent.{AgentRecord}
-use Rattle.is_rules.specs.Answers.{is_reverse, HandlesSuccess, HandlesFailure}
-use Rattle.is_rules.specs.declared.credentials.IceCreds.{IceCreds}
-use Rattle.is_rules.specs.declared.places.RemotePlace.{RemotePlace}
-use Rattle.is_rules.specs.declared.places.RemotePlace.TheVariants.{Known, Barred, Unknown, Vacant, Full}
-use Rattle.is_rules.specs.declared.roles.Conflict.{Conflict}
-use Rattle.is_rules.specs.declared.roles.Conflict.TheVariants.{Absent, Send487, SwitchRole}
-use Rattle.is_rules.specs.declared.emitted.Path.{Path}
-use Rattle.is_rules.specs.declared.emitted.Emitted.{Emitted}
-use Rattle.is_rules.specs.Forming.{formed, with_pair, priority_between}
-use Rattle.is_rules.specs.Nominating.{nominated_by_self, Nominates, followed, remains, selection_of, numbers}
-use Rattle.is_rules.specs.Places.{local_place}
-use Rattle.is_rules.specs.Request.{RequestRecord, request_in}
-use Rattle.is_rules.specs.Roles.{conflict_of, switched, switched_sides, with_priority_in}
-use Rattle.is_rules.specs.Sending.{path_of}
-use Rattle.is_rules.specs.Serving.{after_request, served, selects_at_requests, trigger_time, is_misled, is_for_other_peer, pair_served, request_counted, with_sender, with_sender_at, Drops, Queues, RecordsAndResponds, FindsOrAddsPair, AddsUnknownSender, CountsAndServes, ResolvesRoleConflictBy, ResolvesRoleConflict, Serves, as_taken}
-use Rattle.is_rules.specs.States.{evaluated}
-use Rattle.is_rules.specs.Steps.{Entry, Flag, Receives}
-use Rattle.is_stun.specs.Reading.{Reads}
-use Rattle.is_stun.specs.Timing.{is_modern}
+use Rattle.is_theorems.proofs.Common.{◌&&◌, ◌||◌, ◌∙◌, ◌≡◌, ◌≤◌, ◌⊎◌, Absent, AddsUnknownSender, after_request, AgentRecord, ap, arith}
+use Rattle.is_theorems.proofs.Common.{as_taken, Barred, Bool, candidate_at, CandidateRecord, change_at, Class, Conflict, conflict_of}
+use Rattle.is_theorems.proofs.Common.{CountsAndServes, discovered_emitted, Drops, Emitted, Entry, eq-eqb, eqb-true, Err, evaluated, false}
+use Rattle.is_theorems.proofs.Common.{FindsOrAddsPair, Flag, followed, formed, Full, HandlesFailure, HandlesSuccess, Has, IceCreds, in_turn}
+use Rattle.is_theorems.proofs.Common.{inl, inr, is_for_other_peer, is_misled, is_modern, is_nominated, is_numbered, is_reverse, is_some}
+use Rattle.is_theorems.proofs.Common.{is_valid_at, keeps_check, Known, List, local_place, MatchOption, Message, nominated_by_self}
+use Rattle.is_theorems.proofs.Common.{Nominates, None, numbers, Ok, Option, pair_served, PairRecord, Path, path_of, priority_between}
+use Rattle.is_theorems.proofs.Common.{Queues, Reads, Receives, RecordsAndResponds, refl, remains, RemotePlace, request_counted, request_in}
+use Rattle.is_theorems.proofs.Common.{RequestRecord, ResolvesRoleConflict, ResolvesRoleConflictBy, selection_of, selects_at_requests}
+use Rattle.is_theorems.proofs.Common.{Send487, served, Serves, Some, StunTiming, subst, switched, switched_sides, SwitchRole, sym, Takes}
+use Rattle.is_theorems.proofs.Common.{trigger_time, triggered, true, Unknown, unwrap_or, Vacant, with_pair, with_priority_in, with_sender}
+use Rattle.is_theorems.proofs.Common.{with_sender_at, ℕ}
 use Rattle.is_theorems.proofs.BasicLemmas.EqualAddresses.{both}
 use Rattle.is_theorems.proofs.CallEffects.ChecksAndResponses.{Has-get}
 use Rattle.is_theorems.proofs.RuleEffects.UnchangedSettings.{either}
 use Rattle.is_theorems.proofs.DuePairs.AfterNominationAndRemoval.{last_time_of}
 use Rattle.is_theorems.proofs.EarlierChecks.ChecksOfOtherPairs.{lead, own-le, lead-answered}
-use Rattle.is_theorems.proofs.EarlierChecks.ChangedPairs.{MovedUp, moved-mild, triggered-mild, at-moved, self-mild, served-mild, at-mild, Onward, onward-same, onward-on, onward-each, onward-adds, onward-set}
+use Rattle.is_theorems.proofs.EarlierChecks.ChangedPairs.{MovedUp, moved-mild, triggered-mild, at-moved, self-mild, served-mild, at-mild}
+use Rattle.is_theorems.proofs.EarlierChecks.ChangedPairs.{Onward, onward-same, onward-on, onward-each, onward-adds, onward-set}
 use Rattle.is_theorems.proofs.RuleEffects.NominatedPairs.{SelectsPath, selects_path}
 use Rattle.is_theorems.proofs.RuleEffects.NotedErrors.{coded, recoded, by_failure}
 
@@ -194,7 +175,7 @@ module _ {H P : Type 0} where
         requested : (remote : Option IceCreds) (s new : AgentRecord H P) (emitted : Emitted) → is_some remote ≡ true
             → MatchOption remote (Queues q s emitted new) (λ _. Serves mac q s emitted new) → Goes s new
         requested None s new emitted known h = absurd (cc)
-        requested (Some peer) s new emitted known h = either (is_for_other_peer s q) h
+        requested (Some peer) s new emitted known h = either (is_for_other_peer s q) (in_turn mac q s new emitted h)
             (λ _ k. goes-same s new k.1)
             (λ _ k. here (local_place s.local q) s new emitted k)
 

@@ -1,27 +1,23 @@
 -- The effects of nomination and of requests on a pair. Which changes of a list of pairs leave no more checks of other
 -- pairs before one, except for one by each added pair.
-use Rattle.std.proofs.Common.{◌≡◌, ℕ, zero, suc, ◌+◌, ◌<◌, ◌≤◌, ◌&&◌, ◌||◌, Bool, true, false, not, nat_le, List, [], ◌∷◌, ◌++◌, map, min, Option, Some, None, option_map, unwrap_or, inl, inr, ◌⊎◌, refl, ap, sym, ◌∙◌, subst, arith, if◌then◌else◌}
-use Rattle.std.specs.Prelude.{slice_get, slice_set}
-use Rattle.std.specs.Option.{option_map_or}
-use Rattle.is_proto.specs.Lists.{Has}
-use Rattle.is_pair.specs.Multiset.{is_numbered, change_at}
-use Rattle.is_pair.specs.Pairs.{PairRecord, is_nominated, with_request, validated, nominated, new_pair}
-use Rattle.is_pair.specs.States.{is_nominated_state}
-use Rattle.is_pair.specs.declared.pair.states.NominationState.{NominationState}
-use Rattle.is_pair.specs.declared.pair.states.NominationState.TheVariants.{None as Unnominated, Nominated, Attempt, Success}
-use Rattle.is_pair.specs.Due.{is_triggered, moved_up, triggered}
-use Rattle.is_rules.specs.Owed.{one_if}
-use Rattle.is_rules.specs.Request.{RequestRecord}
-use Rattle.is_rules.specs.Serving.{served, nominated_by_peer, validated_by_peer}
+use Rattle.is_pair.specs.declared.pair.states.NominationState.TheVariants.{None as Unnominated}
+use Rattle.is_theorems.proofs.Common.{[], ◌&&◌, ◌++◌, ◌+◌, ◌<◌, ◌||◌, ◌∙◌, ◌∷◌, ◌≡◌, ◌≤◌, ◌⊎◌, ap, arith, Attempt, Bool, change_at, false}
+use Rattle.is_theorems.proofs.Common.{Has, if◌then◌else◌, inl, inr, is_nominated, is_nominated_state, is_numbered, is_triggered, List, map}
+use Rattle.is_theorems.proofs.Common.{min, moved_up, nat_le, new_pair, Nominated, nominated, nominated_by_peer, NominationState, None, not}
+use Rattle.is_theorems.proofs.Common.{one_if, Option, option_map, option_map_or, PairRecord, refl, RequestRecord, served, slice_get}
+use Rattle.is_theorems.proofs.Common.{slice_set, Some, subst, suc, Success, sym, triggered, true, unwrap_or, validated, validated_by_peer}
+use Rattle.is_theorems.proofs.Common.{with_request, zero, ℕ}
 use Rattle.is_theorems.proofs.DuePairs.AfterNominationAndRemoval.{Kept, kept_of}
-use Rattle.is_theorems.proofs.EarlierChecks.ChecksOfOtherPairs.{Becomes, le-from, le-is, le-fails, le-not, lead, leads, own, own-le, formed_by, Measure, sent_by, weight-becomes, is_early, weight, leads-map, leads-push, leads-set}
+use Rattle.is_theorems.proofs.EarlierChecks.ChecksOfOtherPairs.{Becomes, le-from, le-is, le-fails, le-not, lead, leads, own, own-le}
+use Rattle.is_theorems.proofs.EarlierChecks.ChecksOfOtherPairs.{formed_by, Measure, sent_by, weight-becomes, is_early, weight, leads-map}
+use Rattle.is_theorems.proofs.EarlierChecks.ChecksOfOtherPairs.{leads-push, leads-set}
 use Rattle.is_theorems.proofs.CallEffects.ServedRequests.{Has-mapped}
 use Rattle.is_theorems.proofs.RuleEffects.SelectedPaths.{some_is}
 use Rattle.is_theorems.proofs.BasicLemmas.ServedPairs.{numbered-by}
 
 -- ---- one pair
 
--- the same pair, due as it was; it may become nominated
+-- q is the pair p, due as it was; it may become nominated
 pub record Mild (p q : PairRecord) : Type 0 where
   pub number : q.number ≡ p.number
   pub due : q.due ≡ p.due
@@ -86,7 +82,7 @@ at-mild n f p m = by (is_numbered n p) where
   by true = m
   by false = mild-same p
 
--- The same pair, which may have been moved up to the time `at` or a later one: it is due by an earlier time exactly if it was, and due
+-- q is the pair p, which may have been moved up to the time `at` or a later one. It is due by an earlier time exactly if it was, and due
 -- as it was if that is by then.
 pub record MovedUp (by at : ℕ) (p q : PairRecord) : Type 0 where
   pub number : q.number ≡ p.number

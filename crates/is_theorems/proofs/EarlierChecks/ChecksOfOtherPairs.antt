@@ -1,24 +1,13 @@
 -- A bound on the number of checks of other pairs before that of a pair which is due by a given time, and the steps
 -- that do not increase it.
-use Rattle.std.proofs.Common.{◌≡◌, ℕ, zero, suc, ◌+◌, ◌-◌, ◌*◌, ◌<◌, ◌≤◌, ◌==◌, ◌||◌, Bool, true, false, List, [], ◌∷◌, ◌++◌, length, drop, map, filter, min, nat_le, Option, Some, None, unwrap_or, inl, inr, ◌⊎◌, refl, ap, sym, ◌∙◌, subst, arith, if◌then◌else◌}
-use Rattle.std.specs.Prelude.{slice_get, slice_set}
-use Rattle.std.specs.Option.{option_map_or}
-use Rattle.std.proofs.Math.Seq.{get_or-append_seam}
-use Rattle.std.proofs.lemmas.Bool.{eq-eqb}
-use Rattle.std.proofs.lemmas.Bool.Decides.{nat_tests}
-use Rattle.std.proofs.lemmas.List.{drop-append-le}
-use Rattle.std.proofs.lemmas.Option.{slice_get-get_or}
-use Rattle.is_proto.specs.Lists.{Has}
-use Rattle.is_proto.specs.Times.{MAX, later}
-use Rattle.is_pair.specs.Multiset.{is_numbered}
-use Rattle.is_pair.specs.Checks.{Check, answered_at, last_checks, last_check}
-use Rattle.is_pair.specs.Due.{asked, computed_due_time, next_due_time}
-use Rattle.is_pair.specs.Pairs.{PairRecord, checked, answered, check_of}
-use Rattle.is_pair.specs.States.{nomination_again, nomination_once_sent, nomination_once_answered}
-use Rattle.is_pair.specs.declared.pair.states.NominationState.{NominationState}
-use Rattle.is_pair.specs.declared.pair.states.NominationState.TheVariants.{None as Unnominated, Nominated, Attempt, Success}
-use Rattle.is_stun.specs.declared.timing.StunTiming.{StunTiming}
-use Rattle.is_rules.specs.Owed.{one_if}
+use Rattle.is_pair.specs.declared.pair.states.NominationState.TheVariants.{None as Unnominated}
+use Rattle.is_theorems.proofs.Common.{[], ◌*◌, ◌++◌, ◌+◌, ◌-◌, ◌<◌, ◌==◌, ◌||◌, ◌∙◌, ◌∷◌, ◌≡◌, ◌≤◌, ◌⊎◌, answered, answered_at, ap, arith}
+use Rattle.is_theorems.proofs.Common.{scheduled, Attempt, Bool, Check, check_of, checked, computed_due_time, drop, drop-append-le, eq-eqb}
+use Rattle.is_theorems.proofs.Common.{false, filter, get_or-append_seam, Has, if◌then◌else◌, inl, inr, is_numbered, last_check, last_checks}
+use Rattle.is_theorems.proofs.Common.{later, length, List, map, MAX, min, nat_le, nat_tests, next_due_time, Nominated, nomination_again}
+use Rattle.is_theorems.proofs.Common.{nomination_once_answered, nomination_once_sent, NominationState, None, one_if, Option, option_map_or}
+use Rattle.is_theorems.proofs.Common.{PairRecord, refl, slice_get, slice_get-get_or, slice_set, Some, StunTiming, subst, suc, Success, sym}
+use Rattle.is_theorems.proofs.Common.{true, unwrap_or, zero, ℕ}
 use Rattle.is_theorems.proofs.RuleEffects.SelectedPaths.{some_is}
 
 pub le-from : (n m : ℕ) → nat_le n m ≡ true → n ≤ m
@@ -175,16 +164,16 @@ or-left : (a b : Bool) → (a ≡ true → b ≡ true) → (a || b) ≡ true →
 or-left true b h is = h refl
 or-left false b h is = is
 
-asked-weight : (both : Bool) (by now : ℕ) (t : StunTiming) (n : NominationState) (o : Option ℕ) (p : PairRecord) → by < now → now < MAX
+scheduled-weight : (both : Bool) (by now : ℕ) (t : StunTiming) (n : NominationState) (o : Option ℕ) (p : PairRecord) → by < now → now < MAX
     → weight both n (is_early by (Some (unwrap_or o (min (computed_due_time n now t p) (later now t.max_rto.0)))) p.checks) ≤ weight both n (is_early by o p.checks)
-asked-weight both by now t n (Some d) p late early = omega arith
-asked-weight both by now t Nominated None p late early = omega arith
-asked-weight both by now t Unnominated None p late early = less-early both Unnominated _ _ (or-left _ _ (unfixed-early by now t.max_rto.0 t p late early))
-asked-weight both by now t Attempt None p late early = less-early both Attempt _ _ (or-left _ _ (unfixed-early by now t.max_rto.0 t p late early))
-asked-weight both by now t Success None p late early = less-early both Success _ _ (or-left _ _ (unfixed-early by now t.max_rto.0 t p late early))
+scheduled-weight both by now t n (Some d) p late early = omega arith
+scheduled-weight both by now t Nominated None p late early = omega arith
+scheduled-weight both by now t Unnominated None p late early = less-early both Unnominated _ _ (or-left _ _ (unfixed-early by now t.max_rto.0 t p late early))
+scheduled-weight both by now t Attempt None p late early = less-early both Attempt _ _ (or-left _ _ (unfixed-early by now t.max_rto.0 t p late early))
+scheduled-weight both by now t Success None p late early = less-early both Success _ _ (or-left _ _ (unfixed-early by now t.max_rto.0 t p late early))
 
-pub lead-asked : (both : Bool) (by now : ℕ) (t : StunTiming) (p : PairRecord) → by < now → now < MAX → lead both by (asked now t p) ≤ lead both by p
-lead-asked both by now t p late early = asked-weight both by now t p.nomination p.due p late early
+pub lead-scheduled : (both : Bool) (by now : ℕ) (t : StunTiming) (p : PairRecord) → by < now → now < MAX → lead both by (scheduled now t p) ≤ lead both by p
+lead-scheduled both by now t p late early = scheduled-weight both by now t p.nomination p.due p late early
 
 pub lead-checked-is : (both : Bool) (by now : ℕ) (t : StunTiming) (c : Bool) (id : List ℕ) (p : PairRecord) → by < now → 0 < t.max_retransmits
     → lead both by (checked now t c id p) ≡ weight both (nomination_once_sent p.nomination) false

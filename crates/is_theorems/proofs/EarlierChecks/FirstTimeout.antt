@@ -1,29 +1,13 @@
 -- A `handle_timeout` call checks a pair that is due by its time, or another one, and fixes its due time.
-use Rattle.std.proofs.Common.{◌≡◌, ℕ, ◌≤◌, ◌==◌, ◌&&◌, ◌||◌, Bool, true, false, not, List, map, nat_le, nat_lt, Option, Some, None, is_some, unwrap_or, inl, inr, ◌⊎◌, refl, ap, sym, ◌∙◌, subst, arith, if◌then◌else◌}
-use Rattle.std.specs.List.{list_any}
-use Rattle.std.proofs.lemmas.Bool.{eqb-true}
-use Rattle.std.proofs.lemmas.Bool.Decides.{nat_tests}
-use Rattle.rand_core.specs.Stream.{Stream}
-use Rattle.is_proto.specs.Lists.{Has}
-use Rattle.is_pair.specs.Multiset.{is_numbered, change_at, change_pair}
-use Rattle.is_pair.specs.Checks.{unanswered_count}
-use Rattle.is_pair.specs.Due.{asked, due_time_of, is_due, stays_answered}
-use Rattle.is_pair.specs.Pairs.{PairRecord, is_valid, is_nominated}
 use Rattle.is_stun.specs.declared.header.Class.TheVariants as class
-use Rattle.is_stun.specs.declared.timing.StunTiming.{StunTiming}
-use Rattle.is_stun.specs.Timing.{consent_of}
-use Rattle.is_rules.specs.Agent.{AgentRecord}
-use Rattle.is_rules.specs.Checking.{all_asked, IsNextToCheck, ChecksTop, MayCheck}
-use Rattle.is_rules.specs.declared.credentials.IceCreds.{IceCreds}
-use Rattle.is_rules.specs.declared.emitted.Emitted.{Emitted}
-use Rattle.is_rules.specs.declared.emitted.Issued.{Issued}
-use Rattle.is_rules.specs.declared.emitted.Path.{Path}
-use Rattle.is_rules.specs.Emitted.{issued_as}
-use Rattle.is_rules.specs.Nominating.{followed, is_eligible, nominated_by_self, remains, selection_of, Nominates, nominates_at_once}
-use Rattle.is_theorems.specs.Progress.{ChecksOn}
-use Rattle.is_rules.specs.Sending.{path_of}
-use Rattle.is_rules.specs.Timeouts.{at_timeout, is_expired, expired_gone, RemovesExpired, MaintainsPairs}
-use Rattle.is_rules.proofs.PairLists.ChosenPair.{chosen-able, none_pass}
+use Rattle.is_theorems.proofs.Common.{◌&&◌, ◌==◌, ◌||◌, ◌∙◌, ◌≡◌, ◌≤◌, ◌⊎◌, AgentRecord, all_scheduled, ap, arith, scheduled, at_timeout, Bool}
+use Rattle.is_theorems.proofs.Common.{change_at, change_pair, ChecksOn, ChecksTop, chosen-able, consent_of, due_time_of, Emitted, eqb-true}
+use Rattle.is_theorems.proofs.Common.{expired_gone, false, followed, Has, IceCreds, if◌then◌else◌, inl, inr, is_due, is_eligible}
+use Rattle.is_theorems.proofs.Common.{is_expired, is_nominated, is_numbered, is_some, is_valid, IsNextToCheck, Issued, issued_as, List}
+use Rattle.is_theorems.proofs.Common.{list_any, MaintainsPairs, map, MayCheck, nat_le, nat_lt, nat_tests, nominated_by_self, Nominates}
+use Rattle.is_theorems.proofs.Common.{nominates_at_once, None, none_pass, not, Option, PairRecord, Path, path_left, path_of, refl, remains}
+use Rattle.is_theorems.proofs.Common.{RemovesExpired, selection_of, Some, stays_answered, Stream, StunTiming, subst, sym, true}
+use Rattle.is_theorems.proofs.Common.{unanswered_count, unwrap_or, ℕ}
 use Rattle.is_theorems.proofs.BasicLemmas.PairsInTurn.{next-has, none-is-due, pairs-sent, sent_at}
 use Rattle.is_theorems.proofs.RuleEffects.UnchangedSettings.{either}
 use Rattle.is_theorems.proofs.EarlierChecks.ChangedPairs.{Fixed}
@@ -31,9 +15,10 @@ use Rattle.is_theorems.proofs.RuleEffects.ChangedPairs.{Has-map}
 use Rattle.is_theorems.proofs.DuePairs.FirstDuePair.{fixed-is, same-path, next-check}
 use Rattle.is_theorems.proofs.RuleEffects.NominatedPairs.{SelectsPath, selects_path}
 use Rattle.is_theorems.proofs.CallEffects.ServedRequests.{Has-mapped}
-use Rattle.is_theorems.proofs.DuePairs.AfterNominationAndRemoval.{kept_of, alike-kept, answered-on, Distinct, Alike, Base, base_of as agent_base, Has-kept, stays-young, thinned-filter, keeps-young, names-thins, gives-up-thins, nominates-has, leaves-thins}
+use Rattle.is_theorems.proofs.DuePairs.AfterNominationAndRemoval.{kept_of, alike-kept, answered-on, Distinct, Alike, Base}
+use Rattle.is_theorems.proofs.DuePairs.AfterNominationAndRemoval.{base_of as agent_base, Has-kept, stays-young, thinned-filter, keeps-young}
+use Rattle.is_theorems.proofs.DuePairs.AfterNominationAndRemoval.{names-thins, gives-up-thins, nominates-has, leaves-thins}
 use Rattle.is_theorems.proofs.EarlierChecks.LeavingPaths.{as-left, ready-left, there-left}
-use Rattle.is_rules.specs.Leaving.{path_left}
 
 le-is : (n m : ℕ) → n ≤ m → nat_le n m ≡ true
 le-is n m h = grind (arith, nat_tests, h)
@@ -120,44 +105,44 @@ module _ (now by : ℕ) (begun : by ≤ now) where
           → ((id : List ℕ) × (issued ≡ Some (issued_as (path_of old p) class.Request id))) ⊎ WaitsOn old new p
       check-goes old new s u issued remote known full distinct p has due h =
           let k = next-check mac now remote old new s u issued known full h in by-next k.0 k.1 k.2 k.3 where
-            in_asked : Has (map (asked now old.timing) old.pairs) (asked now old.timing p)
-            in_asked = Has-mapped (asked now old.timing) old.pairs p has
+            in_asked : Has (map (scheduled now old.timing) old.pairs) (scheduled now old.timing p)
+            in_asked = Has-mapped (scheduled now old.timing) old.pairs p has
 
             begins : Bool
-            begins = nominates_at_once (all_asked now old)
+            begins = nominates_at_once (all_scheduled now old)
 
-            whose : (q : PairRecord) (id : List ℕ) → new.pairs ≡ change_pair q.number (sent_at begins now old.timing old.controlling id) (map (asked now old.timing) old.pairs)
+            whose : (q : PairRecord) (id : List ℕ) → new.pairs ≡ change_pair q.number (sent_at begins now old.timing old.controlling id) (map (scheduled now old.timing) old.pairs)
                 → issued ≡ Some (issued_as (path_of old q) class.Request id)
-                → (o : PairRecord) × Has old.pairs o × (asked now old.timing o ≡ q)
+                → (o : PairRecord) × Has old.pairs o × (scheduled now old.timing o ≡ q)
                 → (b : Bool) → (p.number == q.number) ≡ b
                 → ((id : List ℕ) × (issued ≡ Some (issued_as (path_of old p) class.Request id))) ⊎ WaitsOn old new p
             whose q id made is (o, o_has, o_is) true same =
                 let one : o ≡ p = distinct o p o_has has (ap (λ (x : PairRecord). x.number) o_is ∙ sym (eqb-true p.number q.number same)) in
-                inl (id, is ∙ ap (λ (x : PairRecord). Some (issued_as (path_of old x) class.Request id)) (sym o_is ∙ ap (asked now old.timing) one))
+                inl (id, is ∙ ap (λ (x : PairRecord). Some (issued_as (path_of old x) class.Request id)) (sym o_is ∙ ap (scheduled now old.timing) one))
             whose q id made is (o, o_has, o_is) false apart =
                 inr (
                   (o, o_has, ap (λ (x : PairRecord). p.number == x.number) o_is ∙ apart),
                   (
                     due_time_of now old.timing p,
                     due,
-                    subst (λ ps. Fixed p.number (due_time_of now old.timing p) (kept_of p) ps) (sym made) (asked now old.timing p, stays, refl, refl, refl),
+                    subst (λ ps. Fixed p.number (due_time_of now old.timing p) (kept_of p) ps) (sym made) (scheduled now old.timing p, stays, refl, refl, refl),
                   ),
                 ) where
                   change : PairRecord → PairRecord
                   change x = sent_at begins now old.timing old.controlling id x
 
-                  stays : Has (change_pair q.number change (map (asked now old.timing) old.pairs)) (asked now old.timing p)
-                  stays = subst (λ b. Has (change_pair q.number change (map (asked now old.timing) old.pairs))
-                      (if b then change (asked now old.timing p) else asked now old.timing p)) apart
-                      (Has-mapped (change_at q.number change) (map (asked now old.timing) old.pairs) (asked now old.timing p) in_asked)
+                  stays : Has (change_pair q.number change (map (scheduled now old.timing) old.pairs)) (scheduled now old.timing p)
+                  stays = subst (λ b. Has (change_pair q.number change (map (scheduled now old.timing) old.pairs))
+                      (if b then change (scheduled now old.timing p) else scheduled now old.timing p)) apart
+                      (Has-mapped (change_at q.number change) (map (scheduled now old.timing) old.pairs) (scheduled now old.timing p) in_asked)
 
-            by-next : (peer : IceCreds) (next : Option PairRecord) → IsNextToCheck now (all_asked now old) next → ChecksTop mac now peer next (all_asked now old) s issued new u
+            by-next : (peer : IceCreds) (next : Option PairRecord) → IsNextToCheck now (all_scheduled now old) next → ChecksTop mac now peer next (all_scheduled now old) s issued new u
                 → ((id : List ℕ) × (issued ≡ Some (issued_as (path_of old p) class.Request id))) ⊎ WaitsOn old new p
             by-next peer None chosen h =
-                let it : is_due now old.timing (asked now old.timing p) ≡ true = le-is (due_time_of now old.timing p) now (let d = due in omega (arith, d, begun)) in
-                absurd (none_pass (is_due now old.timing) (map (asked now old.timing) old.pairs) (asked now old.timing p) (none-is-due now (all_asked now old) chosen) in_asked it)
+                let it : is_due now old.timing (scheduled now old.timing p) ≡ true = le-is (due_time_of now old.timing p) now (let d = due in omega (arith, d, begun)) in
+                absurd (none_pass (is_due now old.timing) (map (scheduled now old.timing) old.pairs) (scheduled now old.timing p) (none-is-due now (all_scheduled now old) chosen) in_asked it)
             by-next peer (Some q) chosen (id, drawn, values, is, made) =
-                whose q id (pairs-sent mac now peer q id (all_asked now old) new made) is (Has-map (asked now old.timing) old.pairs q (next-has now (all_asked now old) q chosen)) (p.number == q.number) refl
+                whose q id (pairs-sent mac now peer q id (all_scheduled now old) new made) is (Has-map (scheduled now old.timing) old.pairs q (next-has now (all_scheduled now old) q chosen)) (p.number == q.number) refl
 
       -- ---- the `handle_timeout` call
 

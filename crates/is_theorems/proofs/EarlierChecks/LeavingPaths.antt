@@ -1,13 +1,9 @@
 -- A `handle_timeout` call that leaves a silent path leaves no more checks of other pairs before one that is due, and other pairs as they are,
 -- except that they may be due sooner.
-use Rattle.std.proofs.Common.{◌≡◌, ℕ, ◌+◌, ◌<◌, ◌≤◌, ◌⊎◌, Bool, true, false, min, not, Option, Some, None, is_some, option_map, unwrap_or, inl, inr, refl, ap, sym, subst, arith, if◌then◌else◌}
-use Rattle.is_proto.specs.Lists.{Has}
-use Rattle.is_stun.specs.declared.timing.StunTiming.{StunTiming}
-use Rattle.is_pair.specs.Due.{due_time_of, moved_up}
-use Rattle.is_pair.specs.Pairs.{PairRecord, is_valid}
-use Rattle.is_rules.specs.Agent.{AgentRecord}
-use Rattle.is_rules.specs.Due.{awaits_nomination}
-use Rattle.is_rules.specs.Leaving.{gives_way, hastened, path_left, silent_gone}
+use Rattle.is_theorems.proofs.Common.{◌+◌, ◌<◌, ◌≡◌, ◌≤◌, ◌⊎◌, AgentRecord, ap, arith, awaits_nomination, Bool, due_time_of, false}
+use Rattle.is_theorems.proofs.Common.{gives_way, Has, hastened, if◌then◌else◌, inl, inr, is_some, is_valid, min, moved_up, None, not}
+use Rattle.is_theorems.proofs.Common.{Option, option_map, PairRecord, path_left, refl, silent_gone, Some, StunTiming, subst, sym, true}
+use Rattle.is_theorems.proofs.Common.{unwrap_or, ℕ}
 use Rattle.is_theorems.proofs.EarlierChecks.ChangedPairs.{lead-moved, mild-same, moved-mild, moved-to, MovedUp}
 use Rattle.is_theorems.proofs.EarlierChecks.ChecksOfOtherPairs.{leads, leads-filter, leads-map, own-le, Measure}
 use Rattle.is_theorems.proofs.RuleEffects.HastenedPairs.{by-hastened, left-has, only-due, Hastens}

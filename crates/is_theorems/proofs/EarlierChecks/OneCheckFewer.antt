@@ -1,46 +1,32 @@
 -- A `handle_timeout` call checks a pair that is due, or another one before it, and then one check fewer goes before
 -- it; or a check goes ahead, and then no more checks go before it and the next check may not go ahead; or a nomination is sent at once,
 -- and then no more checks go before it.
-use Rattle.std.proofs.Common.{◌≡◌, ℕ, suc, ◌+◌, ◌<◌, ◌≤◌, ◌==◌, ◌&&◌, ◌||◌, Bool, true, false, not, List, map, nat_le, nat_lt, Option, Some, None, is_some, unwrap_or, inl, inr, ◌⊎◌, refl, ap, sym, ◌∙◌, subst, arith, if◌then◌else◌}
-use Rattle.std.specs.List.{list_any}
-use Rattle.std.proofs.lemmas.Bool.{eq-eqb, eqb-true}
-use Rattle.std.proofs.lemmas.Bool.Decides.{nat_tests}
-use Rattle.rand_core.specs.Stream.{Stream}
-use Rattle.is_proto.specs.Lists.{Has}
-use Rattle.is_proto.specs.Times.{MAX}
-use Rattle.is_pair.specs.Checks.{unanswered_count}
-use Rattle.is_pair.specs.Multiset.{is_numbered, change_at, change_pair}
-use Rattle.is_pair.specs.Due.{asked, due_time_of, is_due, stays_answered, GoesBefore}
-use Rattle.is_pair.specs.Pairs.{PairRecord, is_valid, is_nominated, checked, renominated}
-use Rattle.is_pair.specs.States.{nomination_once_sent}
 use Rattle.is_stun.specs.declared.header.Class.TheVariants as class
-use Rattle.is_stun.specs.declared.timing.StunTiming.{StunTiming}
-use Rattle.is_stun.specs.Timing.{is_modern, consent_of}
-use Rattle.is_rules.specs.Agent.{AgentRecord}
-use Rattle.is_rules.specs.Checking.{all_asked, are_kinds_in_turn, has_first, is_ahead_turn, IsNextToCheck, ChecksTop, MayCheck}
-use Rattle.is_rules.specs.declared.credentials.IceCreds.{IceCreds}
-use Rattle.is_rules.specs.declared.emitted.Issued.{Issued}
-use Rattle.is_rules.specs.declared.emitted.Path.{Path}
-use Rattle.is_rules.specs.declared.emitted.Emitted.{Emitted}
-use Rattle.is_rules.specs.Nominating.{nominated_by_self, Nominates, followed, remains, selection_of, is_eligible, nominates_at_once}
-use Rattle.is_theorems.specs.Progress.{ChecksOn}
-use Rattle.is_rules.specs.Sending.{path_of}
-use Rattle.is_rules.specs.Timeouts.{at_timeout, is_expired, expired_gone, RemovesExpired, MaintainsPairs}
-use Rattle.is_rules.specs.Emitted.{issued_as}
+use Rattle.is_theorems.proofs.Common.{◌&&◌, ◌+◌, ◌<◌, ◌==◌, ◌||◌, ◌∙◌, ◌≡◌, ◌≤◌, ◌⊎◌, AgentRecord, all_scheduled, ap, are_kinds_in_turn, arith}
+use Rattle.is_theorems.proofs.Common.{scheduled, at_timeout, Bool, change_at, change_pair, checked, ChecksOn, ChecksTop, chosen-able}
+use Rattle.is_theorems.proofs.Common.{consent_of, due_time_of, Emitted, eq-eqb, eqb-true, expired_gone, false, followed, GoesBefore, Has}
+use Rattle.is_theorems.proofs.Common.{has_first, IceCreds, if◌then◌else◌, inl, inr, is_ahead_turn, is_due, is_eligible, is_expired}
+use Rattle.is_theorems.proofs.Common.{is_modern, is_nominated, is_numbered, is_some, is_valid, IsNextToCheck, Issued, issued_as, List}
+use Rattle.is_theorems.proofs.Common.{list_any, MaintainsPairs, map, MAX, MayCheck, nat_le, nat_lt, nat_tests, nominated_by_self, Nominates}
+use Rattle.is_theorems.proofs.Common.{nominates_at_once, nomination_once_sent, None, none_pass, not, Option, PairRecord, Path, path_left}
+use Rattle.is_theorems.proofs.Common.{path_of, refl, remains, RemovesExpired, renominated, selection_of, Some, stays_answered, Stream}
+use Rattle.is_theorems.proofs.Common.{StunTiming, subst, suc, sym, true, unanswered_count, unwrap_or, ℕ}
 use Rattle.is_theorems.proofs.RuleEffects.UnchangedSettings.{either}
-use Rattle.is_theorems.proofs.EarlierChecks.ChecksOfOtherPairs.{all-but, formed_by, Counts, Measure, lead, leads, own, own-le, weight, weight-again-no-more, weight-sent, weight-sent-no-more, lead-asked, lead-checked-is, leads-map, leads-less, leads-filter, is_early, sent_by}
+use Rattle.is_theorems.proofs.EarlierChecks.ChecksOfOtherPairs.{all-but, formed_by, Counts, Measure, lead, leads, own, own-le, weight}
+use Rattle.is_theorems.proofs.EarlierChecks.ChecksOfOtherPairs.{weight-again-no-more, weight-sent, weight-sent-no-more, lead-scheduled}
+use Rattle.is_theorems.proofs.EarlierChecks.ChecksOfOtherPairs.{lead-checked-is, leads-map, leads-less, leads-filter, is_early, sent_by}
 use Rattle.is_theorems.proofs.EarlierChecks.ChangedPairs.{Fixed}
 use Rattle.is_theorems.proofs.EarlierChecks.BetweenTimeouts.{nominates-onward}
 use Rattle.is_theorems.proofs.RuleEffects.ChangedPairs.{Has-map}
 use Rattle.is_theorems.proofs.BasicLemmas.PairsInTurn.{next-has, none-is-due, next-in-turn, pairs-sent, sent_at}
 use Rattle.is_theorems.proofs.DuePairs.FirstDuePair.{fixed-is, same-path, NoneAtCheck, next-check}
 use Rattle.is_theorems.proofs.DuePairs.ChecksAhead.{Falls, falls-from, is-turn}
-use Rattle.is_rules.proofs.PairLists.ChosenPair.{chosen-able, none_pass}
 use Rattle.is_theorems.proofs.RuleEffects.NominatedPairs.{SelectsPath, selects_path}
 use Rattle.is_theorems.proofs.CallEffects.ServedRequests.{Has-mapped}
-use Rattle.is_theorems.proofs.DuePairs.AfterNominationAndRemoval.{kept_of, alike-kept, answered-on, Distinct, Alike, Base, base_of as agent_base, Has-kept, stays-young, thinned-filter, keeps-young, nominates-thins, names-thins, gives-up-thins, nominates-has, leaves-thins}
+use Rattle.is_theorems.proofs.DuePairs.AfterNominationAndRemoval.{kept_of, alike-kept, answered-on, Distinct, Alike, Base}
+use Rattle.is_theorems.proofs.DuePairs.AfterNominationAndRemoval.{base_of as agent_base, Has-kept, stays-young, thinned-filter, keeps-young}
+use Rattle.is_theorems.proofs.DuePairs.AfterNominationAndRemoval.{nominates-thins, names-thins, gives-up-thins, nominates-has, leaves-thins}
 use Rattle.is_theorems.proofs.EarlierChecks.LeavingPaths.{as-left, leads-left, ready-left, there-left}
-use Rattle.is_rules.specs.Leaving.{path_left}
 
 le-is : (n m : ℕ) → n ≤ m → nat_le n m ≡ true
 le-is n m h = grind (arith, nat_tests, h)
@@ -106,15 +92,15 @@ module _ (now by : ℕ) (late : by < now) (early : now < MAX) where
       at false = omega arith
     sent-no-more false m y = change-no-more m y
 
-    asked-no-more : (ps : List PairRecord) → leads w by (map (asked now t) ps) ≤ leads w by ps
-    asked-no-more ps = leads-map w by (asked now t) ps (λ y. own-le w by y (asked now t y) refl (lead-asked w.both by now t y late early))
+    scheduled-no-more : (ps : List PairRecord) → leads w by (map (scheduled now t) ps) ≤ leads w by ps
+    scheduled-no-more ps = leads-map w by (scheduled now t) ps (λ y. own-le w by y (scheduled now t y) refl (lead-scheduled w.both by now t y late early))
 
     -- no more checks are left after a check
-    pub after-check : (begins : Bool) (m : ℕ) (ps : List PairRecord) → leads w by (change_pair m (sent_at begins now t c id) (map (asked now t) ps)) ≤ leads w by ps
+    pub after-check : (begins : Bool) (m : ℕ) (ps : List PairRecord) → leads w by (change_pair m (sent_at begins now t c id) (map (scheduled now t) ps)) ≤ leads w by ps
     after-check begins m ps =
-        let a : leads w by (change_pair m (sent_at begins now t c id) (map (asked now t) ps)) ≤ leads w by (map (asked now t) ps) =
-        leads-map w by (change_at m (sent_at begins now t c id)) (map (asked now t) ps) (sent-no-more begins m) in
-        let b : leads w by (map (asked now t) ps) ≤ leads w by ps = asked-no-more ps in
+        let a : leads w by (change_pair m (sent_at begins now t c id) (map (scheduled now t) ps)) ≤ leads w by (map (scheduled now t) ps) =
+        leads-map w by (change_at m (sent_at begins now t c id)) (map (scheduled now t) ps) (sent-no-more begins m) in
+        let b : leads w by (map (scheduled now t) ps) ≤ leads w by ps = scheduled-no-more ps in
         omega (arith, a, b)
 
     -- the one that is checked
@@ -136,12 +122,12 @@ module _ (now by : ℕ) (late : by < now) (early : now < MAX) where
       at false is = absurd (cc)
 
     -- of a pair that counts and is due by the time, one check fewer is left after its check
-    pub one-fewer-left : (ps : List PairRecord) (q : PairRecord) → Has (map (asked now t) ps) q → (d : ℕ) → q.due ≡ Some d → d ≤ by → w.skips q.number ≡ false → Counts w.both q.nomination
-        → leads w by (change_pair q.number (checked now t c id) (map (asked now t) ps)) + 1 ≤ leads w by ps
+    pub one-fewer-left : (ps : List PairRecord) (q : PairRecord) → Has (map (scheduled now t) ps) q → (d : ℕ) → q.due ≡ Some d → d ≤ by → w.skips q.number ≡ false → Counts w.both q.nomination
+        → leads w by (change_pair q.number (checked now t c id) (map (scheduled now t) ps)) + 1 ≤ leads w by ps
     one-fewer-left ps q there d fixed due other counts =
-        let a : leads w by (change_pair q.number (checked now t c id) (map (asked now t) ps)) + 1 ≤ leads w by (map (asked now t) ps) =
-        leads-less w by (change_at q.number (checked now t c id)) (map (asked now t) ps) q (change-no-more q.number) there (change-less d q fixed due other counts) in
-        let b : leads w by (map (asked now t) ps) ≤ leads w by ps = asked-no-more ps in
+        let a : leads w by (change_pair q.number (checked now t c id) (map (scheduled now t) ps)) + 1 ≤ leads w by (map (scheduled now t) ps) =
+        leads-less w by (change_at q.number (checked now t c id)) (map (scheduled now t) ps) q (change-no-more q.number) there (change-less d q fixed due other counts) in
+        let b : leads w by (map (scheduled now t) ps) ≤ leads w by ps = scheduled-no-more ps in
         omega (arith, a, b)
 
   module _ {H P : Type 0} where
@@ -204,7 +190,7 @@ module _ (now by : ℕ) (late : by < now) (early : now < MAX) where
 
     -- the check goes ahead, or the pair is due by the time
     abbrev Chosen : AgentRecord H P → PairRecord → Type 0
-    Chosen old q = (is_ahead_turn now (all_asked now old) ≡ true) ⊎ (due_time_of now old.timing q ≤ by)
+    Chosen old q = (is_ahead_turn now (all_scheduled now old) ≡ true) ⊎ (due_time_of now old.timing q ≤ by)
 
     module _ (mac : H → List ℕ → List ℕ → List ℕ) where
       check-goes : (old new : AgentRecord H P) (s u : Stream) (issued : Option Issued) (remote : Option IceCreds) → is_some remote ≡ true → old.lite ≡ false
@@ -213,40 +199,40 @@ module _ (now by : ℕ) (late : by < now) (early : now < MAX) where
           → ((id : List ℕ) × (issued ≡ Some (issued_as (path_of old p) class.Request id))) ⊎ WaitsOn (NoneAtCheck now old) old new p
       check-goes old new s u issued remote known full distinct some p has due h =
           let k = next-check mac now remote old new s u issued known full h in by-next k.0 k.1 k.2 k.3 where
-            in_asked : Has (map (asked now old.timing) old.pairs) (asked now old.timing p)
-            in_asked = Has-mapped (asked now old.timing) old.pairs p has
+            in_asked : Has (map (scheduled now old.timing) old.pairs) (scheduled now old.timing p)
+            in_asked = Has-mapped (scheduled now old.timing) old.pairs p has
 
             begins : Bool
-            begins = nominates_at_once (all_asked now old)
+            begins = nominates_at_once (all_scheduled now old)
 
-            whose : (peer : IceCreds) (q : PairRecord) (id : List ℕ) → new.ahead_turn ≡ not (is_ahead_turn now (all_asked now old))
-                → new.pairs ≡ change_pair q.number (sent_at begins now old.timing old.controlling id) (map (asked now old.timing) old.pairs)
-                → issued ≡ Some (issued_as (path_of old q) class.Request id) → Has (map (asked now old.timing) old.pairs) q
-                → (o : PairRecord) × Has old.pairs o × (asked now old.timing o ≡ q) → (NoneAtCheck now old → Chosen old q)
+            whose : (peer : IceCreds) (q : PairRecord) (id : List ℕ) → new.ahead_turn ≡ not (is_ahead_turn now (all_scheduled now old))
+                → new.pairs ≡ change_pair q.number (sent_at begins now old.timing old.controlling id) (map (scheduled now old.timing) old.pairs)
+                → issued ≡ Some (issued_as (path_of old q) class.Request id) → Has (map (scheduled now old.timing) old.pairs) q
+                → (o : PairRecord) × Has old.pairs o × (scheduled now old.timing o ≡ q) → (NoneAtCheck now old → Chosen old q)
                 → (b : Bool) → (p.number == q.number) ≡ b
                 → ((id : List ℕ) × (issued ≡ Some (issued_as (path_of old p) class.Request id))) ⊎ WaitsOn (NoneAtCheck now old) old new p
             whose peer q id turned sent is there (o, o_has, o_is) chosen true same =
                 let one : o ≡ p = distinct o p o_has has (ap (λ (x : PairRecord). x.number) o_is ∙ sym (eqb-true p.number q.number same)) in
-                inl (id, is ∙ ap (λ (x : PairRecord). Some (issued_as (path_of old x) class.Request id)) (sym o_is ∙ ap (asked now old.timing) one))
+                inl (id, is ∙ ap (λ (x : PairRecord). Some (issued_as (path_of old x) class.Request id)) (sym o_is ∙ ap (scheduled now old.timing) one))
             whose peer q id turned sent is there (o, o_has, o_is) chosen false apart =
                 inr (
                   due_time_of now old.timing p,
                   due,
-                  subst (λ ps. Fixed p.number (due_time_of now old.timing p) (kept_of p) ps) (sym sent) (asked now old.timing p, stays, refl, refl, refl),
+                  subst (λ ps. Fixed p.number (due_time_of now old.timing p) (kept_of p) ps) (sym sent) (scheduled now old.timing p, stays, refl, refl, refl),
                   no-more,
                   λ turn. falls (plain turn) (chosen turn),
                 ) where
                   change : PairRecord → PairRecord
                   change x = sent_at begins now old.timing old.controlling id x
 
-                  stays : Has (change_pair q.number change (map (asked now old.timing) old.pairs)) (asked now old.timing p)
-                  stays = subst (λ b. Has (change_pair q.number change (map (asked now old.timing) old.pairs))
-                      (if b then change (asked now old.timing p) else asked now old.timing p)) apart
-                      (Has-mapped (change_at q.number change) (map (asked now old.timing) old.pairs) (asked now old.timing p) in_asked)
+                  stays : Has (change_pair q.number change (map (scheduled now old.timing) old.pairs)) (scheduled now old.timing p)
+                  stays = subst (λ b. Has (change_pair q.number change (map (scheduled now old.timing) old.pairs))
+                      (if b then change (scheduled now old.timing p) else scheduled now old.timing p)) apart
+                      (Has-mapped (change_at q.number change) (map (scheduled now old.timing) old.pairs) (scheduled now old.timing p) in_asked)
 
                   -- no nomination begins
-                  plain : NoneAtCheck now old → new.pairs ≡ change_pair q.number (checked now old.timing old.controlling id) (map (asked now old.timing) old.pairs)
-                  plain turn = sent ∙ ap (λ b. change_pair q.number (sent_at b now old.timing old.controlling id) (map (asked now old.timing) old.pairs))
+                  plain : NoneAtCheck now old → new.pairs ≡ change_pair q.number (checked now old.timing old.controlling id) (map (scheduled now old.timing) old.pairs)
+                  plain turn = sent ∙ ap (λ b. change_pair q.number (sent_at b now old.timing old.controlling id) (map (scheduled now old.timing) old.pairs))
                       turn
 
                   q_fixed : q.due ≡ Some (due_time_of now old.timing o)
@@ -264,35 +250,35 @@ module _ (now by : ℕ) (late : by < now) (early : now < MAX) where
                   no-more : (w : Measure) → leads w by new.pairs ≤ leads w by old.pairs
                   no-more w = subst (λ ps. leads w by ps ≤ leads w by old.pairs) (sym sent) (after-check old.timing old.controlling id some w begins q.number old.pairs)
 
-                  one-fewer : new.pairs ≡ change_pair q.number (checked now old.timing old.controlling id) (map (asked now old.timing) old.pairs) → due_time_of now old.timing q ≤ by
+                  one-fewer : new.pairs ≡ change_pair q.number (checked now old.timing old.controlling id) (map (scheduled now old.timing) old.pairs) → due_time_of now old.timing q ≤ by
                       → leads (all-but p.number) by new.pairs < leads (all-but p.number) by old.pairs
                   one-fewer made q_due =
                       let a = one-fewer-left old.timing old.controlling id some (all-but p.number) old.pairs q there (due_time_of now old.timing o) q_fixed (o_due q_due) other (inl refl) in
                       subst (λ ps. leads (all-but p.number) by ps < leads (all-but p.number) by old.pairs) (sym made) (omega (arith, a))
 
-                  falls : new.pairs ≡ change_pair q.number (checked now old.timing old.controlling id) (map (asked now old.timing) old.pairs) → Chosen old q
+                  falls : new.pairs ≡ change_pair q.number (checked now old.timing old.controlling id) (map (scheduled now old.timing) old.pairs) → Chosen old q
                       → Falls (is_modern old.timing) old.ahead_turn new.ahead_turn (leads (all-but p.number) by old.pairs) (leads (all-but p.number) by new.pairs)
                   falls made which = elim which [
                     | inl on ↦
-                        (let turn = is-turn (is_modern old.timing) old.ahead_turn (are_kinds_in_turn (all_asked now old) || has_first now (all_asked now old)) on in
+                        (let turn = is-turn (is_modern old.timing) old.ahead_turn (are_kinds_in_turn (all_scheduled now old) || has_first now (all_scheduled now old)) on in
                         inr (no-more (all-but p.number), turn.0, turn.1, turned ∙ ap not on))
                     | inr q_due ↦ inl (one-fewer made q_due)
                   ]
 
-            by-next : (peer : IceCreds) (next : Option PairRecord) → IsNextToCheck now (all_asked now old) next → ChecksTop mac now peer next (all_asked now old) s issued new u
+            by-next : (peer : IceCreds) (next : Option PairRecord) → IsNextToCheck now (all_scheduled now old) next → ChecksTop mac now peer next (all_scheduled now old) s issued new u
                 → ((id : List ℕ) × (issued ≡ Some (issued_as (path_of old p) class.Request id))) ⊎ WaitsOn (NoneAtCheck now old) old new p
             by-next peer None chosen h =
-                let it : is_due now old.timing (asked now old.timing p) ≡ true = le-is (due_time_of now old.timing p) now (let d = due in omega (arith, d, late)) in
-                absurd (none_pass (is_due now old.timing) (map (asked now old.timing) old.pairs) (asked now old.timing p) (none-is-due now (all_asked now old) chosen) in_asked it)
+                let it : is_due now old.timing (scheduled now old.timing p) ≡ true = le-is (due_time_of now old.timing p) now (let d = due in omega (arith, d, late)) in
+                absurd (none_pass (is_due now old.timing) (map (scheduled now old.timing) old.pairs) (scheduled now old.timing p) (none-is-due now (all_scheduled now old) chosen) in_asked it)
             by-next peer (Some q) chosen (id, drawn, values, is, made) =
-                let there : Has (map (asked now old.timing) old.pairs) q = next-has now (all_asked now old) q chosen in
-                whose peer q id (ap (λ (a : AgentRecord H P). a.ahead_turn) made) (pairs-sent mac now peer q id (all_asked now old) new made) is there (Has-map (asked now old.timing) old.pairs q there)
-                (λ turn. in-turn turn (is_ahead_turn now (all_asked now old)) refl) (p.number == q.number) refl where
-                  in-turn : nominates_at_once (all_asked now old) ≡ false → (b : Bool) → is_ahead_turn now (all_asked now old) ≡ b → Chosen old q
+                let there : Has (map (scheduled now old.timing) old.pairs) q = next-has now (all_scheduled now old) q chosen in
+                whose peer q id (ap (λ (a : AgentRecord H P). a.ahead_turn) made) (pairs-sent mac now peer q id (all_scheduled now old) new made) is there (Has-map (scheduled now old.timing) old.pairs q there)
+                (λ turn. in-turn turn (is_ahead_turn now (all_scheduled now old)) refl) (p.number == q.number) refl where
+                  in-turn : nominates_at_once (all_scheduled now old) ≡ false → (b : Bool) → is_ahead_turn now (all_scheduled now old) ≡ b → Chosen old q
                   in-turn calm true on = inl on
                   in-turn calm false off =
-                      let next = next-in-turn now (all_asked now old) (Some q) calm off chosen in
-                      let before : GoesBefore now old.timing q (asked now old.timing p) = next.0.1 (asked now old.timing p) in_asked in
+                      let next = next-in-turn now (all_scheduled now old) (Some q) calm off chosen in
+                      let before : GoesBefore now old.timing q (scheduled now old.timing p) = next.0.1 (scheduled now old.timing p) in_asked in
                       inr (first-due (due_time_of now old.timing q) (due_time_of now old.timing p) p q before due)
 
       -- ---- the `handle_timeout` call

@@ -1,27 +1,12 @@
 -- Segments of a log: their final states, the packets polled before them, and their polling cycles. Polls between `poll_timeout` and
 -- `handle_timeout` change only the events.
-use Rattle.std.proofs.Common.{◌≡◌, ℕ, ◌⊎◌, Bool, true, false, List, [], ◌∷◌, ◌++◌, length, map, not, if◌then◌else◌, Option, Some, None, Result, Ok, Err, inl, inr, refl, ap, sym, ◌∙◌, subst, arith, append_assoc}
-use Rattle.std.specs.Prelude.{MatchBool}
-use Rattle.rand_core.specs.Stream.{Stream}
-use Rattle.is_proto.specs.Lists.{Has}
-use Rattle.is_proto.specs.Packets.{Packet}
-use Rattle.is_proto.specs.declared.error.IceError.{IceError}
-use Rattle.is_candidate.specs.Candidates.{CandidateRecord}
-use Rattle.is_pair.specs.Due.{asked}
-use Rattle.is_pair.specs.Pairs.{PairRecord}
-use Rattle.is_stun.specs.declared.timing.StunTiming.{StunTiming}
-use Rattle.is_stun.specs.Timing.{is_modern}
-use Rattle.is_rules.specs.declared.event.IceAgentEvent.{IceAgentEvent}
-use Rattle.is_rules.specs.declared.emitted.Emitted.{Emitted}
-use Rattle.is_rules.specs.Agent.{AgentRecord}
-use Rattle.is_rules.specs.Polls.{IsPolled, PollsTimeout, NextTimeoutFrom, is_waiting, is_idle}
-use Rattle.is_rules.specs.Sound.{IsSound}
-use Rattle.is_rules.specs.Timeouts.{TimesOut}
-use Rattle.is_rules.specs.Steps.{Call, Entry, HandleTimeout, PollTransmit, PollTimeout, PollEvent, Done, Polled, NextTimeout, answer_by, done, Step}
-use Rattle.is_theorems.specs.Logs.{Logged}
-use Rattle.is_theorems.specs.Runs.{Run}
-use Rattle.is_theorems.specs.Progress.{IsOfUse}
-use Rattle.is_theorems.specs.Rounds.{is_poll, AreTaken, RunsOn, IsControllingIn, PartsAreRuns, TurnsAreOfUse}
+use Rattle.is_theorems.proofs.Common.{[], ◌++◌, ◌∙◌, ◌∷◌, ◌≡◌, ◌⊎◌, AgentRecord, answer_by, ap, append_assoc, AreTaken, arith, scheduled, Bool}
+use Rattle.is_theorems.proofs.Common.{Call, CandidateRecord, Done, done, Emitted, Entry, Err, false, HandleTimeout, Has, IceAgentEvent}
+use Rattle.is_theorems.proofs.Common.{IceError, if◌then◌else◌, inl, inr, is_idle, is_modern, is_poll, is_waiting, IsControllingIn, IsOfUse}
+use Rattle.is_theorems.proofs.Common.{IsPolled, IsSound, length, List, Logged, map, MatchBool, NextTimeout, NextTimeoutFrom, None, not, Ok}
+use Rattle.is_theorems.proofs.Common.{Option, Packet, PairRecord, PartsAreRuns, Polled, PollEvent, PollsTimeout, PollTimeout, PollTransmit}
+use Rattle.is_theorems.proofs.Common.{refl, Result, Run, RunsOn, Some, Step, Stream, StunTiming, subst, sym, TimesOut, true, TurnsAreOfUse}
+use Rattle.is_theorems.proofs.Common.{ℕ}
 use Rattle.is_theorems.proofs.CallEffects.AddedCandidates.{by_deadline}
 use Rattle.is_theorems.proofs.RuleEffects.UnchangedSettings.{either}
 use Rattle.is_theorems.proofs.CallEffects.PathAndTradeEffects.{path_theorem}
@@ -55,9 +40,9 @@ in-both : {A B C D : Type 0} (b : Bool) → MatchBool b A B → (A → C) → (B
 in-both true k f g = f k
 in-both false k f g = g k
 
-asked-twice : (at : ℕ) (t : StunTiming) (ps : List PairRecord) → map (asked at t) (map (asked at t) ps) ≡ map (asked at t) ps
-asked-twice at t [] = refl
-asked-twice at t (p ∷ ps) = ap (λ qs. asked at t p ∷ qs) (asked-twice at t ps)
+scheduled-twice : (at : ℕ) (t : StunTiming) (ps : List PairRecord) → map (scheduled at t) (map (scheduled at t) ps) ≡ map (scheduled at t) ps
+scheduled-twice at t [] = refl
+scheduled-twice at t (p ∷ ps) = ap (λ qs. scheduled at t p ∷ qs) (scheduled-twice at t ps)
 
 module _ {H P : Type 0} where
   timeouts-keep : (o deadline : Option ℕ) (old new : AgentRecord H P) → NextTimeoutFrom o old deadline new → new.packets ≡ old.packets
@@ -72,7 +57,7 @@ module _ {H P : Type 0} where
 
   -- the due times of all pairs are fixed
   abbrev all_fixed : ℕ → AgentRecord H P → AgentRecord H P
-  all_fixed at a = record a { pairs = map (asked at a.timing) a.pairs }
+  all_fixed at a = record a { pairs = map (scheduled at a.timing) a.pairs }
 
   -- it reads no events
   timeouts-other : (start old : AgentRecord H P) (es fs : List IceAgentEvent) (deadline : ℕ) → PollsTimeout (with_events es start) (Some deadline) old
@@ -117,7 +102,7 @@ module _ {H P : Type 0} where
         | inl (same, off) ↦ (let wrong : true ≡ false = sym fixing ∙ (ap (λ (a : AgentRecord H P). is_fixing a) same ∙ off) in absurd (cc))
         | inr (fixed, again_fixing) ↦
             made ∙ (ap (λ (a : AgentRecord H P). all_fixed at a) fixed
-            ∙ (ap (λ ps. record start { pairs = ps }) (asked-twice at start.timing start.pairs) ∙ sym fixed))
+            ∙ (ap (λ ps. record start { pairs = ps }) (scheduled-twice at start.timing start.pairs) ∙ sym fixed))
       ]
     ]
 

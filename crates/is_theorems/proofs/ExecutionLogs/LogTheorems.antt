@@ -1,27 +1,15 @@
 -- The theorems about one agent's log whose random words come from one stream, from those of `SharedLogTheorems` and the theorem about paths only.
-use Rattle.std.proofs.Common.{◌≡◌, ℕ, ◌+◌, ◌≤◌, Bool, true, false, List, [], ◌∷◌, ◌++◌, Some, refl, ap, sym, ◌∙◌, subst, arith, append_assoc}
-use Rattle.rand_core.specs.Stream.{Stream}
-use Rattle.is_candidate.specs.Candidates.{CandidateRecord}
 use Rattle.is_stun.specs.declared.header.Class.TheVariants as class
-use Rattle.is_stun.specs.Message.{Message}
-use Rattle.is_rules.specs.declared.emitted.Issued.{Issued}
-use Rattle.is_rules.specs.declared.emitted.Path.{Path}
-use Rattle.is_rules.specs.Request.{RequestRecord, request_in}
-use Rattle.is_rules.specs.Steps.{Entry}
-use Rattle.is_rules.specs.Agent.{AgentRecord}
-use Rattle.is_rules.specs.Nominating.{is_eligible}
-use Rattle.is_rules.specs.Steps.{Call, ReceivePacket}
-use Rattle.is_rules.specs.Brought.{Brings, IsServing, IsNominatedOn}
-use Rattle.is_rules.specs.Owed.{Transaction, count, owed, reply_of, request_of}
-use Rattle.is_rules.specs.Points.{IsNominationPoint}
-use Rattle.is_rules.specs.Effects.{PathEffect, PathTheorem}
-use Rattle.is_theorems.specs.Logs.{Logged, NeverLite, replies, requests}
-use Rattle.is_theorems.specs.Runs.{IsFresh, Run, Point, run_to, shared_run, EntriesArePoints, RunsAreSound, SelectedAreAnswered, SelectedAreNominatedByPeer, PointsAreTop, TakersAreValid, AskedAreNominated, RepliesAreAmong}
-use Rattle.is_theorems.specs.Shared.{IsNewlyCreated}
+use Rattle.is_theorems.proofs.Common.{[], ◌++◌, ◌+◌, ◌∙◌, ◌∷◌, ◌≡◌, ◌≤◌, AgentRecord, ap, append_assoc, arith, AskedAreNominated, Bool}
+use Rattle.is_theorems.proofs.Common.{Brings, Call, CandidateRecord, count, EntriesArePoints, Entry, false, is_eligible, IsFresh}
+use Rattle.is_theorems.proofs.Common.{IsNewlyCreated, IsNominatedOn, IsNominationPoint, IsServing, Issued, List, Logged, Message, NeverLite}
+use Rattle.is_theorems.proofs.Common.{nominates, owed, Path, PathEffect, PathTheorem, Point, PointsAreTop, ReceivePacket, refl, replies}
+use Rattle.is_theorems.proofs.Common.{RepliesAreAmong, reply_of, request_in, request_of, RequestRecord, requests, Run, run_to, RunsAreSound}
+use Rattle.is_theorems.proofs.Common.{SelectedAreAnswered, SelectedAreNominatedByPeer, shared_run, Some, Stream, subst, sym, TakersAreValid}
+use Rattle.is_theorems.proofs.Common.{Transaction, true, ℕ}
 use Rattle.is_theorems.proofs.ExecutionLogs.SharedLogTheorems as any
 use Rattle.is_theorems.proofs.ExecutionLogs.SharedLogTheorems.{Holds}
 use Rattle.is_theorems.proofs.BasicLemmas.MultisetInclusion.{among_by_counts}
-use Rattle.is_rules.specs.Serving.{nominates}
 
 count-append : (test : Transaction → Bool) (xs ys : List Transaction) → count test (xs ++ ys) ≡ count test xs + count test ys
 count-append test [] ys = omega arith
@@ -90,8 +78,8 @@ module _ {H P : Type 0} (mac : H → List ℕ → List ℕ → List ℕ) (answer
       any.selections_are_answered mac answers law first after x before (newly first is_fresh) (never_lite_before first s is_fresh log before mid after x point never_lite)
       (shared_run mac answers first s (x ∷ before) after point.following (run_to mac answers first s log before mid x after point)) path has
 
-  pub all_asked : SelectedAreNominatedByPeer {H = H} mac answers
-  all_asked first s log is_fresh never_lite before mid after x point controlled path has =
+  pub all_scheduled : SelectedAreNominatedByPeer {H = H} mac answers
+  all_scheduled first s log is_fresh never_lite before mid after x point controlled path has =
       any.selections_are_nominated_by_peer mac answers law first after x before (newly first is_fresh) (never_lite_before first s is_fresh log before mid after x point never_lite)
       (shared_run mac answers first s (x ∷ before) after point.following (run_to mac answers first s log before mid x after point)) controlled path has
 

@@ -1,23 +1,11 @@
 -- With `Modern` an ICE restart leaves no early request and no pair, so what waits since then, and what is selected, was nominated since then. What
 -- mutants/specifications changes is read by tactics.
-use Rattle.std.proofs.Common.{◌≡◌, ℕ, ◌⊎◌, ◌&&◌, Bool, true, false, List, [], ◌∷◌, Some, Ok, Err, inl, inr, ap, sym, ◌∙◌, subst}
-use Rattle.rand_core.specs.Stream.{Stream}
-use Rattle.is_proto.specs.Lists.{Has}
-use Rattle.is_candidate.specs.Candidates.{CandidateRecord}
-use Rattle.is_pair.specs.Pairs.{is_nominated}
-use Rattle.is_stun.specs.Timing.{is_modern}
-use Rattle.is_rules.specs.declared.emitted.Path.{Path}
-use Rattle.is_rules.specs.Agent.{AgentRecord}
-use Rattle.is_rules.specs.Brought.{IsBrought, IsNominatedOn, IsNominatedByPeer}
-use Rattle.is_rules.specs.Effects.{clears, PathEffect, PathTheorem}
-use Rattle.is_rules.specs.Emitted.{reversed}
-use Rattle.is_rules.specs.Request.{RequestRecord, request_in}
-use Rattle.is_rules.specs.Restarting.{early_kept}
-use Rattle.is_rules.specs.Serving.{as_taken}
-use Rattle.is_rules.specs.Steps.{Call, RestartIce, Answer, Entry, is_done, Step}
-use Rattle.is_theorems.specs.Logs.{Logged, NeverLite, has_numbers, AsksAt}
-use Rattle.is_theorems.specs.Polled.{restarts, IsModernAtRestart, AskedSince, NominatedSince, SelectionsAreNominatedSince}
-use Rattle.is_theorems.specs.Shared.{IsNewlyCreated, IsControlledSince, SharedRun}
+use Rattle.is_theorems.proofs.Common.{[], ◌&&◌, ◌∙◌, ◌∷◌, ◌≡◌, ◌⊎◌, AgentRecord, Answer, ap, as_taken, AskedSince, AsksAt, Bool, Call}
+use Rattle.is_theorems.proofs.Common.{CandidateRecord, clears, early_kept, Entry, Err, false, Has, has_numbers, inl, inr, is_done}
+use Rattle.is_theorems.proofs.Common.{is_modern, is_nominated, IsBrought, IsControlledSince, IsModernAtRestart, IsNewlyCreated}
+use Rattle.is_theorems.proofs.Common.{IsNominatedByPeer, IsNominatedOn, List, Logged, NeverLite, NominatedSince, Ok, Path, PathEffect}
+use Rattle.is_theorems.proofs.Common.{PathTheorem, request_in, RequestRecord, RestartIce, restarts, reversed, SelectionsAreNominatedSince}
+use Rattle.is_theorems.proofs.Common.{SharedRun, Some, Step, Stream, subst, sym, true, ℕ}
 use Rattle.is_theorems.proofs.ExecutionLogs.SharedLogTheorems.{true_false, no_paths, holds, now_controlled}
 
 -- a restart is a clear

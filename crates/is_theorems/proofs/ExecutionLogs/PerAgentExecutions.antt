@@ -1,31 +1,20 @@
 -- A per-agent execution is an execution under its own random source. So what holds for executions holds for per-agent
 -- executions.
-use Rattle.std.proofs.Common.{◌≡◌, ℕ, ◌+◌, ◌==◌, Bool, true, false, List, [], ◌∷◌, ◌++◌, length, Option, Some, None, is_some, Result, Ok, Err, inl, inr, ◌⊎◌, refl, ap, sym, ◌∙◌, subst, arith, append_assoc}
-use Rattle.std.specs.Prelude.{MatchBool, MatchOption}
 use Rattle.rand_core.specs.Stream as stream
-use Rattle.rand_core.specs.Stream.{Stream, fill_bytes}
-use Rattle.is_proto.specs.Lists.{Has}
-use Rattle.is_proto.specs.declared.error.IceError.{IceError}
-use Rattle.is_candidate.specs.Candidates.{CandidateRecord}
-use Rattle.is_pair.specs.Pairs.{PairRecord}
-use Rattle.is_rules.specs.declared.credentials.IceCreds.{IceCreds}
 use Rattle.is_rules.specs.declared.emitted.Issued as code
-use Rattle.is_rules.specs.declared.emitted.Path.{Path}
-use Rattle.is_rules.specs.declared.emitted.Emitted.{Emitted}
-use Rattle.is_rules.specs.Agent.{AgentRecord}
-use Rattle.is_rules.specs.Checking.{all_asked, all_heard, ChecksTop, ChecksNext, MayCheck}
-use Rattle.is_theorems.specs.Executions.{ExecutionRound, AcceptsSuccess, IsAnsweredRound, SelectsAmong, ControlsAlong, ExecutionRounds, ExecutionsSelect}
-use Rattle.is_rules.specs.Effects.{last_of}
-use Rattle.is_theorems.specs.Exchange.{Execution}
-use Rattle.is_theorems.specs.Logs.{Logged}
-use Rattle.is_rules.specs.Queue.{request_at}
-use Rattle.is_rules.specs.Request.{RequestRecord}
-use Rattle.is_theorems.specs.Rounds.{LoggedRound, entries_of, began_at, BringsSuccess, IsRound, RunsOn, IsControllingIn}
-use Rattle.is_theorems.specs.Runs.{Run}
-use Rattle.is_rules.specs.Sending.{path_of}
-use Rattle.is_rules.specs.Steps.{Call, SetMtu, SetControlTieBreaker, SetMaxCandidatePairs, SetMaxDiscovered, SetIceLite, SetRenomination, SetConsent, SetProfile, SetTimingAdvance, SetInitialStunRto, SetMaxStunRto, SetMaxStunRetransmits, SetLiteTimeout, SetLocalPreference, SetControlling, SetLocalCredentials, SetRemoteCredentials, SkipPairIds, AddLocalCandidate, AddRemoteCandidate, InvalidateCandidate, RestartIce, RecreateCandidatePairs, ReceivePacket, HandleTimeout, PollTransmit, PollTimeout, PollEvent, NotCalled, Entry, quiet, Becomes, Step}
-use Rattle.is_rules.specs.Settings.{with_retransmits}
-use Rattle.is_rules.specs.Timeouts.{at_request, timeout_begun, MaintainsPairs, ServesQueued, TimesOut}
+use Rattle.is_theorems.proofs.Common.{[], ◌++◌, ◌+◌, ◌==◌, ◌∙◌, ◌∷◌, ◌≡◌, ◌⊎◌, AcceptsSuccess, AddLocalCandidate, AddRemoteCandidate}
+use Rattle.is_theorems.proofs.Common.{AgentRecord, all_scheduled, all_heard, ap, append_assoc, arith, at_request, Becomes, began_at, Bool}
+use Rattle.is_theorems.proofs.Common.{BringsSuccess, Call, CandidateRecord, ChecksNext, ChecksTop, ControlsAlong, Emitted, entries_of}
+use Rattle.is_theorems.proofs.Common.{Entry, Err, Execution, ExecutionRound, ExecutionRounds, ExecutionsSelect, false, fill_bytes}
+use Rattle.is_theorems.proofs.Common.{HandleTimeout, Has, IceCreds, IceError, inl, inr, InvalidateCandidate, is_some, IsAnsweredRound}
+use Rattle.is_theorems.proofs.Common.{IsControllingIn, IsRound, last_of, length, List, Logged, LoggedRound, MaintainsPairs, MatchBool}
+use Rattle.is_theorems.proofs.Common.{MatchOption, MayCheck, None, NotCalled, Ok, Option, PairRecord, Path, path_of, PollEvent, PollTimeout}
+use Rattle.is_theorems.proofs.Common.{PollTransmit, quiet, ReceivePacket, RecreateCandidatePairs, refl, request_at, RequestRecord}
+use Rattle.is_theorems.proofs.Common.{RestartIce, Result, Run, RunsOn, SelectsAmong, ServesQueued, SetConsent, SetControlling}
+use Rattle.is_theorems.proofs.Common.{SetControlTieBreaker, SetIceLite, SetInitialStunRto, SetLiteTimeout, SetLocalCredentials}
+use Rattle.is_theorems.proofs.Common.{SetLocalPreference, SetMaxCandidatePairs, SetMaxDiscovered, SetMaxStunRetransmits, SetMaxStunRto}
+use Rattle.is_theorems.proofs.Common.{SetMtu, SetProfile, SetRemoteCredentials, SetRenomination, SetTimingAdvance, SkipPairIds, Some, Step}
+use Rattle.is_theorems.proofs.Common.{Stream, subst, sym, timeout_begun, TimesOut, true, with_retransmits, ℕ}
 use Rattle.is_theorems.proofs.PollingRounds.AnsweredRoundsInLogs.{answered-rounds-announce}
 use Rattle.is_theorems.proofs.RuleEffects.EarlierAndNewPairs.{Has-push}
 
@@ -170,10 +159,10 @@ module _ {H P : Type 0} (mac : H → List ℕ → List ℕ → List ℕ) (answer
       → MayCheck mac now remote old s issued new t → (v : Stream) × MayCheck mac now remote old v issued new u
   recomputed_check now None old new s t u issued (none, made, drawn) = (u, (none, made, refl))
   recomputed_check now (Some remote) old new s t u issued h = by old.lite h where
-    by : (b : Bool) → MatchBool b ((issued ≡ None) × (new ≡ all_heard now old) × (t ≡ s)) (ChecksNext mac now remote (all_asked now old) s issued new t)
-        → (v : Stream) × MatchBool b ((issued ≡ None) × (new ≡ all_heard now old) × (u ≡ v)) (ChecksNext mac now remote (all_asked now old) v issued new u)
+    by : (b : Bool) → MatchBool b ((issued ≡ None) × (new ≡ all_heard now old) × (t ≡ s)) (ChecksNext mac now remote (all_scheduled now old) s issued new t)
+        → (v : Stream) × MatchBool b ((issued ≡ None) × (new ≡ all_heard now old) × (u ≡ v)) (ChecksNext mac now remote (all_scheduled now old) v issued new u)
     by true (none, made, drawn) = (u, (none, made, refl))
-    by false (next, due, checks) = let k = recomputed_top now remote (all_asked now old) new s t u issued next checks in (k.0, (next, due, k.1))
+    by false (next, due, checks) = let k = recomputed_top now remote (all_scheduled now old) new s t u issued next checks in (k.0, (next, due, k.1))
 
   recomputed_timeout : (now : ℕ) (old new : AgentRecord H P) (s t u : Stream) (r : Result (Unit {0}) IceError) (emitted : Emitted) → TimesOut mac now old s r emitted new t
       → (v : Stream) × TimesOut mac now old v r emitted new u

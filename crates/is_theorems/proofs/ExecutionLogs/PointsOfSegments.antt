@@ -1,10 +1,6 @@
 -- A point of a part of a log is a point of the log.
-use Rattle.std.proofs.Common.{◌≡◌, ℕ, List, ◌∷◌, ◌++◌, sym, ap, ◌∙◌, append_assoc}
-use Rattle.rand_core.specs.Stream.{Stream}
-use Rattle.is_candidate.specs.Candidates.{CandidateRecord}
-use Rattle.is_rules.specs.Agent.{AgentRecord}
-use Rattle.is_theorems.specs.Logs.{Logged}
-use Rattle.is_theorems.specs.Runs.{Point}
+use Rattle.is_theorems.proofs.Common.{◌++◌, ◌∙◌, ◌∷◌, ◌≡◌, AgentRecord, ap, append_assoc, CandidateRecord, List, Logged, Point, Stream, sym}
+use Rattle.is_theorems.proofs.Common.{ℕ}
 
 module _ {H P : Type 0} (mac : H → List ℕ → List ℕ → List ℕ) (answers : P → CandidateRecord → ℕ → ℕ → Type 0) where
   -- a point of the log before the last entry

@@ -1,24 +1,13 @@
 -- Each `NominatedSend` that waits reports a path that was selected since all such events were last removed, and what holds of selected paths holds
 -- of it. What mutants/specifications changes is read by tactics.
-use Rattle.std.proofs.Common.{◌≡◌, ℕ, Bool, true, false, not, List, [], ◌∷◌, Some, inl, inr, refl, ap, sym, ◌∙◌, subst, if◌then◌else◌}
-use Rattle.is_proto.specs.Lists.{Has}
-use Rattle.is_candidate.specs.Candidates.{CandidateRecord}
-use Rattle.is_stun.specs.Timing.{is_modern, is_modern_profile}
-use Rattle.is_stun.specs.declared.timing.Profile.{Profile}
-use Rattle.is_stun.specs.declared.timing.Profile.TheVariants.{Original, Modern}
-use Rattle.is_rules.specs.declared.credentials.IceCreds.{IceCreds}
-use Rattle.is_rules.specs.declared.emitted.Path.{Path}
-use Rattle.is_rules.specs.declared.event.IceAgentEvent.{IceAgentEvent}
-use Rattle.is_rules.specs.declared.event.IceAgentEvent.TheVariants.{IceRestart, IceConnectionStateChange}
-use Rattle.is_rules.specs.declared.event.IceConnectionState.TheVariants.{Checking}
-use Rattle.is_rules.specs.Agent.{AgentRecord}
-use Rattle.is_rules.specs.Effects.{clears, PathTheorem}
-use Rattle.is_rules.specs.Restarting.{events_kept, is_selection}
-use Rattle.is_rules.specs.Steps.{Call, RestartIce, RecreateCandidatePairs, Answer, Done, Entry, is_done}
-use Rattle.is_theorems.specs.Logs.{Logged, numbering_set_by, numbering_of, NeverLite, IsAnsweredBy, NominatedByPeer}
-use Rattle.is_theorems.specs.Polled.{restarts, SelectedSince, IsControlledSinceRestart, IsModernAtRestart, NominatedSince, WaitingAreSelected, WaitingAreAnswered, WaitingAreNominatedByPeer, WaitingAreNominatedSince}
-use Rattle.is_theorems.specs.Reporting.{Reports, Begins, FormsAgain, selecting}
-use Rattle.is_theorems.specs.Shared.{IsNewlyCreated, IsControlledSince, SharedRun}
+use Rattle.is_theorems.proofs.Common.{[], ◌∙◌, ◌∷◌, ◌≡◌, AgentRecord, Answer, ap, Begins, Bool, Call, CandidateRecord, Checking, clears}
+use Rattle.is_theorems.proofs.Common.{Done, Entry, events_kept, false, FormsAgain, Has, IceAgentEvent, IceConnectionStateChange, IceCreds}
+use Rattle.is_theorems.proofs.Common.{IceRestart, if◌then◌else◌, inl, inr, is_done, is_modern, is_modern_profile, is_selection}
+use Rattle.is_theorems.proofs.Common.{IsAnsweredBy, IsControlledSince, IsControlledSinceRestart, IsModernAtRestart, IsNewlyCreated, List}
+use Rattle.is_theorems.proofs.Common.{Logged, Modern, NeverLite, NominatedByPeer, NominatedSince, not, numbering_of, numbering_set_by}
+use Rattle.is_theorems.proofs.Common.{Original, Path, PathTheorem, Profile, RecreateCandidatePairs, refl, Reports, RestartIce, restarts}
+use Rattle.is_theorems.proofs.Common.{SelectedSince, selecting, SharedRun, Some, subst, sym, true, WaitingAreAnswered}
+use Rattle.is_theorems.proofs.Common.{WaitingAreNominatedByPeer, WaitingAreNominatedSince, WaitingAreSelected, ℕ}
 use Rattle.is_theorems.proofs.CallEffects.KeptSettings.{settings-are-set}
 use Rattle.is_theorems.proofs.CallEffects.QueuedSelections.{events-are-selected, no-such, has-last}
 use Rattle.is_theorems.proofs.ExecutionLogs.NominatedSinceRestart.{clear-of, selections_are_nominated_since}

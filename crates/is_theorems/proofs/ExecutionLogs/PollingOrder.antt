@@ -1,61 +1,35 @@
 -- Events are appended, in the order in which they happen. What mutants/specifications changes is read by tactics.
-use Rattle.std.proofs.Common.{is_some, ◌≡◌, ℕ, ◌==◌, Bool, true, false, List, [], ◌∷◌, ◌++◌, length, Option, Some, None, Result, Ok, Err, inl, inr, refl, ap, sym, ◌∙◌, subst, append_assoc, if◌then◌else◌}
-use Rattle.std.specs.Prelude.{MatchBool, MatchOption, ◌&&◌}
-use Rattle.std.specs.List.{list_any}
-use Rattle.std.proofs.lemmas.List.{append-nil}
-use Rattle.rand_core.specs.Stream.{Stream}
-use Rattle.is_proto.specs.Lists.{same}
-use Rattle.is_proto.specs.declared.error.IceError.{IceError}
-use Rattle.is_candidate.specs.Candidates.{CandidateRecord, candidate_at}
-use Rattle.is_pair.specs.Pairs.{PairRecord}
-use Rattle.is_stun.specs.Message.{Message}
-use Rattle.is_stun.specs.Timing.{is_modern_profile}
-use Rattle.is_stun.specs.declared.timing.Profile.{Profile}
-use Rattle.is_stun.specs.declared.timing.Profile.TheVariants.{Original, Modern}
-use Rattle.is_stun.specs.declared.header.Class.{Class}
 use Rattle.is_stun.specs.declared.header.Class.TheVariants as class
-use Rattle.is_rules.specs.declared.credentials.IceCreds.{IceCreds}
-use Rattle.is_rules.specs.declared.event.IceAgentEvent.{IceAgentEvent}
-use Rattle.is_rules.specs.declared.event.IceAgentEvent.TheVariants.{IceRestart, IceConnectionStateChange}
-use Rattle.is_rules.specs.declared.event.IceConnectionState.{IceConnectionState}
-use Rattle.is_rules.specs.declared.event.IceConnectionState.TheVariants.{New, Checking}
-use Rattle.is_rules.specs.declared.emitted.Path.{Path}
-use Rattle.is_rules.specs.declared.emitted.Emitted.{Emitted}
-use Rattle.is_rules.specs.declared.emitted.Issued.{Issued}
-use Rattle.is_rules.specs.declared.roles.Conflict.{Conflict}
-use Rattle.is_rules.specs.declared.roles.Conflict.TheVariants.{Absent, Send487, SwitchRole}
-use Rattle.is_rules.specs.declared.places.RemotePlace.{RemotePlace}
-use Rattle.is_rules.specs.declared.places.RemotePlace.TheVariants.{Known, Barred, Unknown, Vacant, Full}
-use Rattle.is_rules.specs.Emitted.{nothing_emitted}
-use Rattle.is_rules.specs.Request.{RequestRecord, request_in}
-use Rattle.is_rules.specs.Places.{local_place}
-use Rattle.is_rules.specs.Agent.{AgentRecord}
-use Rattle.is_pair.specs.Multiset.{is_valid_at}
-use Rattle.is_rules.specs.Forming.{Combination, FormsAll, formed, with_pair}
-use Rattle.is_rules.specs.Roles.{conflict_of, switched}
-use Rattle.is_rules.specs.Settings.{with_retransmits, with_rtos, numbers_skipped}
-use Rattle.is_rules.specs.Discarding.{InvalidatesAt, local_to_discard, remote_to_discard, local_discarded}
-use Rattle.is_rules.specs.Local.{AddsLocal, appended, enabled_again}
-use Rattle.is_rules.specs.Remote.{AddsRemote, as_remote, with_remote}
-use Rattle.is_rules.specs.Restarting.{events_kept, restarted}
-use Rattle.is_rules.specs.States.{same_state, with_state, evaluated}
-use Rattle.is_rules.specs.Nominating.{with_selection, nominated_emitted, Nominates, NominatesWhere}
-use Rattle.is_rules.specs.Serving.{trigger_time, selects_at_requests, pair_served, request_counted, with_sender, with_sender_at, is_misled, is_for_other_peer, RecordsAndResponds, FindsOrAddsPair, AddsUnknownSender, CountsAndServes, ResolvesRoleConflictBy, ResolvesRoleConflict, Drops, Serves}
-use Rattle.is_rules.specs.Queue.{first_taken, request_at, queued}
-use Rattle.is_rules.specs.Answers.{HandlesSuccess, HandlesFailure}
-use Rattle.is_rules.specs.Accepting.{Takes, discovered_emitted, is_passed_over, HandlesPacket}
-use Rattle.is_rules.specs.Checking.{all_asked, MayCheck, ChecksTop}
-use Rattle.is_rules.specs.Settling.{settled, loses_selected, Reselects}
-use Rattle.is_rules.specs.Timeouts.{at_request, timeout_begun, start_emitted, at_timeout, is_expired, expired_gone, RemovesExpired, MaintainsPairs, ServesQueued, TimesOut}
-use Rattle.is_rules.specs.Steps.{Call, SetMtu, SetControlTieBreaker, SetMaxCandidatePairs, SetMaxDiscovered, SetIceLite, SetRenomination, SetConsent, SetProfile, SetTimingAdvance, SetInitialStunRto, SetMaxStunRto, SetMaxStunRetransmits, SetLiteTimeout, SetLocalPreference, SetControlling, SetLocalCredentials, SetRemoteCredentials, SkipPairIds, AddLocalCandidate, AddRemoteCandidate, InvalidateCandidate, RestartIce, RecreateCandidatePairs, ReceivePacket, HandleTimeout, PollTransmit, PollTimeout, PollEvent, Done, Rejected, NotCalled, Entry, quiet, Becomes, Receives, Step}
-use Rattle.is_theorems.specs.Reporting.{Extends, Begins, FormsAgain, Reports, QueuesTheorem}
+use Rattle.is_theorems.proofs.Common.{[], ◌&&◌, ◌++◌, ◌==◌, ◌∙◌, ◌∷◌, ◌≡◌, Absent, AddLocalCandidate, AddRemoteCandidate, AddsLocal}
+use Rattle.is_theorems.proofs.Common.{AddsRemote, AddsUnknownSender, AgentRecord, all_scheduled, ap, append-nil, append_assoc, appended}
+use Rattle.is_theorems.proofs.Common.{as_remote, at_request, at_timeout, Barred, Becomes, Begins, Bool, Call, candidate_at, CandidateRecord}
+use Rattle.is_theorems.proofs.Common.{Checking, ChecksTop, Class, Combination, Conflict, conflict_of, CountsAndServes, discovered_emitted}
+use Rattle.is_theorems.proofs.Common.{Done, Drops, Emitted, enabled_again, Entry, Err, evaluated, events_kept, expired_gone, Extends, false}
+use Rattle.is_theorems.proofs.Common.{FindsOrAddsPair, first_taken, formed, FormsAgain, FormsAll, Full, HandlesFailure, HandlesPacket}
+use Rattle.is_theorems.proofs.Common.{HandlesSuccess, HandleTimeout, IceAgentEvent, IceConnectionState, IceConnectionStateChange, IceCreds}
+use Rattle.is_theorems.proofs.Common.{IceError, IceRestart, if◌then◌else◌, in_turn, inl, inr, InvalidateCandidate, InvalidatesAt}
+use Rattle.is_theorems.proofs.Common.{is_expired, is_for_other_peer, is_misled, is_modern_profile, is_passed_over, is_some, is_valid_at}
+use Rattle.is_theorems.proofs.Common.{Issued, Known, length, List, list_any, local_discarded, local_place, local_to_discard, loses_selected}
+use Rattle.is_theorems.proofs.Common.{MaintainsPairs, MatchBool, MatchOption, MayCheck, Message, Modern, New, nominated_emitted, Nominates}
+use Rattle.is_theorems.proofs.Common.{NominatesWhere, None, NotCalled, nothing_emitted, numbers_skipped, Ok, Option, Original, pair_served}
+use Rattle.is_theorems.proofs.Common.{PairRecord, Path, path_left, PollEvent, PollTimeout, PollTransmit, Profile, queued, QueuesTheorem}
+use Rattle.is_theorems.proofs.Common.{quiet, ReceivePacket, Receives, RecordsAndResponds, RecreateCandidatePairs, refl, Rejected}
+use Rattle.is_theorems.proofs.Common.{remote_to_discard, RemotePlace, RemovesExpired, Reports, request_at, request_counted, request_in}
+use Rattle.is_theorems.proofs.Common.{RequestRecord, Reselects, ResolvesRoleConflict, ResolvesRoleConflictBy, restarted, RestartIce, Result}
+use Rattle.is_theorems.proofs.Common.{same, same_state, selects_at_requests, Send487, Serves, ServesQueued, SetConsent, SetControlling}
+use Rattle.is_theorems.proofs.Common.{SetControlTieBreaker, SetIceLite, SetInitialStunRto, SetLiteTimeout, SetLocalCredentials}
+use Rattle.is_theorems.proofs.Common.{SetLocalPreference, SetMaxCandidatePairs, SetMaxDiscovered, SetMaxStunRetransmits, SetMaxStunRto}
+use Rattle.is_theorems.proofs.Common.{SetMtu, SetProfile, SetRemoteCredentials, SetRenomination, SetTimingAdvance, state_updated, SkipPairIds}
+use Rattle.is_theorems.proofs.Common.{Some, start_emitted, Step, Stream, subst, switched, SwitchRole, sym, Takes, timeout_begun, TimesOut}
+use Rattle.is_theorems.proofs.Common.{trigger_time, true, Unknown, Vacant, with_pair, with_remote, with_retransmits, with_rtos}
+use Rattle.is_theorems.proofs.Common.{with_selection, with_sender, with_sender_at, with_state, ℕ}
 use Rattle.is_theorems.proofs.RuleEffects.Reselection.{by-reselecting}
 use Rattle.is_theorems.proofs.RuleEffects.UnchangedSettings.{either}
-use Rattle.is_theorems.proofs.CallEffects.FailedCallsAndNewAgents.{mtu_kept, local_kept, remote_kept, restart_kept, recreation_kept, enrolment_kept, storing_kept}
+use Rattle.is_theorems.proofs.CallEffects.FailedCallsAndNewAgents.{mtu_kept, local_kept, remote_kept, restart_kept, recreation_kept}
+use Rattle.is_theorems.proofs.CallEffects.FailedCallsAndNewAgents.{enrolment_kept, storing_kept}
 use Rattle.is_theorems.proofs.CallEffects.SettingsRoleAndQueues.{FrameEffect, framed}
 use Rattle.is_theorems.proofs.CallEffects.AddedCandidates.{by_adding_local, by_adding_remote, by_waking}
 use Rattle.is_theorems.proofs.RuleEffects.NotedErrors.{recoded, by_failure}
-use Rattle.is_rules.specs.Leaving.{path_left}
 
 -- ---- lists
 
@@ -137,7 +111,7 @@ module _ {H P : Type 0} where
     pair_grows : (l r number : ℕ) (s new : AgentRecord H P) (emitted : Emitted) → RecordsAndResponds mac q l r number s emitted new → Grows s new
     pair_grows l r number s new emitted (path, mid, nominates, (put, is, made)) =
         let k : Grows s mid = where_grows (selects_at_requests s && is_valid_at number s.pairs) (pair_served q number s) mid path nominates in
-        let at : AgentRecord H P = settled (is_some path) (trigger_time q s) mid in
+        let at : AgentRecord H P = state_updated (is_some path) (trigger_time q s) mid in
         both s mid new k (both mid at new (state_grows _ mid) (same_events at new (ap (λ (a : AgentRecord H P). a.events) made)))
 
     takes_grows : (l r : ℕ) (number : Option ℕ) (s new : AgentRecord H P) (emitted : Emitted) → FindsOrAddsPair mac q l r number s emitted new → Grows s new
@@ -166,7 +140,7 @@ module _ {H P : Type 0} where
     here_grows (Some l) s new emitted h = resolves_grows (conflict_of s q) l s new emitted h
 
     serves_grows : (s new : AgentRecord H P) (emitted : Emitted) → Serves mac q s emitted new → Grows s new
-    serves_grows s new emitted h = either (is_for_other_peer s q) h (λ _ k. drops_grows s new emitted k) (λ _ k. here_grows (local_place s.local q) s new emitted k)
+    serves_grows s new emitted h = either (is_for_other_peer s q) (in_turn mac q s new emitted h) (λ _ k. drops_grows s new emitted k) (λ _ k. here_grows (local_place s.local q) s new emitted k)
 
     requested_grows : (peer : Option IceCreds) (s new : AgentRecord H P) (emitted : Emitted)
         → MatchOption peer ((emitted ≡ nothing_emitted) × (new ≡ queued q s)) (λ _. Serves mac q s emitted new) → Grows s new
@@ -208,7 +182,7 @@ module _ {H P : Type 0} where
       (λ _ k. (
       let a : Grows old k.0 = nominates_grows (expired_gone now old) k.0 path k.1 in
       both old k.0 new a (grown k.0 (evaluated now k.0) new k.2 (state_grows _ k.0))))
-      (λ _ k. grown old (settled true now old) new k.1 (state_grows _ old))
+      (λ _ k. grown old (state_updated true now old) new k.1 (state_grows _ old))
 
   check_grows : (mac : H → List ℕ → List ℕ → List ℕ) (now : ℕ) (remote : Option IceCreds) (old new : AgentRecord H P) (s t : Stream) (issued : Option Issued)
       → MayCheck mac now remote old s issued new t → Grows old new
@@ -216,7 +190,7 @@ module _ {H P : Type 0} where
   check_grows mac now (Some remote) old new s t issued h = either old.lite h
       (λ _ k. same_events old new (ap (λ (a : AgentRecord H P). a.events) k.1))
       (λ _ k. next k.0 k.2) where
-        next : (top : Option PairRecord) → ChecksTop mac now remote top (all_asked now old) s issued new t → Grows old new
+        next : (top : Option PairRecord) → ChecksTop mac now remote top (all_scheduled now old) s issued new t → Grows old new
         next None (is, made, drawn) = same_events old new (ap (λ (a : AgentRecord H P). a.events) made)
         next (Some p) (id, drawn, put, is, made) = same_events old new (ap (λ (a : AgentRecord H P). a.events) made)
 

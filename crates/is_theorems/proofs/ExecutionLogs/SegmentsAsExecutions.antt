@@ -1,20 +1,8 @@
 -- A segment of a log, newest entry first, is an execution, oldest call first: its rounds, and what ends a pair in them.
-use Rattle.std.proofs.Common.{◌≡◌, ℕ, ◌+◌, Bool, true, List, [], ◌∷◌, ◌++◌, length, inl, inr, ◌⊎◌, refl, ap, sym, ◌∙◌, subst, arith, append_assoc}
-use Rattle.rand_core.specs.Stream.{Stream}
-use Rattle.is_proto.specs.Lists.{Has}
-use Rattle.is_candidate.specs.Candidates.{CandidateRecord}
-use Rattle.is_rules.specs.declared.emitted.Path.{Path}
-use Rattle.is_rules.specs.Agent.{AgentRecord}
-use Rattle.is_rules.specs.Steps.{Call, Entry, SetRenomination, HandleTimeout, Step}
-use Rattle.is_theorems.specs.AskedExecutions.{Ends, EndsAlong}
-use Rattle.is_theorems.specs.Executions.{ExecutionRound}
-use Rattle.is_theorems.specs.Exchange.{Execution}
-use Rattle.is_theorems.specs.FirstTimeouts.{EndsAmong}
-use Rattle.is_theorems.specs.Logs.{Logged}
-use Rattle.is_theorems.specs.Reached.{is_in_round, IsEndedIn}
-use Rattle.is_theorems.specs.ReachedExecutions.{PassRounds}
-use Rattle.is_theorems.specs.Rounds.{LoggedRound, entries_of, RunsOn}
-use Rattle.is_theorems.specs.Runs.{Run}
+use Rattle.is_theorems.proofs.Common.{[], ◌++◌, ◌+◌, ◌∙◌, ◌∷◌, ◌≡◌, ◌⊎◌, AgentRecord, ap, append_assoc, arith, Bool, Call, CandidateRecord}
+use Rattle.is_theorems.proofs.Common.{Ends, EndsAlong, EndsAmong, entries_of, Entry, Execution, ExecutionRound, HandleTimeout, Has, inl}
+use Rattle.is_theorems.proofs.Common.{inr, is_in_round, IsEndedIn, length, List, Logged, LoggedRound, PassRounds, Path, refl, Run, RunsOn}
+use Rattle.is_theorems.proofs.Common.{SetRenomination, Step, Stream, subst, sym, true, ℕ}
 
 module _ {P : Type 0} where
   -- ---- the calls of a segment, with others after them

@@ -1,27 +1,14 @@
 -- The theorems about one agent's log, whose random words may come from any streams, from the theorem about paths only. The preconditions that
 -- mutants/specifications changes are read by tactics.
-use Rattle.std.proofs.Common.{◌≡◌, ℕ, Bool, true, false, List, [], ◌∷◌, Some, None, inl, inr, ◌⊎◌, refl, ap, sym, ◌∙◌, subst, ◌&&◌, if◌then◌else◌}
-use Rattle.is_proto.specs.Lists.{Has}
-use Rattle.is_candidate.specs.Candidates.{CandidateRecord}
-use Rattle.is_pair.specs.Pairs.{PairRecord, is_valid, is_nominated}
-use Rattle.is_pair.specs.Checks.{Check}
-use Rattle.is_stun.specs.Integrity.{IsSignedBy}
-use Rattle.is_stun.specs.Timing.{is_modern, is_modern_profile}
-use Rattle.is_rules.specs.declared.emitted.Path.{Path}
-use Rattle.is_rules.specs.Request.{RequestRecord, request_in}
-use Rattle.is_rules.specs.Emitted.{reversed}
-use Rattle.is_rules.specs.Agent.{AgentRecord}
-use Rattle.is_rules.specs.Nominating.{is_eligible, numbers}
-use Rattle.is_rules.specs.Serving.{as_taken}
-use Rattle.is_rules.specs.Steps.{Call, SetMtu, SetMaxStunRetransmits, Answer, is_done}
-use Rattle.is_rules.specs.Sound.{IsSound}
-use Rattle.is_rules.specs.Brought.{IsBrought, IsKept, IsValidOn, IsNominatedOn, IsAnswered, IsNominatedByPeer}
-use Rattle.is_rules.specs.Points.{HasSelected, IsNominationPoint}
-use Rattle.is_rules.specs.Effects.{remote_after, lite_set_by, PathEffect, PathTheorem}
-use Rattle.is_theorems.specs.Logs.{Logged, clears_at, remote_of, NeverLite, IsSent, last_selected, AnswersAt, Answered, IsAnsweredBy, AsksAt, AskedBy, NominatedByPeer}
-use Rattle.is_theorems.specs.Logs.{numbering_set_by, numbering_of, has_numbers}
-use Rattle.is_theorems.specs.Settings.{SettingsRecord, all_settings_of, settings_after}
-use Rattle.is_theorems.specs.Shared.{IsNewlyCreated, SharedRun, IsControlledSince, SelectionsAreAnswered, SelectionsAreNominatedByPeer, SelectionsAreTop}
+use Rattle.is_theorems.proofs.Common.{[], ◌&&◌, ◌∙◌, ◌∷◌, ◌≡◌, ◌⊎◌, AgentRecord, all_settings_of, Answer, Answered, AnswersAt, ap, as_taken}
+use Rattle.is_theorems.proofs.Common.{AskedBy, AsksAt, Bool, Call, CandidateRecord, Check, clears_at, false, Has, has_numbers, HasSelected}
+use Rattle.is_theorems.proofs.Common.{if◌then◌else◌, inl, inr, is_done, is_eligible, is_modern, is_modern_profile, is_nominated, is_valid}
+use Rattle.is_theorems.proofs.Common.{IsAnswered, IsAnsweredBy, IsBrought, IsControlledSince, IsKept, IsNewlyCreated, IsNominatedByPeer}
+use Rattle.is_theorems.proofs.Common.{IsNominatedOn, IsNominationPoint, IsSent, IsSignedBy, IsSound, IsValidOn, last_selected, List}
+use Rattle.is_theorems.proofs.Common.{lite_set_by, Logged, NeverLite, NominatedByPeer, None, numbering_of, numbering_set_by, numbers}
+use Rattle.is_theorems.proofs.Common.{PairRecord, Path, PathEffect, PathTheorem, refl, remote_after, remote_of, request_in, RequestRecord}
+use Rattle.is_theorems.proofs.Common.{reversed, SelectionsAreAnswered, SelectionsAreNominatedByPeer, SelectionsAreTop}
+use Rattle.is_theorems.proofs.Common.{SetMaxStunRetransmits, SetMtu, settings_after, SettingsRecord, SharedRun, Some, subst, sym, true, ℕ}
 use Rattle.is_theorems.proofs.PathSelection.SelectedPairIsNominated.{IsNamed, names-best, names-next}
 use Rattle.is_theorems.proofs.CallEffects.FailedCallsAndNewAgents.{fresh_sound}
 use Rattle.is_theorems.proofs.CallEffects.KeptSettings.{settings-are-set}

@@ -1,14 +1,9 @@
 -- Executions of one agent whose random words may come from any streams: their states satisfy the invariant, and what a limit bounds
 -- stays bounded.
-use Rattle.std.proofs.Common.{◌≡◌, ℕ, ◌+◌, ◌*◌, ◌≤◌, Bool, true, false, zero, suc, List, [], ◌∷◌, length, inl, inr, sym, subst, ◌∙◌, arith, cond}
-use Rattle.std.proofs.Math.Nat.{mul-le-mul_right}
-use Rattle.std.proofs.lemmas.List.{length-map}
-use Rattle.std.proofs.lemmas.List.Sums.{sum_by-cons}
-use Rattle.is_candidate.specs.Candidates.{CandidateRecord}
-use Rattle.is_rules.specs.Agent.{AgentRecord}
-use Rattle.is_theorems.specs.Bounds.{gathered_count, is_gathered, is_signal, is_signaled, signal_count}
-use Rattle.is_theorems.specs.Logs.{Logged}
-use Rattle.is_rules.specs.Sound.{IsSound}
+use Rattle.is_theorems.proofs.Common.{[], ◌*◌, ◌+◌, ◌∙◌, ◌∷◌, ◌≡◌, ◌≤◌, AgentRecord, arith, BeforeEach, Bool, CandidateRecord, cond, false}
+use Rattle.is_theorems.proofs.Common.{gathered_count, inl, inr, is_gathered, is_signal, is_signaled, IsNewlyCreated, IsSound, length}
+use Rattle.is_theorems.proofs.Common.{length-map, List, Logged, mul-le-mul_right, SharedRun, signal_count, subst, suc, sum_by-cons, sym}
+use Rattle.is_theorems.proofs.Common.{true, zero, ℕ}
 use Rattle.is_theorems.proofs.StorageBounds.UnchangedLists.{lists_of}
 use Rattle.is_theorems.proofs.StorageBounds.ListsInExecutions.{bounds}
 use Rattle.is_theorems.proofs.StorageBounds.BoundedLists.{Within, fits-none, is_own}
@@ -18,7 +13,6 @@ use Rattle.is_theorems.proofs.StorageBounds.PairsByCell.{cell_of, cells, extras-
 use Rattle.is_theorems.proofs.CallEffects.PathAndTradeEffects.{path_theorem}
 use Rattle.is_theorems.proofs.ExecutionLogs.SharedLogTheorems.{new_sound}
 use Rattle.is_theorems.specs.Limited.{ListsStayBounded, PairsStayFew, IsLimitedAt, FormsFewAt}
-use Rattle.is_theorems.specs.Shared.{IsNewlyCreated, SharedRun, BeforeEach}
 
 owned-most : (own : ℕ → Bool) (n : ℕ) → owned own n ≤ n
 owned-most own zero = omega arith

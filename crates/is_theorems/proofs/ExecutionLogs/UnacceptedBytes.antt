@@ -1,7 +1,5 @@
 -- Bytes that are not accepted change nothing.
-use Rattle.std.specs.Prelude.{ℕ, List}
-use Rattle.is_candidate.specs.Candidates.{CandidateRecord}
-use Rattle.is_theorems.specs.Runs.{UnacceptedChangeNothing}
+use Rattle.is_theorems.proofs.Common.{CandidateRecord, List, UnacceptedChangeNothing, ℕ}
 use Rattle.is_theorems.proofs.CallEffects.ReceivedAndOwed.{leaves_unaccepted}
 
 module _ {H P : Type 0} (mac : H → List ℕ → List ℕ → List ℕ) (answers : P → CandidateRecord → ℕ → ℕ → Type 0) where

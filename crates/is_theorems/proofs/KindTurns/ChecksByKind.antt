@@ -1,37 +1,19 @@
 -- While kinds take turns, a `handle_timeout` call at which a pair is due checks it, or goes to the pair that is due first and gives the next
 -- check to a kind, or checks another pair in the turn of a kind.
-use Rattle.std.proofs.Common.{◌≡◌, ℕ, ◌+◌, ◌<◌, ◌≤◌, ◌==◌, ◌&&◌, ◌||◌, Bool, true, false, not, List, map, nat_le, Option, Some, None, is_some, inl, inr, ◌⊎◌, refl, ap, sym, ◌∙◌, subst, arith, if◌then◌else◌}
-use Rattle.std.specs.Prelude.{MatchBool}
-use Rattle.std.specs.List.{list_any}
-use Rattle.std.proofs.lemmas.Bool.{eq-eqb, eqb-true}
-use Rattle.std.proofs.lemmas.Bool.Decides.{nat_tests}
-use Rattle.rand_core.specs.Stream.{Stream}
-use Rattle.is_proto.specs.Lists.{Has}
-use Rattle.is_proto.specs.Times.{MAX}
-use Rattle.is_candidate.specs.Candidates.{CandidateRecord, base_of, candidate_at}
-use Rattle.is_pair.specs.Due.{asked, due_time_of, is_due, is_urgent, GoesBefore, IsNextDue}
-use Rattle.is_pair.specs.Multiset.{is_named_by, change_pair}
-use Rattle.is_pair.specs.Pairs.{PairRecord, checked}
 use Rattle.is_stun.specs.declared.header.Class.TheVariants as class
-use Rattle.is_stun.specs.declared.timing.StunTiming.{StunTiming}
-use Rattle.is_stun.specs.Timing.{is_modern}
-use Rattle.is_rules.specs.Agent.{AgentRecord}
-use Rattle.is_rules.specs.Checking.{all_asked, are_kinds_in_turn, has_first, is_ahead_turn, next_kind_after, precedence, ChecksTop, GoesAhead, IsNextToCheck, MayCheck}
-use Rattle.is_rules.specs.declared.credentials.IceCreds.{IceCreds}
-use Rattle.is_rules.specs.declared.emitted.Emitted.{Emitted}
-use Rattle.is_rules.specs.declared.emitted.Issued.{Issued}
-use Rattle.is_rules.specs.declared.emitted.Path.{Path}
-use Rattle.is_rules.specs.declared.kinds.Precedence.{Precedence}
-use Rattle.is_rules.specs.Emitted.{issued_as}
-use Rattle.is_rules.specs.Kinds.{goes_first, is_brought, kind_of, turn_of, IsNextAhead, KINDS, TurnsBefore}
-use Rattle.is_rules.specs.Nominating.{followed, nominates_at_once, numbers, pair_selected, remains, selection_of, Nominates}
-use Rattle.is_rules.specs.Sending.{path_of}
-use Rattle.is_rules.specs.Timeouts.{at_timeout, expired_gone, is_expired, MaintainsPairs, RemovesExpired}
-use Rattle.is_rules.proofs.PairLists.ChosenPair.{none_pass}
-use Rattle.is_theorems.specs.KindsInTurn.{kind_in}
+use Rattle.is_theorems.proofs.Common.{◌&&◌, ◌+◌, ◌<◌, ◌==◌, ◌||◌, ◌∙◌, ◌≡◌, ◌≤◌, ◌⊎◌, AgentRecord, all_scheduled, ap, are_kinds_in_turn, arith}
+use Rattle.is_theorems.proofs.Common.{scheduled, at_timeout, base_of, Bool, candidate_at, CandidateRecord, change_pair, checked, ChecksTop}
+use Rattle.is_theorems.proofs.Common.{due_time_of, Emitted, eq-eqb, eqb-true, expired_gone, false, followed, goes_first, GoesAhead}
+use Rattle.is_theorems.proofs.Common.{GoesBefore, Has, has_first, IceCreds, if◌then◌else◌, inl, inr, is_ahead_turn, is_brought, is_due}
+use Rattle.is_theorems.proofs.Common.{is_expired, is_modern, is_named_by, is_some, is_urgent, IsNextAhead, IsNextDue, IsNextToCheck, Issued}
+use Rattle.is_theorems.proofs.Common.{issued_as, kind_in, kind_of, KINDS, List, list_any, MaintainsPairs, map, MatchBool, MAX, MayCheck}
+use Rattle.is_theorems.proofs.Common.{nat_le, nat_tests, next_kind_after, Nominates, nominates_at_once, None, none_pass, not, numbers}
+use Rattle.is_theorems.proofs.Common.{Option, pair_selected, PairRecord, Path, path_left, path_of, Precedence, precedence, refl, remains}
+use Rattle.is_theorems.proofs.Common.{RemovesExpired, selection_of, Some, Stream, StunTiming, subst, sym, true, turn_of, TurnsBefore, ℕ}
 use Rattle.is_theorems.proofs.BasicLemmas.PairsInTurn.{ahead-or-along, in-turn, next-has, none-is-due, pairs-sent, sent_at}
 use Rattle.is_theorems.proofs.CallEffects.ServedRequests.{Has-mapped}
-use Rattle.is_theorems.proofs.DuePairs.AfterNominationAndRemoval.{Base, Distinct, Has-kept, base_of as agent_base, gives-up-thins, names-thins}
+use Rattle.is_theorems.proofs.DuePairs.AfterNominationAndRemoval.{Base, Distinct, Has-kept, base_of as agent_base, gives-up-thins}
+use Rattle.is_theorems.proofs.DuePairs.AfterNominationAndRemoval.{names-thins}
 use Rattle.is_theorems.proofs.DuePairs.FirstDuePair.{next-check}
 use Rattle.is_theorems.proofs.EarlierChecks.ChecksOfOtherPairs.{leads, Counts, Measure}
 use Rattle.is_theorems.proofs.EarlierChecks.LeavingPaths.{leads-left}
@@ -41,7 +23,6 @@ use Rattle.is_theorems.proofs.RuleEffects.ChangedPairs.{Has-map}
 use Rattle.is_theorems.proofs.RuleEffects.EarlierAndNewPairs.{Has-filter}
 use Rattle.is_theorems.proofs.RuleEffects.NominatedPairs.{selects_path, SelectsPath}
 use Rattle.is_theorems.proofs.RuleEffects.UnchangedSettings.{either}
-use Rattle.is_rules.specs.Leaving.{path_left}
 use Rattle.is_theorems.proofs.RuleEffects.PathsThatAreLeft.{unselected-left}
 
 le-is : (n m : ℕ) → n ≤ m → nat_le n m ≡ true
@@ -122,10 +103,6 @@ none-at true true false d e is = refl
 none-at true false c d e is = refl
 none-at false b c d e is = refl
 
-all-on : (a b c d : Bool) → a ≡ true → d ≡ true → ((a || b || c) ≡ true) × ((a && d) ≡ a)
-all-on true b c d on is = (refl, is)
-all-on false b c d on is = absurd (cc)
-
 turn-is : (modern ahead kinds first : Bool) → modern ≡ true → kinds ≡ true → (modern && ahead && (kinds || first)) ≡ ahead
 turn-is true true true first on kinds_on = refl
 turn-is true false kinds first on kinds_on = refl
@@ -153,10 +130,10 @@ module _ {H P : Type 0} where
   kind-in-range a p = kind-within a.local (candidate_at a.local p.local) (candidate_at a.remote p.remote)
 
   -- without a selected path none is nominated at once
-  unselected-calm : (now : ℕ) (a : AgentRecord H P) → a.selected_pair ≡ None → nominates_at_once (all_asked now a) ≡ false
+  unselected-calm : (now : ℕ) (a : AgentRecord H P) → a.selected_pair ≡ None → nominates_at_once (all_scheduled now a) ≡ false
   unselected-calm now a none =
-      none-at a.controlling (not a.lite) (numbers a) a.nomination_due (is_some (pair_selected a.selected_pair (all_asked now a).pairs))
-      (ap (λ o. is_some (pair_selected o (all_asked now a).pairs)) none)
+      none-at a.controlling (not a.lite) (numbers a) a.nomination_due (is_some (pair_selected a.selected_pair (all_scheduled now a).pairs))
+      (ap (λ o. is_some (pair_selected o (all_scheduled now a).pairs)) none)
 
   -- while kinds take turns, each second check goes ahead
   ahead-is : (now : ℕ) (a : AgentRecord H P) → are_kinds_in_turn a ≡ true → is_ahead_turn now a ≡ a.ahead_turn
@@ -191,7 +168,7 @@ module _ {H P : Type 0} where
     check-keeps : (old new : AgentRecord H P) (s u : Stream) (issued : Option Issued) → is_some old.remote_creds ≡ true → old.lite ≡ false
         → MayCheck mac now old.remote_creds old s issued new u → (are_kinds_in_turn new ≡ are_kinds_in_turn old) × (new.selected_pair ≡ old.selected_pair)
     check-keeps old new s u issued known full h = let k = next-check mac now old.remote_creds old new s u issued known full h in by-next k.0 k.1 k.3 where
-      by-next : (peer : IceCreds) (next : Option PairRecord) → ChecksTop mac now peer next (all_asked now old) s issued new u
+      by-next : (peer : IceCreds) (next : Option PairRecord) → ChecksTop mac now peer next (all_scheduled now old) s issued new u
           → (are_kinds_in_turn new ≡ are_kinds_in_turn old) × (new.selected_pair ≡ old.selected_pair)
       by-next peer None (is, made, drawn) = (ap (λ (a : AgentRecord H P). are_kinds_in_turn a) made, ap (λ (a : AgentRecord H P). a.selected_pair) made)
       by-next peer (Some q) (id, drawn, values, is, made) = (ap (λ (a : AgentRecord H P). are_kinds_in_turn a) made, ap (λ (a : AgentRecord H P). a.selected_pair) made)
@@ -201,23 +178,23 @@ module _ {H P : Type 0} where
         → MayCheck mac now old.remote_creds old s issued new u → Checks old issued p ⊎ Turns by now old issued new p
     check-takes old new s u issued known full distinct some turns none p has due h =
         let k = next-check mac now old.remote_creds old new s u issued known full h in by-next k.0 k.1 k.2 k.3 where
-          in_asked : Has (map (asked now old.timing) old.pairs) (asked now old.timing p)
-          in_asked = Has-mapped (asked now old.timing) old.pairs p has
+          in_asked : Has (map (scheduled now old.timing) old.pairs) (scheduled now old.timing p)
+          in_asked = Has-mapped (scheduled now old.timing) old.pairs p has
 
-          p_due : is_due now old.timing (asked now old.timing p) ≡ true
+          p_due : is_due now old.timing (scheduled now old.timing p) ≡ true
           p_due = le-is (due_time_of now old.timing p) now (omega (arith, due, late))
 
-          calm : nominates_at_once (all_asked now old) ≡ false
+          calm : nominates_at_once (all_scheduled now old) ≡ false
           calm = unselected-calm now old none
 
-          ahead : is_ahead_turn now (all_asked now old) ≡ old.ahead_turn
-          ahead = ahead-is now (all_asked now old) turns
+          ahead : is_ahead_turn now (all_scheduled now old) ≡ old.ahead_turn
+          ahead = ahead-is now (all_scheduled now old) turns
 
           kind_p : kind_in old p < KINDS
           kind_p = kind-in-range old p
 
           -- which pair is chosen in the turn of a kind
-          precedes : (o : PairRecord) → TurnsBefore old.local old.remote (precedence old) old.next_kind now old.timing (asked now old.timing o) (asked now old.timing p)
+          precedes : (o : PairRecord) → TurnsBefore old.local old.remote (precedence old) old.next_kind now old.timing (scheduled now old.timing o) (scheduled now old.timing p)
               → Precedes (view_of old) now p o
           precedes o h = elim (placed (is_named_by (precedence old).selected o) (is_named_by (precedence old).selected p) ((precedence old).urgent && is_urgent o) ((precedence old).urgent && is_urgent p)
               (is_brought old.remote o) (is_brought old.remote p) (turn_of old.next_kind (kind_in old o)) (turn_of old.next_kind (kind_in old p)) (GoesBefore now old.timing o p)
@@ -228,33 +205,33 @@ module _ {H P : Type 0} where
               ]
 
           -- no pair is selected, so none is asked along
-          in-kind-turn : (q : PairRecord) → IsNextToCheck now (all_asked now old) (Some q) → old.ahead_turn ≡ true
-              → IsNextAhead old.local old.remote (precedence old) old.next_kind now old.timing (map (asked now old.timing) old.pairs) (Some q)
-          in-kind-turn q chosen on = elim (ahead-or-along now (all_asked now old) q
-              (subst (λ b. MatchBool b (GoesAhead now (all_asked now old) (Some q)) (IsNextDue now old.timing (map (asked now old.timing) old.pairs) (Some q))) (ahead ∙ on)
-              (in-turn now (all_asked now old) (Some q) calm chosen))) [
+          in-kind-turn : (q : PairRecord) → IsNextToCheck now (all_scheduled now old) (Some q) → old.ahead_turn ≡ true
+              → IsNextAhead old.local old.remote (precedence old) old.next_kind now old.timing (map (scheduled now old.timing) old.pairs) (Some q)
+          in-kind-turn q chosen on = elim (ahead-or-along now (all_scheduled now old) q
+              (subst (λ b. MatchBool b (GoesAhead now (all_scheduled now old) (Some q)) (IsNextDue now old.timing (map (scheduled now old.timing) old.pairs) (Some q))) (ahead ∙ on)
+              (in-turn now (all_scheduled now old) (Some q) calm chosen))) [
                 | inl next ↦ next
-                | inr along ↦ absurd (none-some along.selected (sym (ap (λ o. pair_selected o (map (asked now old.timing) old.pairs)) none) ∙ along.chosen))
+                | inr along ↦ absurd (none-some along.selected (sym (ap (λ o. pair_selected o (map (scheduled now old.timing) old.pairs)) none) ∙ along.chosen))
               ]
 
-          kind-next : (q : PairRecord) → new.next_kind ≡ next_kind_after now q (all_asked now old) → (b : Bool) → is_ahead_turn now (all_asked now old) ≡ b
+          kind-next : (q : PairRecord) → new.next_kind ≡ next_kind_after now q (all_scheduled now old) → (b : Bool) → is_ahead_turn now (all_scheduled now old) ≡ b
               → new.next_kind ≡ (if b then kind_of old.local old.remote q + 1 else old.next_kind)
           kind-next q is b same = is ∙ ap (λ c. if c then kind_of old.local old.remote q + 1 else old.next_kind) same
 
           plain : (q : PairRecord) (id : List ℕ)
-              → new.pairs ≡ change_pair q.number (sent_at (nominates_at_once (all_asked now old)) now old.timing old.controlling id) (map (asked now old.timing) old.pairs)
-              → new.pairs ≡ change_pair q.number (checked now old.timing old.controlling id) (map (asked now old.timing) old.pairs)
-          plain q id sent = sent ∙ ap (λ b. change_pair q.number (sent_at b now old.timing old.controlling id) (map (asked now old.timing) old.pairs)) calm
+              → new.pairs ≡ change_pair q.number (sent_at (nominates_at_once (all_scheduled now old)) now old.timing old.controlling id) (map (scheduled now old.timing) old.pairs)
+              → new.pairs ≡ change_pair q.number (checked now old.timing old.controlling id) (map (scheduled now old.timing) old.pairs)
+          plain q id sent = sent ∙ ap (λ b. change_pair q.number (sent_at b now old.timing old.controlling id) (map (scheduled now old.timing) old.pairs)) calm
 
-          whose : (q : PairRecord) (id : List ℕ) → IsNextToCheck now (all_asked now old) (Some q) → issued ≡ Some (issued_as (path_of old q) class.Request id)
-              → new.ahead_turn ≡ not (is_ahead_turn now (all_asked now old)) → new.next_kind ≡ next_kind_after now q (all_asked now old)
-              → new.pairs ≡ change_pair q.number (sent_at (nominates_at_once (all_asked now old)) now old.timing old.controlling id) (map (asked now old.timing) old.pairs)
-              → Has (map (asked now old.timing) old.pairs) q
-              → (o : PairRecord) → Has old.pairs o → asked now old.timing o ≡ q → (b : Bool) → (o.number == p.number) ≡ b
+          whose : (q : PairRecord) (id : List ℕ) → IsNextToCheck now (all_scheduled now old) (Some q) → issued ≡ Some (issued_as (path_of old q) class.Request id)
+              → new.ahead_turn ≡ not (is_ahead_turn now (all_scheduled now old)) → new.next_kind ≡ next_kind_after now q (all_scheduled now old)
+              → new.pairs ≡ change_pair q.number (sent_at (nominates_at_once (all_scheduled now old)) now old.timing old.controlling id) (map (scheduled now old.timing) old.pairs)
+              → Has (map (scheduled now old.timing) old.pairs) q
+              → (o : PairRecord) → Has old.pairs o → scheduled now old.timing o ≡ q → (b : Bool) → (o.number == p.number) ≡ b
               → Checks old issued p ⊎ Turns by now old issued new p
           whose q id chosen is alternates kinds sent there o o_has o_is true same =
               let one : o ≡ p = distinct o p o_has has (eqb-true o.number p.number same) in
-              inl (id, is ∙ ap (λ (x : PairRecord). Some (issued_as (path_of old x) class.Request id)) (sym o_is ∙ ap (asked now old.timing) one))
+              inl (id, is ∙ ap (λ (x : PairRecord). Some (issued_as (path_of old x) class.Request id)) (sym o_is ∙ ap (scheduled now old.timing) one))
           whose q id chosen is alternates kinds sent there o o_has o_is false apart = inr (record {
             alternates = alternates ∙ ap not ahead;
             waits = λ off. kind-next q kinds false (ahead ∙ off);
@@ -264,23 +241,23 @@ module _ {H P : Type 0} where
               (λ one. (let no : true ≡ false = sym (eq-eqb o.number p.number one) ∙ apart in cc)),
               (id, is ∙ ap (λ (x : PairRecord). Some (issued_as (path_of old x) class.Request id)) (sym o_is)),
               kind-next q kinds true (ahead ∙ on) ∙ ap (λ (x : PairRecord). kind_of old.local old.remote x + 1) (sym o_is),
-              precedes o (subst (λ (x : PairRecord). TurnsBefore old.local old.remote (precedence old) old.next_kind now old.timing x (asked now old.timing p)) (sym o_is)
-                  ((in-kind-turn q chosen on).2 (asked now old.timing p) in_asked p_due)),
+              precedes o (subst (λ (x : PairRecord). TurnsBefore old.local old.remote (precedence old) old.next_kind now old.timing x (scheduled now old.timing p)) (sym o_is)
+                  ((in-kind-turn q chosen on).2 (scheduled now old.timing p) in_asked p_due)),
               λ w counted o_due counts. subst (λ ps. leads w by ps + 1 ≤ leads w by old.pairs) (sym (plain q id sent))
                   (one-fewer-left now by late early old.timing old.controlling id some w old.pairs q there (due_time_of now old.timing o) (ap (λ (x : PairRecord). x.due) (sym o_is)) o_due
                   (subst (λ (x : PairRecord). w.skips x.number ≡ false) o_is counted) (subst (λ (x : PairRecord). Counts w.both x.nomination) o_is counts)),
             );
             lessens = λ w. subst (λ ps. leads w by ps ≤ leads w by old.pairs) (sym sent)
-                (after-check now by late early old.timing old.controlling id some w (nominates_at_once (all_asked now old)) q.number old.pairs);
+                (after-check now by late early old.timing old.controlling id some w (nominates_at_once (all_scheduled now old)) q.number old.pairs);
           })
 
-          by-next : (peer : IceCreds) (next : Option PairRecord) → IsNextToCheck now (all_asked now old) next → ChecksTop mac now peer next (all_asked now old) s issued new u
+          by-next : (peer : IceCreds) (next : Option PairRecord) → IsNextToCheck now (all_scheduled now old) next → ChecksTop mac now peer next (all_scheduled now old) s issued new u
               → Checks old issued p ⊎ Turns by now old issued new p
-          by-next peer None chosen h = absurd (none_pass (is_due now old.timing) (map (asked now old.timing) old.pairs) (asked now old.timing p) (none-is-due now (all_asked now old) chosen) in_asked p_due)
+          by-next peer None chosen h = absurd (none_pass (is_due now old.timing) (map (scheduled now old.timing) old.pairs) (scheduled now old.timing p) (none-is-due now (all_scheduled now old) chosen) in_asked p_due)
           by-next peer (Some q) chosen (id, drawn, values, is, made) =
-              let o = Has-map (asked now old.timing) old.pairs q (next-has now (all_asked now old) q chosen) in
+              let o = Has-map (scheduled now old.timing) old.pairs q (next-has now (all_scheduled now old) q chosen) in
               whose q id chosen is (ap (λ (a : AgentRecord H P). a.ahead_turn) made) (ap (λ (a : AgentRecord H P). a.next_kind) made)
-              (pairs-sent mac now peer q id (all_asked now old) new made) (next-has now (all_asked now old) q chosen) o.0 o.1 o.2 (o.0.number == p.number) refl
+              (pairs-sent mac now peer q id (all_scheduled now old) new made) (next-has now (all_scheduled now old) q chosen) o.0 o.1 o.2 (o.0.number == p.number) refl
 
     -- ---- nomination, and removed pairs
 
@@ -319,7 +296,7 @@ module _ {H P : Type 0} where
         → 0 < old.timing.max_retransmits → are_kinds_in_turn new ≡ true → new.selected_pair ≡ None → (p : PairRecord) → Has old.pairs p → due_time_of now old.timing p ≤ by
         → not (is_expired now old p) ≡ true
         → (h : MaintainsPairs mac now old s emitted new u)
-        → (nominates_at_once (all_asked now h.4) ≡ false) × (Checks old emitted.issued p ⊎ Turns by now old emitted.issued new p)
+        → (nominates_at_once (all_scheduled now h.4) ≡ false) × (Checks old emitted.issued p ⊎ Turns by now old emitted.issued new p)
     timeout-takes old new s u emitted known full distinct some turns none p has due stays (first, second, issued, named, kept, nominating, giving, checking, is) =
         let a = names-thins now (at_timeout now old) named first nominating in
         let b = gives-up-thins 0 now named kept second giving in

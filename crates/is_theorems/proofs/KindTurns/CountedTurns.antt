@@ -1,7 +1,6 @@
 -- How many rounds give a turn to a kind, while kinds take turns, and how many of these delay a pair.
-use Rattle.std.proofs.Common.{◌≡◌, ℕ, zero, suc, ◌+◌, ◌*◌, ◌<◌, ◌≤◌, Bool, true, false, nat_le, refl, sym, subst, arith}
-use Rattle.std.proofs.lemmas.Bool.Decides.{nat_tests}
-use Rattle.is_rules.specs.Owed.{one_if}
+use Rattle.is_theorems.proofs.Common.{◌*◌, ◌+◌, ◌<◌, ◌≡◌, ◌≤◌, arith, Bool, false, nat_le, nat_tests, one_if, refl, subst, suc, sym, true}
+use Rattle.is_theorems.proofs.Common.{zero, ℕ}
 
 -- After so many rounds a of them gave a turn to a kind, and c of these delayed the pair. Of k kinds, w have their turn before its kind.
 pub record Progress (rounds k w : ℕ) (turn : Bool) (a c : ℕ) : Type 0 where

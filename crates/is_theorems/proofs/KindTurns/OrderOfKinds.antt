@@ -1,14 +1,8 @@
 -- How many kinds have their turn before one: fewer after each check of another kind, and at most all others.
-use Rattle.std.proofs.Common.{◌≡◌, ℕ, suc, ◌+◌, ◌==◌, ◌<◌, ◌≤◌, ◌&&◌, Bool, true, false, nat_le, nat_lt, List, [], ◌∷◌, length, inl, inr, ◌⊎◌, refl, sym, subst, arith, if◌then◌else◌}
-use Rattle.std.proofs.lemmas.Bool.Decides.{nat_tests}
-use Rattle.std.specs.declared.net.socket_addr.SocketAddr.{SocketAddr}
-use Rattle.is_proto.specs.Lists.{Has}
-use Rattle.is_candidate.specs.Addresses.{is_v4}
-use Rattle.is_candidate.specs.Candidates.{CandidateRecord}
-use Rattle.is_candidate.specs.declared.candidate.kind.CandidateKind.{CandidateKind}
-use Rattle.is_candidate.specs.declared.candidate.kind.CandidateKind.TheVariants.{Host, PeerReflexive, ServerReflexive, Relayed}
-use Rattle.is_rules.specs.Kinds.{INNER, KINDS, counted_kind, kind_between, kind_rank, remote_rank, side_of, turn_of, version_rank}
-use Rattle.is_rules.specs.Owed.{one_if}
+use Rattle.is_theorems.proofs.Common.{[], ◌&&◌, ◌+◌, ◌<◌, ◌==◌, ◌∷◌, ◌≡◌, ◌≤◌, ◌⊎◌, arith, Bool, CandidateKind, CandidateRecord}
+use Rattle.is_theorems.proofs.Common.{counted_kind, false, Has, Host, if◌then◌else◌, inl, INNER, inr, is_v4, kind_between, kind_rank, KINDS}
+use Rattle.is_theorems.proofs.Common.{length, List, nat_le, nat_lt, nat_tests, one_if, PeerReflexive, refl, Relayed, remote_rank}
+use Rattle.is_theorems.proofs.Common.{ServerReflexive, side_of, SocketAddr, subst, sym, true, turn_of, version_rank, ℕ}
 
 le-from : (n m : ℕ) → nat_le n m ≡ true → n ≤ m
 le-from n m h = grind (arith, nat_tests, h)
@@ -116,16 +110,6 @@ count-less f g (y ∷ ys) x h (inr has) off on =
     sums (one_if (f y)) (one_if (g y)) (count f ys) (count g ys) (one-le (f y) (g y) (h y)) (count-less f g ys x h has off on) where
       sums : (a b c d : ℕ) → a ≤ b → c + 1 ≤ d → a + c + 1 ≤ b + d
       sums a b c d h k = omega (arith, h, k)
-
-count-all : (f : ℕ → Bool) (xs : List ℕ) → count f xs ≤ length xs
-count-all f [] = omega arith
-count-all f (x ∷ xs) = sums (one_if (f x)) (count f xs) (length xs) (one (f x)) (count-all f xs) where
-  one : (b : Bool) → one_if b ≤ 1
-  one true = omega arith
-  one false = omega arith
-
-  sums : (a b c : ℕ) → a ≤ 1 → b ≤ c → a + b ≤ suc c
-  sums a b c h k = omega (arith, h, k)
 
 count-true : (xs : List ℕ) → count (λ x. true) xs ≡ length xs
 count-true [] = refl

@@ -1,36 +1,14 @@
 -- Rounds in which kinds take turns: a pair that is due is checked in one of them, or they check as many pairs that go before it as they give
 -- turns to its kind.
-use Rattle.std.proofs.Common.{◌≡◌, ℕ, suc, ◌+◌, ◌-◌, ◌<◌, ◌≤◌, ◌&&◌, ◌||◌, Bool, true, false, not, List, [], ◌∷◌, ◌++◌, length, nat_lt, Some, None, unwrap_or, inl, inr, ◌⊎◌, refl, ap, sym, ◌∙◌, subst, arith}
-use Rattle.rand_core.specs.Stream.{Stream}
-use Rattle.is_proto.specs.Lists.{Has}
-use Rattle.is_proto.specs.Times.{MAX}
-use Rattle.is_candidate.specs.Candidates.{CandidateRecord}
-use Rattle.is_pair.specs.Due.{due_time_of, GoesBefore}
-use Rattle.is_pair.specs.Multiset.{is_named_by}
-use Rattle.is_pair.specs.Pairs.{PairRecord, is_valid}
-use Rattle.is_pair.specs.States.{is_nominating}
-use Rattle.is_pair.specs.declared.pair.states.NominationState.TheVariants.{Nominated}
 use Rattle.is_stun.specs.declared.header.Class.TheVariants as class
-use Rattle.is_stun.specs.Timing.{is_modern}
-use Rattle.is_rules.specs.Agent.{AgentRecord}
-use Rattle.is_rules.specs.Checking.{all_asked, precedence}
-use Rattle.is_rules.specs.declared.emitted.Path.{Path}
-use Rattle.is_rules.specs.declared.kinds.Precedence.{Precedence}
-use Rattle.is_rules.specs.Emitted.{issued_as}
-use Rattle.is_rules.specs.Kinds.{goes_first, turn_of, KINDS}
-use Rattle.is_rules.specs.Nominating.{nominates_at_once}
-use Rattle.is_rules.specs.Sending.{path_of}
-use Rattle.is_rules.specs.Sound.{IsSound, GivesBased}
-use Rattle.is_rules.specs.Steps.{Call, Entry, HandleTimeout, Step}
-use Rattle.is_rules.specs.Timeouts.{timeout_begun, MaintainsPairs}
-use Rattle.is_theorems.specs.Asked.{IsAnsweredIn}
-use Rattle.is_theorems.specs.KindsInTurn.{kind_in, AtTimeoutsIn, IsDelayed, IsDelayedIn, KindsAreReachedInTurn, OfTimeoutsIn, TakesTurns, WaitsInRounds}
-use Rattle.is_theorems.specs.Logs.{Logged}
-use Rattle.is_theorems.specs.OwnKind.{IsHeldUp}
-use Rattle.is_theorems.specs.Progress.{ChecksOn}
-use Rattle.is_theorems.specs.Reached.{ChecksIn, IsEndedIn, IsPassing}
-use Rattle.is_theorems.specs.Rounds.{LoggedRound, Part, RunsOn, began_at, entries_of}
-use Rattle.is_theorems.specs.Runs.{IsFresh, Run}
+use Rattle.is_theorems.proofs.Common.{[], ◌&&◌, ◌++◌, ◌+◌, ◌-◌, ◌<◌, ◌||◌, ◌∙◌, ◌∷◌, ◌≡◌, ◌≤◌, ◌⊎◌, AgentRecord, all_scheduled, ap, arith}
+use Rattle.is_theorems.proofs.Common.{AtTimeoutsIn, began_at, Bool, Call, CandidateRecord, ChecksIn, ChecksOn, due_time_of, entries_of}
+use Rattle.is_theorems.proofs.Common.{Entry, false, GivesBased, goes_first, GoesBefore, HandleTimeout, Has, inl, inr, is_modern}
+use Rattle.is_theorems.proofs.Common.{is_named_by, is_nominating, is_valid, IsAnsweredIn, IsDelayed, IsDelayedIn, IsEndedIn, IsFresh}
+use Rattle.is_theorems.proofs.Common.{IsHeldUp, IsPassing, IsSound, issued_as, kind_in, KINDS, KindsAreReachedInTurn, length, List, Logged}
+use Rattle.is_theorems.proofs.Common.{LoggedRound, MaintainsPairs, MAX, nat_lt, Nominated, nominates_at_once, None, not, OfTimeoutsIn}
+use Rattle.is_theorems.proofs.Common.{PairRecord, Part, Path, path_of, Precedence, precedence, refl, Run, RunsOn, Some, Step, Stream, subst}
+use Rattle.is_theorems.proofs.Common.{suc, sym, TakesTurns, timeout_begun, true, turn_of, unwrap_or, WaitsInRounds, ℕ}
 use Rattle.is_theorems.proofs.CallEffects.PathAndTradeEffects.{path_theorem}
 use Rattle.is_theorems.proofs.DuePairs.AfterNominationAndRemoval.{Base, answered_at, last_time_of, stays-young}
 use Rattle.is_theorems.proofs.DuePairs.FirstDuePair.{timeout-follows}
@@ -40,12 +18,14 @@ use Rattle.is_theorems.proofs.EarlierChecks.ChecksOfOtherPairs.{formed_by, leads
 use Rattle.is_theorems.proofs.ExecutionLogs.LogSegments.{passed as passed-at, run-on}
 use Rattle.is_theorems.proofs.ExecutionLogs.LogTheorems.{runs_sound}
 use Rattle.is_theorems.proofs.ExecutionLogs.SegmentsAsExecutions.{split-ended, split-run}
-use Rattle.is_theorems.proofs.KindTurns.CountedTurns.{enough-delays, progress-delay, progress-first, progress-none, progress-other, Progress}
+use Rattle.is_theorems.proofs.KindTurns.CountedTurns.{enough-delays, progress-delay, progress-first, progress-none, progress-other}
+use Rattle.is_theorems.proofs.KindTurns.CountedTurns.{Progress}
 use Rattle.is_theorems.proofs.KindTurns.ChecksByKind.{kind-in-range, timeout-takes, Turns, UsesUp}
 use Rattle.is_theorems.proofs.KindTurns.OrderOfKinds.{fewer-before, kinds_before, others-before}
 use Rattle.is_theorems.proofs.KindTurns.SegmentsInTurn.{fewer-counted, has-path-or, in-turn, split-counted, split-timeouts, InTurn}
 use Rattle.is_theorems.proofs.PollingRounds.CountedSelections.{paid, paid-join}
-use Rattle.is_theorems.proofs.PollingRounds.DuePairsInLogs.{answered-later, has-following, has-front, lasts-at, persists, timeout-on, walk, Persists, Waits}
+use Rattle.is_theorems.proofs.PollingRounds.DuePairsInLogs.{answered-later, has-following, has-front, lasts-at, persists, timeout-on, walk}
+use Rattle.is_theorems.proofs.PollingRounds.DuePairsInLogs.{Persists, Waits}
 use Rattle.is_theorems.proofs.PollingRounds.WaitingPairs.{begins, total_at}
 
 -- ---- sums
@@ -102,7 +82,7 @@ module _ {H P : Type 0} (mac : H → List ℕ → List ℕ → List ℕ) (answer
 
       turns-at : (now k spent : ℕ) (e : Entry) (old new : AgentRecord H P) (s t : Stream) → IsSound old → keeps now ≡ true
           → (st : PersistsAt now k spent old) → InTurn w kinds kind n old new → (h : MaintainsPairs mac now (timeout_begun now old) s e.emitted new t)
-          → (nominates_at_once (all_asked now h.4) ≡ false) × (ChecksOn old e.emitted st.pair ⊎ Turns by now (timeout_begun now old) e.emitted.issued new st.pair)
+          → (nominates_at_once (all_scheduled now h.4) ≡ false) × (ChecksOn old e.emitted st.pair ⊎ Turns by now (timeout_begun now old) e.emitted.issued new st.pair)
       turns-at now k spent e old new s t sound lasting st takes h =
           timeout-takes mac now by st.late st.early (timeout_begun now old) new s t e.emitted st.checking.peer st.checking.full (distinct-sound mac old sound) sound.checks takes.turns takes.unselected st.pair st.there
           st.ready.0
@@ -301,7 +281,7 @@ module _ {H P : Type 0} (mac : H → List ℕ → List ℕ → List ℕ) (answer
               | inr on ↦
                   elim (timeout-on mac answers by n path keeps ahead (λ _. 0) (λ _. 0) total base r.now (length older) (spent_in older) r.timeout.entry old mid z v passing.done called sound
                   (sound-at ((r.timeout ∷ entries_of older) ++ before) mid v led_mid) st (omega arith)
-                  (λ h due. absurd (no-both (nominates_at_once (all_asked r.now h.4)) due (turns-at r.now (length older) (spent_in older) r.timeout.entry old mid z v sound lasting st takes h).0)) lasting) [
+                  (λ h due. absurd (no-both (nominates_at_once (all_scheduled r.now h.4)) due (turns-at r.now (length older) (spent_in older) r.timeout.entry old mid z v sound lasting st takes h).0)) lasting) [
                     | inl (id, out) ↦ inl (inl (r, id, inl refl, out))
                     | inr waits ↦
                         elim (walk mac answers by n path keeps ahead (λ _. 0) (λ _. 0) total base (λ call e x y a b fits here. omega arith) first s fresh r.now (length (r ∷ older)) (paid (λ _. 0) (r.timeout ∷ entries_of older))

@@ -1,20 +1,9 @@
 -- Of the pairs of a kind each delays another one at most once: in rounds in which kinds take turns and urgent pairs go first, a pair that is due
 -- is checked, or urgent pairs delay it.
-use Rattle.std.proofs.Common.{◌≡◌, ℕ, suc, ◌+◌, ◌-◌, ◌<◌, ◌≤◌, ◌==◌, ◌&&◌, ◌||◌, Bool, true, false, not, List, [], ◌∷◌, length, nat_lt, inl, inr, refl, ap, sym, subst, arith, if◌then◌else◌}
-use Rattle.std.specs.List.{list_any}
-use Rattle.std.proofs.lemmas.Bool.{eq-eqb, eqb-true}
-use Rattle.std.proofs.lemmas.Bool.Decides.{nat_tests}
-use Rattle.is_proto.specs.Lists.{Has}
-use Rattle.is_candidate.specs.Candidates.{CandidateRecord}
-use Rattle.is_pair.specs.Pairs.{PairRecord}
-use Rattle.is_rules.specs.Owed.{one_if}
-use Rattle.is_rules.specs.Sound.{IsSound}
-use Rattle.is_rules.proofs.PairLists.PairsByNumber.{has-any}
-use Rattle.is_rules.proofs.PairLists.RisingNumbers.{below-each, rising-each, AllBelow, AreRising}
-use Rattle.is_theorems.specs.KindsInTurn.{kind_in}
-use Rattle.is_theorems.specs.OwnKind.{IsHeldUp, PairsAreReachedInKind, TakesTurnsAmong}
-use Rattle.is_theorems.specs.KindsInTurn.{OfTimeoutsIn}
-use Rattle.is_theorems.specs.Rounds.{entries_of}
+use Rattle.is_theorems.proofs.Common.{[], ◌&&◌, ◌+◌, ◌-◌, ◌<◌, ◌==◌, ◌||◌, ◌∷◌, ◌≡◌, ◌≤◌, AllBelow, ap, AreRising, arith, below-each, Bool}
+use Rattle.is_theorems.proofs.Common.{CandidateRecord, entries_of, eq-eqb, eqb-true, false, Has, has-any, if◌then◌else◌, inl, inr, IsHeldUp}
+use Rattle.is_theorems.proofs.Common.{IsSound, kind_in, length, List, list_any, nat_lt, nat_tests, not, OfTimeoutsIn, one_if, PairRecord}
+use Rattle.is_theorems.proofs.Common.{PairsAreReachedInKind, refl, rising-each, subst, suc, sym, TakesTurnsAmong, true, ℕ}
 use Rattle.is_theorems.proofs.CallEffects.PathAndTradeEffects.{path_theorem}
 use Rattle.is_theorems.proofs.EarlierChecks.ChecksOfOtherPairs.{lead, leads, own, weight-two, is_early, Measure}
 use Rattle.is_theorems.proofs.ExecutionLogs.LogTheorems.{runs_sound}

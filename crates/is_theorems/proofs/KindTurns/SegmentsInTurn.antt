@@ -1,17 +1,8 @@
 -- Segments of a log in which kinds take turns, and how many of their `handle_timeout` calls have a property.
-use Rattle.std.proofs.Common.{◌≡◌, ℕ, suc, ◌+◌, zero, ◌&&◌, Bool, true, false, not, List, [], ◌∷◌, ◌++◌, Option, Some, None, is_some, inl, inr, ◌⊎◌, refl, ap, subst, arith}
-use Rattle.rand_core.specs.Stream.{Stream}
-use Rattle.is_proto.specs.Lists.{Has}
-use Rattle.is_stun.specs.Timing.{is_modern}
-use Rattle.is_candidate.specs.Candidates.{CandidateRecord}
-use Rattle.is_pair.specs.Pairs.{PairRecord}
-use Rattle.is_rules.specs.Agent.{AgentRecord}
-use Rattle.is_rules.specs.Checking.{are_kinds_in_turn}
-use Rattle.is_rules.specs.Connecting.{is_connected}
-use Rattle.is_rules.specs.declared.emitted.Emitted.{Emitted}
-use Rattle.is_theorems.specs.KindsInTurn.{kind_in, AtTimeoutsIn, HasPathIn, OfTimeoutsIn, TakesTurns}
-use Rattle.is_theorems.specs.Logs.{Logged}
-use Rattle.is_theorems.specs.Rounds.{RunsOn}
+use Rattle.is_theorems.proofs.Common.{[], ◌&&◌, ◌++◌, ◌+◌, ◌∷◌, ◌≡◌, ◌⊎◌, AgentRecord, ap, are_kinds_in_turn, arith, AtTimeoutsIn, Bool}
+use Rattle.is_theorems.proofs.Common.{CandidateRecord, Emitted, false, Has, HasPathIn, inl, inr, is_connected, is_modern, is_some, kind_in}
+use Rattle.is_theorems.proofs.Common.{List, Logged, None, not, OfTimeoutsIn, Option, PairRecord, refl, RunsOn, Some, Stream, subst, suc}
+use Rattle.is_theorems.proofs.Common.{TakesTurns, true, zero, ℕ}
 use Rattle.is_theorems.proofs.EarlierChecks.ChecksOfOtherPairs.{Measure}
 use Rattle.is_theorems.proofs.ExecutionLogs.SegmentsAsExecutions.{split-run}
 

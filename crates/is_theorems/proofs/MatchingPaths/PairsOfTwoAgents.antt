@@ -1,33 +1,16 @@
 -- Two agents send on the same path: the priorities of the four pairs leave no other possibility. The preconditions
 -- that mutants/specifications changes are read by tactics where they are used: if one of them is weaker, that goal stays
 -- unproved.
-use Rattle.std.proofs.Common.{◌≡◌, ◌≢◌, ℕ, ◌<◌, ◌≤◌, ◌==◌, Bool, true, false, not, List, [], ◌∷◌, Option, Some, None, inl, inr, refl, ap, sym, ◌∙◌, subst, arith}
-use Rattle.std.specs.Prelude.{slice_index}
-use Rattle.std.specs.Option.{option_map_or}
-use Rattle.std.proofs.lemmas.Bool.{eqb-true, eq-eqb}
-use Rattle.is_proto.specs.Lists.{Has}
-use Rattle.is_candidate.specs.Candidates.{CandidateRecord}
-use Rattle.is_pair.specs.Pairs.{PairRecord, new_pair}
-use Rattle.is_pair.specs.Priorities.{pair_priority}
-use Rattle.std.specs.declared.net.socket_addr.SocketAddr.{SocketAddr}
-use Rattle.std.specs.declared.net.socket_addr.SocketAddr.TheVariants.{V4, V6}
-use Rattle.is_proto.specs.declared.proto.Protocol.TheVariants.{Udp}
-use Rattle.is_candidate.specs.Making.{host_candidate}
-use Rattle.is_pair.specs.declared.pair.states.CheckState.TheVariants.{Succeeded}
-use Rattle.is_pair.specs.declared.pair.states.NominationState.TheVariants.{Success}
-use Rattle.is_rules.specs.declared.emitted.Path.{Path}
-use Rattle.is_rules.specs.Agent.{AgentRecord, fresh}
+use Rattle.is_theorems.proofs.Common.{[], ◌<◌, ◌==◌, ◌∙◌, ◌∷◌, ◌≡◌, ◌≢◌, ◌≤◌, AgentRecord, ap, AreCounterparts, arith, Bool}
+use Rattle.is_theorems.proofs.Common.{CandidateRecord, chosen-none, DisputesSplit, eq-eqb, eqb-true, false, followed, fresh, Has}
+use Rattle.is_theorems.proofs.Common.{HasEligible, HasLastSelected, host_candidate, inl, inr, is_eligible, IsAtNomination, IsChosen}
+use Rattle.is_theorems.proofs.Common.{IsGreatest, IsSamePath, IsTop, IsTopPath, IsTopSelected, IsUndisputed, List, Logged, new_pair, None}
+use Rattle.is_theorems.proofs.Common.{not, Option, option_map_or, pair_priority, pair_selected, PairRecord, Path, path_of, persists_at}
+use Rattle.is_theorems.proofs.Common.{PointsAreTop, RankAlike, RanksSettle, refl, remains, reverse_of, reversed, SelectedPairsMatch}
+use Rattle.is_theorems.proofs.Common.{SelectedPathsAreReversed, SelectedPathsMatch, selection_of, slice_index, SocketAddr, Some, subst}
+use Rattle.is_theorems.proofs.Common.{Succeeded, Success, sym, TopPathsMatch, true, Udp, V4, V6, ℕ}
 use Rattle.is_theorems.proofs.WorkedExamples.ExampleAgents.{address_1, address_2, address_3, creds_1, creds_2, path_12}
-use Rattle.is_rules.specs.Nominating.{followed, is_eligible, pair_selected, remains, selection_of, persists_at, IsChosen}
-use Rattle.is_theorems.specs.Logs.{Logged}
-use Rattle.is_rules.specs.Points.{IsTopSelected}
-use Rattle.is_theorems.specs.Runs.{IsTopPath, PointsAreTop}
-use Rattle.is_theorems.proofs.BasicLemmas.GreatestAndLeastPairs.{none-has}
-use Rattle.is_theorems.specs.SamePath.{reverse_of, HasEligible, IsTop, HasLastSelected, IsSamePath, AreCounterparts, IsUndisputed, RankAlike, TopPathsMatch, DisputesSplit, RanksSettle, SelectedPairsMatch, SelectedPathsMatch, IsAtNomination, SelectedPathsAreReversed}
-use Rattle.is_pair.specs.Multiset.{IsGreatest}
-use Rattle.is_rules.proofs.PairLists.ChosenPair.{chosen-none}
-use Rattle.is_rules.specs.Sending.{path_of}
-use Rattle.is_rules.specs.Emitted.{reversed}
+use Rattle.is_theorems.proofs.BasicLemmas.MembersOfLists.{none-has}
 
 some_is : {X : Type 0} (x y : X) → Some x ≡ Some y → x ≡ y
 some_is x y is = cc

@@ -1,23 +1,9 @@
 -- Two agents that send on the same path by their priorities.
-use Rattle.std.proofs.Common.{◌≡◌, ℕ, ◌≤◌, true, List, [], ◌∷◌, Some, None, inl, inr, refl, ap, sym, ◌∙◌, subst, arith}
-use Rattle.is_proto.specs.Lists.{Has}
-use Rattle.is_proto.specs.declared.proto.Protocol.TheVariants.{Udp}
-use Rattle.std.specs.Prelude.{codes}
-use Rattle.std.specs.declared.net.socket_addr.SocketAddr.{SocketAddr}
-use Rattle.std.specs.declared.net.socket_addr.SocketAddr.TheVariants.{V4}
-use Rattle.is_candidate.specs.Candidates.{CandidateRecord}
-use Rattle.is_candidate.specs.Making.{host_candidate}
-use Rattle.is_pair.specs.Pairs.{PairRecord, new_pair}
-use Rattle.is_pair.specs.Priorities.{pair_priority}
-use Rattle.is_pair.specs.declared.pair.states.CheckState.TheVariants.{Succeeded}
-use Rattle.is_pair.specs.declared.pair.states.NominationState.TheVariants.{Success}
-use Rattle.is_rules.specs.declared.credentials.IceCreds.{IceCreds}
-use Rattle.is_rules.specs.Agent.{AgentRecord, fresh}
-use Rattle.is_theorems.specs.Logs.{Logged}
-use Rattle.is_theorems.specs.Runs.{IsTopPath, PointsAreTop}
-use Rattle.is_theorems.specs.SamePath.{HasEligible, IsAtNomination, SelectedPathsMatch}
-use Rattle.is_rules.specs.Sending.{path_of}
 use Rattle.is_theorems.specs.Matching.{SelectedPathsAreSeen, PairsMayMatch}
+use Rattle.is_theorems.proofs.Common.{[], ◌∙◌, ◌∷◌, ◌≡◌, ◌≤◌, AgentRecord, ap, arith, CandidateRecord, codes, fresh, Has, HasEligible}
+use Rattle.is_theorems.proofs.Common.{host_candidate, IceCreds, inl, inr, IsAtNomination, IsTopPath, List, Logged, new_pair, None}
+use Rattle.is_theorems.proofs.Common.{pair_priority, PairRecord, path_of, PointsAreTop, refl, SelectedPathsMatch, SocketAddr, Some, subst}
+use Rattle.is_theorems.proofs.Common.{Succeeded, Success, sym, true, Udp, V4, ℕ}
 
 module _ {H P : Type 0} (mac : H → List ℕ → List ℕ → List ℕ) (answers : P → CandidateRecord → ℕ → ℕ → Type 0) (tops : PointsAreTop {H = H} mac answers) where
   -- right after nomination was evaluated, the path selected last is that of a best pair

@@ -1,21 +1,11 @@
 -- Of the eligible pairs the one with the greatest number is first, and stays so once it is selected.
-use Rattle.std.proofs.Common.{◌≡◌, ℕ, ◌<◌, ◌≤◌, ◌==◌, ◌&&◌, ◌||◌, Bool, true, false, not, List, [], ◌∷◌, map, max, nat_lt, Option, Some, None, inl, inr, ◌⊎◌, refl, ap, sym, ◌∙◌, subst, arith, if◌then◌else◌}
-use Rattle.std.specs.Prelude.{option_map}
-use Rattle.std.specs.Option.{option_map_or}
-use Rattle.std.proofs.lemmas.Bool.{eqb-true, eq-eqb}
-use Rattle.std.proofs.lemmas.Bool.Decides.{nat_tests}
-use Rattle.is_proto.specs.Lists.{Has}
-use Rattle.is_pair.specs.Pairs.{PairRecord}
-use Rattle.is_pair.specs.Multiset.{is_named_by}
-use Rattle.is_rules.proofs.PairLists.ChosenPair.{no-some, same-some}
-use Rattle.is_rules.proofs.PairLists.RisingNumbers.{AreRising}
-use Rattle.is_rules.specs.Nominating.{first_after, first_numbered, first_with, if_eligible, is_eligible, number_of, outnumbers}
+use Rattle.is_theorems.proofs.Common.{[], ◌&&◌, ◌==◌, ◌||◌, ◌∙◌, ◌∷◌, ◌≡◌, ◌≤◌, ◌⊎◌, ap, AreRising, arith, Bool, eq-eqb, eqb-true, false}
+use Rattle.is_theorems.proofs.Common.{first_after, first_numbered, first_with, Has, if_eligible, if◌then◌else◌, inl, inr, is_eligible}
+use Rattle.is_theorems.proofs.Common.{is_named_by, List, map, max, nat_lt, nat_tests, no-some, None, not, number_of, Option, option_map}
+use Rattle.is_theorems.proofs.Common.{option_map_or, outnumbers, PairRecord, refl, same-some, Some, subst, sym, true, ℕ}
 use Rattle.is_theorems.proofs.RuleEffects.SelectedPaths.{one_pair}
 
 -- ---- one comparison
-
-lt-is : (a b : ℕ) → a < b → nat_lt a b ≡ true
-lt-is a b h = grind (arith, nat_tests, h)
 
 lt-not : (a b : ℕ) → b ≤ a → nat_lt a b ≡ false
 lt-not a b h = grind (arith, nat_tests, h)

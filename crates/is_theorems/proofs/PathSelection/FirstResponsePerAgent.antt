@@ -1,16 +1,8 @@
 -- If no pair is valid, the first accepted success response makes a controlling agent select a path in a per-agent execution. The
 -- preconditions that mutants/specifications changes are read by tactics.
-use Rattle.std.proofs.Common.{◌≡◌, ℕ, true, false, List, [], ◌∷◌, ◌++◌, Option, Some, None, is_some, inl, inr, refl, ap, sym, ◌∙◌, subst}
-use Rattle.is_proto.specs.Lists.{Has}
-use Rattle.is_candidate.specs.Candidates.{CandidateRecord}
-use Rattle.is_pair.specs.Pairs.{PairRecord, is_valid}
-use Rattle.is_rules.specs.declared.emitted.Path.{Path}
-use Rattle.is_rules.specs.Agent.{AgentRecord}
-use Rattle.is_theorems.specs.AskedExecutions.{selected_along, SelectsAlong, SuccessesSelect}
-use Rattle.is_rules.specs.Effects.{last_of}
-use Rattle.is_theorems.specs.Exchange.{Execution}
-use Rattle.is_rules.specs.Sound.{IsSound}
-use Rattle.is_rules.specs.Steps.{Call, Entry, ReceivePacket}
+use Rattle.is_theorems.proofs.Common.{[], ◌++◌, ◌∙◌, ◌∷◌, ◌≡◌, AgentRecord, ap, Call, CandidateRecord, Entry, Execution, false, Has, inl}
+use Rattle.is_theorems.proofs.Common.{inr, is_some, is_valid, IsSound, last_of, List, None, Option, PairRecord, Path, ReceivePacket, refl}
+use Rattle.is_theorems.proofs.Common.{selected_along, SelectsAlong, Some, subst, SuccessesSelect, sym, true, ℕ}
 use Rattle.is_theorems.proofs.PathSelection.SelectedAfterFirstResponse.{one-named}
 use Rattle.is_theorems.proofs.PathSelection.SelectedAfterResponse.{eligible}
 use Rattle.is_theorems.proofs.PathSelection.NominatedByPeerPerAgent.{execution_on, names-from}

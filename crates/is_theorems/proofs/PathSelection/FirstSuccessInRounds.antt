@@ -1,27 +1,14 @@
 -- A controlling agent without a valid pair selects a path at the first success response that it accepts: in a call, and in rounds.
-use Rattle.std.proofs.Common.{◌≡◌, ℕ, Bool, true, List, [], ◌∷◌, ◌++◌, None, is_some, inl, inr, ◌⊎◌, refl, ap, sym, ◌∙◌, subst, arith}
-use Rattle.rand_core.specs.Stream.{Stream}
-use Rattle.is_proto.specs.Lists.{Has}
-use Rattle.is_candidate.specs.Candidates.{CandidateRecord}
 use Rattle.is_stun.specs.declared.header.Class.TheVariants as class
-use Rattle.is_stun.specs.Message.{Message}
-use Rattle.is_stun.specs.Reading.{Reads}
-use Rattle.is_stun.specs.Timing.{is_modern}
-use Rattle.is_rules.specs.Agent.{AgentRecord}
-use Rattle.is_rules.specs.declared.emitted.Path.{Path}
-use Rattle.is_rules.specs.Effects.{last_of}
-use Rattle.is_rules.specs.Points.{HasSelected}
-use Rattle.is_rules.specs.Sound.{IsSound}
-use Rattle.is_rules.specs.Steps.{Call, Entry, Flag, ReceivePacket, HandleTimeout, Step}
-use Rattle.is_theorems.specs.AskedExecutions.{selected_along, SelectsAlong, SuccessesSelect}
-use Rattle.is_theorems.specs.Executions.{AcceptsSuccess, ControlsAlong, ExecutionRound, ExecutionRounds}
-use Rattle.is_theorems.specs.Exchange.{Execution}
-use Rattle.is_theorems.specs.FirstTimeouts.{AreInRound}
-use Rattle.is_theorems.specs.Runs.{IsFresh}
-use Rattle.is_theorems.specs.SelectedInTime.{AcceptsBy, SelectsBy}
+use Rattle.is_theorems.proofs.Common.{[], ◌++◌, ◌∙◌, ◌∷◌, ◌≡◌, ◌⊎◌, AcceptsBy, AcceptsSuccess, AgentRecord, ap, AreInRound, arith, Bool}
+use Rattle.is_theorems.proofs.Common.{Call, CandidateRecord, ControlsAlong, Entry, Execution, ExecutionRound, ExecutionRounds, Flag}
+use Rattle.is_theorems.proofs.Common.{HandleTimeout, Has, HasSelected, inl, inr, is_modern, is_some, IsFresh, IsSound, last_of, List}
+use Rattle.is_theorems.proofs.Common.{Message, None, Path, Reads, ReceivePacket, refl, selected_along, SelectsAlong, SelectsBy, Step}
+use Rattle.is_theorems.proofs.Common.{Stream, subst, SuccessesSelect, sym, true, ℕ}
 use Rattle.is_theorems.proofs.CallEffects.PathAndTradeEffects.{path_theorem}
 use Rattle.is_theorems.proofs.DuePairs.AfterPackets.{NoneValid}
-use Rattle.is_theorems.proofs.DuePairs.NoNominationDue.{Quiet, as-is, modern-execution, modern-stays, modern-stays-timeout, quiet-call, quiet-timeout}
+use Rattle.is_theorems.proofs.DuePairs.NoNominationDue.{Quiet, as-is, modern-execution, modern-stays, modern-stays-timeout, quiet-call}
+use Rattle.is_theorems.proofs.DuePairs.NoNominationDue.{quiet-timeout}
 use Rattle.is_theorems.proofs.PathSelection.NominatedByPeerPerAgent.{execution_on}
 use Rattle.is_theorems.proofs.StoredPairs.TransactionsOverPackets.{sound-execution}
 

@@ -1,17 +1,11 @@
 -- After nomination the selected pair exists, and is a greatest one among the eligible.
-use Rattle.std.proofs.Common.{◌≡◌, ℕ, ◌≤◌, ◌==◌, ◌&&◌, ◌||◌, Bool, true, false, not, List, [], ◌∷◌, map, Option, Some, None, inl, inr, refl, ap, sym, ◌∙◌, subst, arith, cond, if◌then◌else◌}
-use Rattle.std.specs.Prelude.{find, MatchOption, option_map}
-use Rattle.std.specs.Option.{option_map_or, option_and_then, option_or}
-use Rattle.std.proofs.lemmas.Bool.{eqb-true, eq-eqb}
-use Rattle.is_proto.specs.Lists.{Has}
-use Rattle.is_pair.specs.Pairs.{PairRecord, is_valid, is_nominated, nominated}
-use Rattle.is_rules.specs.declared.emitted.Path.{Path}
-use Rattle.is_rules.specs.Agent.{AgentRecord}
-use Rattle.is_pair.specs.Multiset.{is_numbered, change_at, change_pair, IsGreatest}
-use Rattle.is_rules.proofs.PairLists.RisingNumbers.{AreRising}
-use Rattle.is_rules.specs.Nominating.{is_eligible, nominated_by_self, persists_at, Nominates, favored, first_numbered, followed, followed_by_number, numbers, remains, selection, selection_of, if_eligible, eligible_numbered, IsChosen}
-use Rattle.is_rules.specs.Points.{IsTopSelected}
-use Rattle.is_rules.proofs.PairLists.ChosenPair.{chosen-able, no-some, same-some}
+use Rattle.is_theorems.proofs.Common.{[], ◌&&◌, ◌==◌, ◌||◌, ◌∙◌, ◌∷◌, ◌≡◌, ◌≤◌, AgentRecord, ap, AreRising, arith, Bool, change_at}
+use Rattle.is_theorems.proofs.Common.{change_pair, chosen-able, cond, eligible_numbered, eq-eqb, eqb-true, false, favored, find}
+use Rattle.is_theorems.proofs.Common.{first_numbered, followed, followed_by_number, Has, if_eligible, if◌then◌else◌, inl, inr, is_eligible}
+use Rattle.is_theorems.proofs.Common.{is_nominated, is_numbered, is_valid, IsChosen, IsGreatest, IsTopSelected, List, map, MatchOption}
+use Rattle.is_theorems.proofs.Common.{no-some, nominated, nominated_by_self, Nominates, None, not, numbers, Option, option_and_then}
+use Rattle.is_theorems.proofs.Common.{option_map, option_map_or, option_or, PairRecord, Path, persists_at, refl, remains, same-some}
+use Rattle.is_theorems.proofs.Common.{selection, selection_of, Some, subst, sym, true, ℕ}
 use Rattle.is_theorems.proofs.PathSelection.FirstNumbered.{first-in, first-stays, first-there}
 use Rattle.is_theorems.proofs.RuleEffects.UnchangedSettings.{either}
 use Rattle.is_theorems.proofs.RuleEffects.ChangedPairs.{Has-map}

@@ -1,29 +1,12 @@
 -- If a path was nominated by the peer and answered, the next `handle_timeout` call selects it. The preconditions that
 -- mutants/specifications changes are read by tactics.
-use Rattle.std.proofs.Common.{◌≡◌, ℕ, Bool, true, List, [], ◌∷◌, ◌++◌, length, None, inl, inr, ◌⊎◌, refl, ap, sym, ◌∙◌, subst, append_assoc}
-use Rattle.rand_core.specs.Stream.{Stream}
-use Rattle.is_proto.specs.Lists.{Has}
-use Rattle.is_candidate.specs.Candidates.{CandidateRecord}
-use Rattle.is_pair.specs.Pairs.{PairRecord, is_valid, is_nominated}
-use Rattle.is_pair.specs.Multiset.{keeps_check}
 use Rattle.is_stun.specs.declared.header.Class.TheVariants as class
-use Rattle.is_rules.specs.declared.emitted.Issued.{Issued}
-use Rattle.is_rules.specs.declared.emitted.Path.{Path}
-use Rattle.is_rules.specs.Agent.{AgentRecord}
-use Rattle.is_rules.specs.Answers.{is_reverse}
-use Rattle.is_theorems.specs.Asked.{IsAnsweredOn, IsAnsweredIn, IsOnlyPair, UsesAddressesOf, IsAskedOn, IsAskedIn, MayEndIn, AskedAreSelected}
-use Rattle.is_rules.specs.Brought.{IsServing, IsNominatedOn}
-use Rattle.is_rules.specs.Effects.{PathEffect}
-use Rattle.is_theorems.specs.Logs.{Logged}
-use Rattle.is_rules.specs.Queue.{request_at}
-use Rattle.is_rules.specs.Request.{RequestRecord, request_in}
-use Rattle.is_theorems.specs.Rounds.{RunsOn}
-use Rattle.is_theorems.specs.Runs.{IsFresh, Run, Point, IsTopPath}
-use Rattle.is_rules.specs.Sending.{path_of}
-use Rattle.is_rules.specs.Sound.{IsSound, GivesBased}
-use Rattle.is_theorems.specs.Staying.{Stays}
-use Rattle.is_rules.specs.Steps.{Call, Entry, HandleTimeout, ReceivePacket, Step}
-use Rattle.is_rules.specs.Emitted.{issued_as}
+use Rattle.is_theorems.proofs.Common.{[], ◌++◌, ◌∙◌, ◌∷◌, ◌≡◌, ◌⊎◌, AgentRecord, ap, append_assoc, AskedAreSelected, Bool, Call}
+use Rattle.is_theorems.proofs.Common.{CandidateRecord, Entry, GivesBased, HandleTimeout, Has, inl, inr, is_nominated, is_reverse, is_valid}
+use Rattle.is_theorems.proofs.Common.{IsAnsweredIn, IsAnsweredOn, IsAskedIn, IsAskedOn, IsFresh, IsNominatedOn, IsOnlyPair, IsServing}
+use Rattle.is_theorems.proofs.Common.{IsSound, Issued, issued_as, IsTopPath, keeps_check, length, List, Logged, MayEndIn, nominates, None}
+use Rattle.is_theorems.proofs.Common.{PairRecord, Path, path_of, PathEffect, Point, ReceivePacket, refl, request_at, request_in}
+use Rattle.is_theorems.proofs.Common.{RequestRecord, Run, RunsOn, Stays, Step, Stream, subst, sym, true, UsesAddressesOf, ℕ}
 use Rattle.is_theorems.proofs.BasicLemmas.EqualAddresses.{both, same_address-sound}
 use Rattle.is_theorems.proofs.PathSelection.SelectedAfterResponse.{timeouts-announce}
 use Rattle.is_theorems.proofs.CallEffects.PathAndTradeEffects.{path_theorem}
@@ -31,7 +14,6 @@ use Rattle.is_theorems.proofs.ExecutionLogs.LogTheorems.{runs_sound}
 use Rattle.is_theorems.proofs.ExecutionLogs.LogSegments.{run-on}
 use Rattle.is_theorems.proofs.StoredPairs.PairsThatStay.{pairs-stay}
 use Rattle.is_theorems.proofs.RuleEffects.SelectedPaths.{some_is}
-use Rattle.is_rules.specs.Serving.{nominates}
 
 -- a packet on the reverse path goes between the addresses of the path
 pub back-on : (by a b : Path) → is_reverse by a ≡ true → is_reverse by b ≡ true → (a.source ≡ b.source) × (a.destination ≡ b.destination)

@@ -1,31 +1,14 @@
 -- If a path was nominated and answered in a per-agent execution, the next `handle_timeout` call selects it.
-use Rattle.std.proofs.Common.{◌≡◌, ℕ, Bool, true, false, List, [], ◌∷◌, ◌++◌, Option, Some, None, is_some, inl, inr, ◌⊎◌, refl, ap, sym, ◌∙◌, subst, if◌then◌else◌}
-use Rattle.std.specs.Option.{option_or}
-use Rattle.rand_core.specs.Stream.{Stream}
-use Rattle.is_proto.specs.Lists.{Has}
-use Rattle.is_candidate.specs.Candidates.{CandidateRecord}
-use Rattle.is_pair.specs.Multiset.{keeps_check}
-use Rattle.is_pair.specs.Pairs.{PairRecord, is_valid, is_nominated}
 use Rattle.is_stun.specs.declared.header.Class.TheVariants as class
-use Rattle.is_rules.specs.declared.emitted.Issued.{Issued}
-use Rattle.is_rules.specs.declared.emitted.Path.{Path}
-use Rattle.is_rules.specs.Agent.{AgentRecord}
-use Rattle.is_rules.specs.Answers.{is_reverse}
-use Rattle.is_theorems.specs.Asked.{UsesAddressesOf}
-use Rattle.is_theorems.specs.AskedExecutions.{selected_along, AcceptsSuccessOn, SelectsAlong, Ends, EndsAlong, AcceptsNominationAlong, AcceptedNominationsAreSelected}
-use Rattle.is_theorems.specs.Asking.{AcceptsNomination}
-use Rattle.is_rules.specs.Effects.{PathEffect, clears, last_of}
-use Rattle.is_theorems.specs.Exchange.{Execution}
-use Rattle.is_rules.specs.Points.{HasSelected}
-use Rattle.is_rules.specs.Sending.{path_of}
-use Rattle.is_rules.specs.Sound.{IsSound, GivesBased}
-use Rattle.is_theorems.specs.Staying.{Stays}
-use Rattle.is_rules.specs.Steps.{Call, Entry, HandleTimeout, Step}
-use Rattle.is_rules.specs.Emitted.{issued_as}
+use Rattle.is_theorems.proofs.Common.{[], ◌++◌, ◌∙◌, ◌∷◌, ◌≡◌, ◌⊎◌, AcceptedNominationsAreSelected, AcceptsNomination}
+use Rattle.is_theorems.proofs.Common.{AcceptsNominationAlong, AcceptsSuccessOn, AgentRecord, ap, Bool, Call, CandidateRecord, clears, Ends}
+use Rattle.is_theorems.proofs.Common.{EndsAlong, Entry, Execution, false, GivesBased, HandleTimeout, Has, HasSelected, if◌then◌else◌, inl}
+use Rattle.is_theorems.proofs.Common.{inr, is_nominated, is_reverse, is_some, is_valid, IsSound, Issued, issued_as, keeps_check, last_of}
+use Rattle.is_theorems.proofs.Common.{List, no-some, None, Option, option_or, PairRecord, Path, path_of, PathEffect, refl, selected_along}
+use Rattle.is_theorems.proofs.Common.{SelectsAlong, Some, Stays, Step, Stream, subst, sym, true, UsesAddressesOf, ℕ}
 use Rattle.is_theorems.proofs.BasicLemmas.EqualAddresses.{both}
 use Rattle.is_theorems.proofs.PathSelection.SelectedAfterResponse.{nominated-eligible}
 use Rattle.is_theorems.proofs.PathSelection.NominatedByPeer.{back-on, uses-too}
-use Rattle.is_rules.proofs.PairLists.ChosenPair.{no-some}
 use Rattle.is_theorems.proofs.CallEffects.PathAndTradeEffects.{path_theorem}
 use Rattle.is_theorems.proofs.PathSelection.SelectedPairIsNominated.{IsNamed, names-best, names-next}
 use Rattle.is_theorems.proofs.CallEffects.FailedCallsAndNewAgents.{fresh_sound}
@@ -66,7 +49,7 @@ module _ {H P : Type 0} where
         names-along rest mid new (option_or (last_of x.1.emitted.selected_paths) (if clears x.0 x.1.answer then None else path)) law.1 more
         (names-next mac old mid x.0 x.1 path law.0 sound were)
 
-    -- the same from a new agent on
+    -- from a new agent on, `selected_pair` names the pair of the path that was selected last
     pub names-from : (xs : List (Call P × Entry)) (first last : AgentRecord H P) → IsSound first → first.pairs ≡ [] → Execution mac answers xs first last → IsNamed (selected_along None xs) last
     names-from xs first last sound none execution =
         names-along xs first last None sound execution (λ p has is. absurd (subst (λ (ps : List PairRecord). Has ps p) none has))

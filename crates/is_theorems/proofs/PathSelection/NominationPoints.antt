@@ -1,44 +1,22 @@
 -- If nomination is evaluated at the end of a step, the selected pair is a greatest one, and the pair that takes a
 -- response is valid.
-use Rattle.std.proofs.Common.{◌≡◌, ℕ, zero, suc, ◌<◌, ◌≤◌, ◌==◌, ◌&&◌, ◌||◌, Bool, true, false, not, List, [], ◌∷◌, map, filter, Option, Some, None, Result, Ok, Err, inl, inr, refl, ap, sym, ◌∙◌, subst, arith, cond, if◌then◌else◌}
-use Rattle.std.specs.Prelude.{find, option_map, slice_get, slice_set, MatchOption, IfSome}
-use Rattle.std.specs.List.{list_any}
-use Rattle.std.specs.Option.{option_map_or, option_and_then, option_or}
-use Rattle.std.proofs.lemmas.Bool.{eq-eqb}
-use Rattle.rand_core.specs.Stream.{Stream}
-use Rattle.is_proto.specs.Lists.{Has, NonePass}
-use Rattle.is_proto.specs.declared.error.IceError.{IceError}
-use Rattle.is_candidate.specs.Candidates.{CandidateRecord}
-use Rattle.is_pair.specs.declared.pair.states.CheckState.{CheckState}
-use Rattle.is_pair.specs.declared.pair.states.CheckState.TheVariants.{Waiting, InProgress, Succeeded}
-use Rattle.is_pair.specs.States.{is_valid_state, state_once_sent, state_once_answered}
-use Rattle.is_pair.specs.Checks.{Check, has_id, answered_at}
-use Rattle.is_pair.specs.Pairs.{PairRecord, is_valid, is_nominated, checked, heard, heard_at, renominated}
-use Rattle.is_pair.specs.Due.{asked}
 use Rattle.is_stun.specs.declared.header.Class.TheVariants as class
-use Rattle.is_stun.specs.declared.timing.StunTiming.{StunTiming}
-use Rattle.is_stun.specs.Message.{Message}
-use Rattle.is_rules.specs.declared.credentials.IceCreds.{IceCreds}
-use Rattle.is_rules.specs.declared.emitted.Issued.{Issued}
-use Rattle.is_rules.specs.declared.emitted.Path.{Path}
-use Rattle.is_rules.specs.declared.emitted.Emitted.{Emitted}
-use Rattle.is_rules.proofs.PairLists.RisingNumbers.{rising-each, below-each}
+use Rattle.is_theorems.proofs.Common.{[], ◌&&◌, ◌<◌, ◌==◌, ◌||◌, ◌∙◌, ◌∷◌, ◌≡◌, ◌≤◌, AgentRecord, all_scheduled, answer_by, answered_at}
+use Rattle.is_theorems.proofs.Common.{AnswersAreValid, ap, arith, scheduled, at_request, at_timeout, below-each, Bool, Brings, Call}
+use Rattle.is_theorems.proofs.Common.{CandidateRecord, change_at, Check, checked, CheckState, ChecksTop, cond, Done, done}
+use Rattle.is_theorems.proofs.Common.{eligible_numbered, Emitted, Entry, eq-eqb, Err, expired_gone, false, favored, filter, find, Flag}
+use Rattle.is_theorems.proofs.Common.{followed, followed_by_number, HandlesSuccess, HandleTimeout, Has, has_id, heard, heard_at, IceCreds}
+use Rattle.is_theorems.proofs.Common.{IceError, if_eligible, IfSome, if◌then◌else◌, inl, InProgress, inr, is_eligible, is_expired}
+use Rattle.is_theorems.proofs.Common.{is_nominated, is_numbered, is_reverse, is_started_state, is_valid, is_valid_state, IsChosen}
+use Rattle.is_theorems.proofs.Common.{IsGreatest, IsNominationPoint, IsSound, Issued, IsTopSelected, keeps_check, keeps_check_on, List}
+use Rattle.is_theorems.proofs.Common.{list_any, MaintainsPairs, map, MatchOption, MayCheck, Message, nominated_by_self, Nominates}
+use Rattle.is_theorems.proofs.Common.{nominates_at_once, None, none_pass, NonePass, not, numbers, Ok, Option, option_and_then, option_map}
+use Rattle.is_theorems.proofs.Common.{option_map_or, option_or, pair_numbered, PairRecord, Path, path_left, path_of, ReceivePacket, refl}
+use Rattle.is_theorems.proofs.Common.{Rejected, remains, RemovesExpired, renominated, request_at, RequestRecord, Result, rising-each}
+use Rattle.is_theorems.proofs.Common.{selection, selection_of, ServesQueued, slice_get, slice_set, Some, state_once_answered}
+use Rattle.is_theorems.proofs.Common.{state_once_sent, Step, Stream, StunTiming, subst, suc, Succeeded, sym, Takes, timeout_begun, TimesOut}
+use Rattle.is_theorems.proofs.Common.{true, Unparsed, Waiting, zero, ℕ}
 use Rattle.is_theorems.proofs.BasicLemmas.EqualAddresses.{both}
-use Rattle.is_rules.specs.Request.{RequestRecord}
-use Rattle.is_rules.specs.Steps.{answer_by, done, Done, Flag, Unparsed, Rejected, Entry}
-use Rattle.is_rules.specs.Agent.{AgentRecord}
-use Rattle.is_pair.specs.Multiset.{is_numbered, change_at, pair_numbered, IsGreatest, keeps_check}
-use Rattle.is_rules.specs.Sending.{path_of}
-use Rattle.is_rules.specs.Nominating.{is_eligible, nominated_by_self, Nominates, followed, followed_by_number, nominates_at_once, numbers, remains, selection, selection_of, favored, if_eligible, eligible_numbered, IsChosen}
-use Rattle.is_rules.specs.Queue.{request_at}
-use Rattle.is_rules.specs.Answers.{is_reverse, keeps_check_on, HandlesSuccess}
-use Rattle.is_rules.specs.Accepting.{Takes}
-use Rattle.is_rules.specs.Checking.{all_asked, ChecksTop, MayCheck}
-use Rattle.is_rules.specs.Timeouts.{at_request, is_expired, expired_gone, RemovesExpired, at_timeout, timeout_begun, MaintainsPairs, ServesQueued, TimesOut}
-use Rattle.is_rules.specs.Steps.{Call, ReceivePacket, HandleTimeout, Step}
-use Rattle.is_rules.specs.Sound.{IsSound, is_started_state}
-use Rattle.is_rules.specs.Brought.{Brings}
-use Rattle.is_rules.specs.Points.{IsNominationPoint, IsTopSelected, AnswersAreValid}
 use Rattle.is_theorems.proofs.RuleEffects.UnchangedSettings.{either}
 use Rattle.is_theorems.proofs.RuleEffects.SelectedPaths.{one_pair, some_is}
 use Rattle.is_theorems.proofs.RuleEffects.EarlierAndNewPairs.{Fit, thinned}
@@ -48,9 +26,7 @@ use Rattle.is_theorems.proofs.CallEffects.ServedRequests.{Has-mapped}
 use Rattle.is_theorems.proofs.PathSelection.FirstNumbered.{SameOrder, number-mapped}
 use Rattle.is_theorems.proofs.PathSelection.GreatestEligiblePair.{followed-on, nominates_top}
 use Rattle.is_theorems.proofs.BasicLemmas.PairsInTurn.{by-begins, sent_at, sent-pairs}
-use Rattle.is_rules.proofs.PairLists.ChosenPair.{none_pass}
 use Rattle.is_theorems.proofs.RuleEffects.NominatedPairs.{SelectsPath, selects_path}
-use Rattle.is_rules.specs.Leaving.{path_left}
 
 -- ---- lists
 
@@ -258,17 +234,17 @@ module _ {H P : Type 0} where
       (λ _ k. subst (λ (a : AgentRecord H P). IsTopSelected a) (sym k.1)
       (mapped-top old (heard now) (λ p. heard_alike old.controlling now p.last_request p) top))
       (λ _ k. next k.0 k.2) where
-        all_top : IsTopSelected (all_asked now old)
-        all_top = mapped-top old (asked now old.timing) (λ p. record { number = refl; priority = refl; greatest = refl; eligible = refl }) top
+        all_top : IsTopSelected (all_scheduled now old)
+        all_top = mapped-top old (scheduled now old.timing) (λ p. record { number = refl; priority = refl; greatest = refl; eligible = refl }) top
 
-        next : (due : Option PairRecord) → ChecksTop mac now remote due (all_asked now old) s issued new t → IsTopSelected new
+        next : (due : Option PairRecord) → ChecksTop mac now remote due (all_scheduled now old) s issued new t → IsTopSelected new
         next None (is, made, drawn) = subst (λ (a : AgentRecord H P). IsTopSelected a) (sym made) all_top
         next (Some p) (id, drawn, values, is, made) =
-            let begins : Bool = nominates_at_once (all_asked now old) in
+            let begins : Bool = nominates_at_once (all_scheduled now old) in
             let change : PairRecord → PairRecord = sent_at begins now old.timing old.controlling id in
             subst (λ (a : AgentRecord H P). IsTopSelected a) (sym made)
-            (subst (λ (ps : List PairRecord). IsTopSelected (record (all_asked now old) { pairs = ps })) (sym (sent-pairs begins p.number now old.timing old.controlling id (map (asked now old.timing) old.pairs)))
-            (mapped-top (all_asked now old) (change_at p.number change)
+            (subst (λ (ps : List PairRecord). IsTopSelected (record (all_scheduled now old) { pairs = ps })) (sym (sent-pairs begins p.number now old.timing old.controlling id (map (scheduled now old.timing) old.pairs)))
+            (mapped-top (all_scheduled now old) (change_at p.number change)
             (λ q. alike_if (is_numbered p.number q) old.controlling q (change q) (sent-alike begins old.controlling now old.timing old.controlling id q)) all_top))
 
   abbrev pub FitOf : AgentRecord H P → Type 0

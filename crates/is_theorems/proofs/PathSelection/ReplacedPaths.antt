@@ -1,30 +1,12 @@
 -- A pair that did not expire is removed by a `handle_timeout` call only if it gives way to another one, which stays.
-use Rattle.std.proofs.Common.{◌≡◌, ℕ, ◌==◌, ◌<◌, ◌&&◌, ◌||◌, Bool, true, false, not, List, Option, Some, None, is_some, unwrap_or, nat_lt, Ok, Err, inl, inr, refl, ap, sym, ◌∙◌, subst, arith}
-use Rattle.std.specs.Prelude.{MatchOption}
-use Rattle.std.specs.Option.{option_map_or}
-use Rattle.std.proofs.lemmas.Bool.{eq-eqb, eqb-true}
-use Rattle.std.proofs.lemmas.Bool.Decides.{nat_tests}
-use Rattle.rand_core.specs.Stream.{Stream}
-use Rattle.is_proto.specs.Lists.{Has}
-use Rattle.is_candidate.specs.Candidates.{CandidateRecord}
-use Rattle.is_pair.specs.declared.pair.silence.Span.{Span}
-use Rattle.is_pair.specs.Checks.{Check, first_unanswered, is_answered}
-use Rattle.is_pair.specs.Multiset.{is_named_by, is_numbered}
-use Rattle.is_pair.specs.Pairs.{PairRecord, is_valid, is_nominated}
-use Rattle.is_pair.specs.Silence.{FOLLOWING, first_of_last, is_answered_by, is_answered_within, outlives, span_between, span_from}
-use Rattle.is_rules.specs.declared.emitted.Emitted.{Emitted}
-use Rattle.is_rules.specs.Agent.{AgentRecord}
-use Rattle.is_rules.specs.Leaving.{gives_way}
-use Rattle.is_rules.specs.Nominating.{is_eligible}
-use Rattle.is_rules.specs.Queue.{request_at}
-use Rattle.is_rules.specs.Request.{RequestRecord}
-use Rattle.is_rules.specs.Sound.{IsSound}
-use Rattle.is_rules.specs.Steps.{HandleTimeout, Entry, Step}
-use Rattle.is_rules.specs.Timeouts.{at_request, is_expired, timeout_begun, MaintainsPairs, ServesQueued}
-use Rattle.is_rules.proofs.PairLists.ChosenPair.{named-by}
 use Rattle.is_theorems.specs.GivingWay.{IsReplaced, PathsAreReplaced}
-use Rattle.is_theorems.specs.Progress.{IsGone}
-use Rattle.is_theorems.specs.Staying.{Stays}
+use Rattle.is_theorems.proofs.Common.{◌&&◌, ◌<◌, ◌==◌, ◌||◌, ◌∙◌, ◌≡◌, AgentRecord, ap, arith, at_request, Bool, CandidateRecord, Check}
+use Rattle.is_theorems.proofs.Common.{Emitted, Entry, eq-eqb, eqb-true, Err, false, first_of_last, first_unanswered, FOLLOWING, gives_way}
+use Rattle.is_theorems.proofs.Common.{HandleTimeout, Has, inl, inr, is_answered, is_answered_by, is_answered_within, is_eligible}
+use Rattle.is_theorems.proofs.Common.{is_expired, is_named_by, is_nominated, is_numbered, is_some, is_valid, IsGone, IsSound, List}
+use Rattle.is_theorems.proofs.Common.{MaintainsPairs, MatchOption, named-by, nat_lt, nat_tests, None, not, Ok, Option, option_map_or}
+use Rattle.is_theorems.proofs.Common.{outlives, PairRecord, refl, request_at, RequestRecord, ServesQueued, Some, Span, span_between}
+use Rattle.is_theorems.proofs.Common.{span_from, Stays, Step, Stream, subst, sym, timeout_begun, true, unwrap_or, ℕ}
 use Rattle.is_theorems.proofs.CallEffects.PathAndTradeEffects.{path_theorem}
 use Rattle.is_theorems.proofs.CallEffects.SettingsRoleAndQueues.{maintains_pairs}
 use Rattle.is_theorems.proofs.ExecutionLogs.LogTheorems.{points_are_top, runs_sound}

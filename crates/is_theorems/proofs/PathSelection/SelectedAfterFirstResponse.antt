@@ -1,19 +1,8 @@
 -- An accepted success response selects a path, if no pair was valid before.
-use Rattle.std.proofs.Common.{◌≡◌, ℕ, true, false, List, Option, Some, None, is_some, refl, sym, ◌∙◌, subst}
-use Rattle.rand_core.specs.Stream.{Stream}
-use Rattle.is_proto.specs.Lists.{Has}
-use Rattle.is_candidate.specs.Candidates.{CandidateRecord}
-use Rattle.is_pair.specs.Pairs.{PairRecord, is_valid}
-use Rattle.is_rules.specs.declared.emitted.Path.{Path}
-use Rattle.is_rules.specs.Agent.{AgentRecord}
-use Rattle.is_rules.specs.Nominating.{is_eligible, followed, remains, selection_of}
-use Rattle.is_rules.specs.Sound.{IsSound}
-use Rattle.is_rules.specs.Points.{IsTopSelected}
-use Rattle.is_rules.specs.Effects.{last_of, PathEffect}
-use Rattle.is_theorems.specs.Logs.{Logged}
-use Rattle.is_theorems.specs.Runs.{IsFresh, Run, Point}
-use Rattle.is_theorems.specs.Rounds.{BringsSuccess, SegmentSelects}
-use Rattle.is_rules.proofs.PairLists.ChosenPair.{chosen-able, chosen-none, named-by, none_pass}
+use Rattle.is_theorems.proofs.Common.{◌∙◌, ◌≡◌, AgentRecord, BringsSuccess, CandidateRecord, chosen-able, chosen-none, false, followed, Has}
+use Rattle.is_theorems.proofs.Common.{is_eligible, is_some, is_valid, IsFresh, IsSound, IsTopSelected, last_of, List, Logged, named-by}
+use Rattle.is_theorems.proofs.Common.{None, none_pass, Option, PairRecord, Path, PathEffect, Point, refl, remains, Run, SegmentSelects}
+use Rattle.is_theorems.proofs.Common.{selection_of, Some, Stream, subst, sym, true, ℕ}
 use Rattle.is_theorems.proofs.CallEffects.PathAndTradeEffects.{path_theorem}
 use Rattle.is_theorems.proofs.ExecutionLogs.LogTheorems.{holds, runs_sound}
 use Rattle.is_theorems.proofs.PathSelection.SelectedPairIsNominated.{persists-with, was-named}

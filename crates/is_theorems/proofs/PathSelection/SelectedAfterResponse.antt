@@ -1,19 +1,10 @@
 -- An accepted response makes a controlling agent select a path.
-use Rattle.std.proofs.Common.{◌≡◌, ℕ, ◌&&◌, Bool, true, false, List, None, refl, sym, subst}
-use Rattle.is_candidate.specs.Candidates.{CandidateRecord}
-use Rattle.is_pair.specs.Pairs.{PairRecord, is_valid, is_nominated}
 use Rattle.is_stun.specs.declared.header.Class.TheVariants as class
-use Rattle.is_stun.specs.Message.{Message}
-use Rattle.is_rules.specs.declared.emitted.Path.{Path}
-use Rattle.is_rules.specs.Agent.{AgentRecord}
-use Rattle.is_rules.specs.Nominating.{is_eligible}
-use Rattle.is_rules.specs.Queue.{request_at}
-use Rattle.is_rules.specs.Steps.{Call, Done, HandleTimeout, ReceivePacket, Entry}
-use Rattle.is_rules.specs.Brought.{Brings}
-use Rattle.is_rules.specs.Points.{IsNominationPoint}
+use Rattle.is_theorems.proofs.Common.{◌&&◌, ◌≡◌, AgentRecord, AnswersSelect, Bool, Brings, Call, CandidateRecord, Done, Entry, false}
+use Rattle.is_theorems.proofs.Common.{HandleTimeout, is_eligible, is_nominated, is_valid, IsNominationPoint, List, Message, None}
+use Rattle.is_theorems.proofs.Common.{PairRecord, Path, ReceivePacket, refl, request_at, subst, sym, TimeoutsSelect, true, ℕ}
 use Rattle.is_theorems.proofs.CallEffects.PathAndTradeEffects.{path_theorem}
 use Rattle.is_theorems.proofs.ExecutionLogs.LogTheorems.{points_are_top, takers_are_valid}
-use Rattle.is_theorems.specs.Progress.{AnswersSelect, TimeoutsSelect}
 
 both : (a b : Bool) → a ≡ true → b ≡ true → (a && b) ≡ true
 both true b h k = k

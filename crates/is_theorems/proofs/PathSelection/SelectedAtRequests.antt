@@ -1,55 +1,26 @@
 -- With selection at once: nomination is evaluated when a request is served on a valid pair. The preconditions that
 -- mutants/specifications changes are read by tactics.
-use Rattle.std.proofs.Common.{◌≡◌, ℕ, ◌+◌, ◌<◌, ◌≤◌, ◌&&◌, Bool, true, false, List, [], ◌∷◌, ◌++◌, length, Option, Some, None, Result, Ok, Err, inl, inr, refl, ap, sym, ◌∙◌, subst, arith, if◌then◌else◌}
-use Rattle.std.specs.Prelude.{MatchOption}
-use Rattle.std.proofs.lemmas.Bool.{eq-eqb}
-use Rattle.std.proofs.lemmas.List.{length-append}
-use Rattle.rand_core.specs.Stream.{Stream}
-use Rattle.is_proto.specs.Lists.{Has}
-use Rattle.is_proto.specs.declared.error.IceError.{IceError}
-use Rattle.is_candidate.specs.Candidates.{CandidateRecord, candidate_at}
-use Rattle.is_pair.specs.Pairs.{PairRecord, is_valid}
-use Rattle.is_pair.specs.Multiset.{change_at, is_valid_at, passes_at, IsPairBetween}
 use Rattle.is_stun.specs.declared.header.Class.TheVariants as class
-use Rattle.is_stun.specs.Message.{Message}
-use Rattle.is_stun.specs.Timing.{is_modern}
-use Rattle.is_rules.specs.declared.credentials.IceCreds.{IceCreds}
-use Rattle.is_rules.specs.declared.emitted.Issued.{Issued}
-use Rattle.is_rules.specs.declared.emitted.Path.{Path}
-use Rattle.is_rules.specs.declared.emitted.Emitted.{Emitted}
-use Rattle.is_rules.specs.declared.places.RemotePlace.{RemotePlace}
-use Rattle.is_rules.specs.declared.places.RemotePlace.TheVariants.{Known, Barred, Unknown, Vacant, Full}
-use Rattle.is_rules.specs.declared.roles.Conflict.{Conflict}
-use Rattle.is_rules.specs.declared.roles.Conflict.TheVariants.{Absent, Send487, SwitchRole}
-use Rattle.is_rules.specs.Accepting.{Takes}
-use Rattle.is_rules.specs.Agent.{AgentRecord}
-use Rattle.is_rules.specs.Brought.{IsServing}
-use Rattle.is_rules.specs.Effects.{PathEffect}
-use Rattle.is_rules.specs.Emitted.{issued_as, nothing_emitted}
-use Rattle.is_rules.specs.Forming.{formed, with_pair}
-use Rattle.is_rules.specs.Limit.{IsSenderPlace}
-use Rattle.is_rules.specs.Nominating.{is_eligible, NominatesWhere}
-use Rattle.is_rules.specs.Places.{local_place}
-use Rattle.is_rules.specs.Points.{IsTopSelected}
-use Rattle.is_rules.specs.Queue.{request_at, first_taken, queued}
-use Rattle.is_rules.specs.Request.{RequestRecord, request_in}
-use Rattle.is_rules.specs.Roles.{conflict_of, switched, switched_sides, with_priority_in}
-use Rattle.is_rules.specs.Sending.{path_between, path_of}
-use Rattle.is_rules.specs.Serving.{after_request, pair_served, selects_at_requests, with_sender, with_sender_at, sender_candidate, request_counted, is_misled, is_for_other_peer}
-use Rattle.is_rules.specs.Serving.{Drops, RecordsAndResponds, FindsOrAddsPair, AddsUnknownSender, CountsAndServes, ResolvesRoleConflictBy, ResolvesRoleConflict, Serves}
-use Rattle.is_rules.specs.Sound.{IsSound}
-use Rattle.is_rules.specs.Steps.{Call, ReceivePacket, HandleTimeout, Entry, Step, answer_by, done, Done, Flag, Unparsed, Rejected}
-use Rattle.is_rules.specs.Timeouts.{at_request, timeout_begun, TimesOut, MaintainsPairs, ServesQueued}
-use Rattle.is_theorems.specs.AtOnce.{WereValidOn, RequestsSelect, NominationsSelectAtOnce}
-use Rattle.is_theorems.specs.Asked.{IsAskedOn}
-use Rattle.is_theorems.specs.Logs.{Logged, last_selected}
-use Rattle.is_theorems.specs.Runs.{IsFresh, Point, run_to, IsTopPath}
-use Rattle.is_rules.proofs.PairLists.RisingNumbers.{rising-each, below-each}
-use Rattle.is_theorems.proofs.BasicLemmas.GreatestAndLeastPairs.{has-front}
+use Rattle.is_theorems.proofs.Common.{[], ◌&&◌, ◌++◌, ◌+◌, ◌<◌, ◌∙◌, ◌∷◌, ◌≡◌, ◌≤◌, Absent, AddsUnknownSender, after_request, AgentRecord}
+use Rattle.is_theorems.proofs.Common.{answer_by, ap, arith, at_request, Barred, below-each, Bool, Call, candidate_at, CandidateRecord}
+use Rattle.is_theorems.proofs.Common.{change_at, Conflict, conflict_of, CountsAndServes, Done, done, Drops, Emitted, Entry, eq-eqb, Err}
+use Rattle.is_theorems.proofs.Common.{false, FindsOrAddsPair, first_taken, Flag, formed, Full, HandleTimeout, Has, IceCreds, IceError}
+use Rattle.is_theorems.proofs.Common.{if◌then◌else◌, in_turn, inl, inr, is_eligible, is_for_other_peer, is_misled, is_modern, is_valid}
+use Rattle.is_theorems.proofs.Common.{is_valid_at, IsAskedOn, IsFresh, IsPairBetween, IsSenderPlace, IsServing, IsSound, Issued, issued_as}
+use Rattle.is_theorems.proofs.Common.{IsTopPath, IsTopSelected, Known, last_selected, length, length-append, List, local_place, Logged}
+use Rattle.is_theorems.proofs.Common.{MaintainsPairs, MatchOption, Message, NominatesWhere, NominationsSelectAtOnce, None, nothing_emitted}
+use Rattle.is_theorems.proofs.Common.{Ok, Option, pair_served, PairRecord, passes_at, Path, path_between, path_of, PathEffect, Point}
+use Rattle.is_theorems.proofs.Common.{queued, ReceivePacket, RecordsAndResponds, refl, Rejected, RemotePlace, request_at, request_counted}
+use Rattle.is_theorems.proofs.Common.{request_in, RequestRecord, RequestsSelect, ResolvesRoleConflict, ResolvesRoleConflictBy, Result}
+use Rattle.is_theorems.proofs.Common.{rising-each, run_to, selects_at_requests, Send487, sender_candidate, Serves, ServesQueued, Some, Step}
+use Rattle.is_theorems.proofs.Common.{Stream, subst, switched, switched_sides, SwitchRole, sym, Takes, timeout_begun, TimesOut, true}
+use Rattle.is_theorems.proofs.Common.{Unknown, Unparsed, Vacant, WereValidOn, with_pair, with_priority_in, with_sender, with_sender_at, ℕ}
+use Rattle.is_theorems.proofs.BasicLemmas.MembersOfLists.{has-front}
 use Rattle.is_theorems.proofs.BasicLemmas.UsernamesAndFirstMatches.{any_has}
 use Rattle.is_theorems.proofs.BasicLemmas.VacantIndices.{known-in, vacant-at, length-put}
 use Rattle.is_theorems.proofs.CallEffects.PathAndTradeEffects.{path_theorem}
-use Rattle.is_theorems.proofs.CallEffects.ServedRequests.{Has-last, Has-mapped, is_at_places, known_at, reached, remote_joins, remote_puts, request_at_places, request_changes, switches}
+use Rattle.is_theorems.proofs.CallEffects.ServedRequests.{Has-last, Has-mapped, is_at_places, known_at, reached, remote_joins, remote_puts}
+use Rattle.is_theorems.proofs.CallEffects.ServedRequests.{request_at_places, request_changes, switches}
 use Rattle.is_theorems.proofs.ExecutionLogs.LogTheorems.{holds}
 use Rattle.is_theorems.proofs.PathSelection.GreatestEligiblePair.{nominates_top}
 use Rattle.is_theorems.proofs.PathSelection.NominatedByPeer.{nominated-on}
@@ -181,7 +152,7 @@ module _ {H P : Type 0} where
 
     serves_top : (s new : AgentRecord H P) (emitted : Emitted) → ((l : ℕ) → local_place s.local q ≡ Some l → l < length s.local) → WhileServing old s
         → Serves mac q s emitted new → Selects emitted new
-    serves_top s new emitted within state h = either (is_for_other_peer s q) h
+    serves_top s new emitted within state h = either (is_for_other_peer s q) (in_turn mac q s new emitted h)
         (λ _ k. drops_top s new emitted k)
         (λ _ k. here_top (local_place s.local q) s new emitted refl within state k)
 

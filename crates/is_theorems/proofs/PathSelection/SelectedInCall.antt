@@ -1,25 +1,14 @@
 -- A controlled agent selects a path in the call that makes its nomination complete.
-use Rattle.std.proofs.Common.{◌≡◌, ℕ, true, false, List, [], ◌∷◌, ◌++◌, None, inl, inr, ◌⊎◌, refl, ap, sym, ◌∙◌, subst}
-use Rattle.is_candidate.specs.Candidates.{CandidateRecord}
-use Rattle.is_pair.specs.Pairs.{PairRecord, is_nominated, is_valid}
 use Rattle.is_stun.specs.declared.header.Class.TheVariants as class
-use Rattle.is_stun.specs.Timing.{is_modern}
-use Rattle.is_rules.specs.Agent.{AgentRecord}
-use Rattle.is_rules.specs.declared.emitted.Path.{Path}
-use Rattle.is_rules.specs.Effects.{PathEffect}
-use Rattle.is_rules.specs.Emitted.{issued_as}
-use Rattle.is_rules.specs.Points.{HasSelected, IsTopSelected}
-use Rattle.is_rules.specs.Sound.{IsSound}
-use Rattle.is_rules.specs.Steps.{Call, Entry}
-use Rattle.is_theorems.specs.Asked.{IsOnlyPair, UsesAddressesOf}
-use Rattle.is_theorems.specs.AskedExecutions.{AcceptsSuccessOn, Ends, selected_along}
-use Rattle.is_theorems.specs.Asking.{AcceptsNomination}
-use Rattle.is_theorems.specs.AtOnce.{WereValidOn}
 use Rattle.is_theorems.specs.AtOnceExecutions.{CompletedNominationsAreSelected, CompletesNomination}
-use Rattle.is_theorems.specs.Staying.{Stays}
+use Rattle.is_theorems.proofs.Common.{[], ◌++◌, ◌∙◌, ◌∷◌, ◌≡◌, ◌⊎◌, AcceptsNomination, AcceptsSuccessOn, AgentRecord, ap, Call}
+use Rattle.is_theorems.proofs.Common.{CandidateRecord, Ends, Entry, false, HasSelected, inl, inr, is_modern, is_nominated, is_valid}
+use Rattle.is_theorems.proofs.Common.{IsOnlyPair, IsSound, issued_as, IsTopSelected, List, None, PairRecord, Path, PathEffect, refl}
+use Rattle.is_theorems.proofs.Common.{selected_along, Stays, subst, sym, true, UsesAddressesOf, WereValidOn, ℕ}
 use Rattle.is_theorems.proofs.CallEffects.FailedCallsAndNewAgents.{fresh_sound}
 use Rattle.is_theorems.proofs.CallEffects.PathAndTradeEffects.{path_theorem}
-use Rattle.is_theorems.proofs.PathSelection.NominatedByPeerPerAgent.{answered, execution_on, Marked, names-from, next, nominated_now, nomination_accepted, valid_now}
+use Rattle.is_theorems.proofs.PathSelection.NominatedByPeerPerAgent.{answered, execution_on, Marked, names-from, next, nominated_now}
+use Rattle.is_theorems.proofs.PathSelection.NominatedByPeerPerAgent.{nomination_accepted, valid_now}
 use Rattle.is_theorems.proofs.PathSelection.SelectedAfterResponse.{nominated-eligible, point-of}
 use Rattle.is_theorems.proofs.PathSelection.SelectedAtRequests.{served_top}
 use Rattle.is_theorems.proofs.PathSelection.SelectedPairIsNominated.{IsNamed, names-best}

@@ -1,21 +1,11 @@
 -- The pair that `selected_pair` names is valid and nominated, and its path was selected last. So after nomination, if a pair is
 -- eligible, the path that was selected last is that of an eligible pair with the greatest stored priority.
-use Rattle.std.proofs.Common.{◌≡◌, ℕ, ◌<◌, ◌≤◌, ◌==◌, ◌&&◌, Bool, true, false, List, Option, Some, None, inl, inr, refl, ap, sym, ◌∙◌, subst, arith, if◌then◌else◌}
-use Rattle.std.specs.Option.{option_or, option_map_or, option_and_then}
-use Rattle.std.proofs.lemmas.Bool.{eqb-true}
-use Rattle.is_proto.specs.Lists.{Has}
-use Rattle.is_pair.specs.Multiset.{is_numbered, pair_numbered, IsGreatest}
-use Rattle.is_pair.specs.Pairs.{PairRecord, is_valid, is_nominated}
-use Rattle.is_rules.specs.declared.emitted.Path.{Path}
-use Rattle.is_rules.specs.Agent.{AgentRecord}
-use Rattle.is_rules.specs.Brought.{Continues}
-use Rattle.is_rules.specs.Effects.{clears, last_of, PathEffect}
-use Rattle.is_rules.specs.Nominating.{is_eligible, persists_at, followed, remains, selection_of, IsChosen}
-use Rattle.is_rules.specs.Points.{HasSelected, IsTopSelected}
-use Rattle.is_rules.specs.Sending.{path_of}
-use Rattle.is_rules.specs.Sound.{IsSound}
-use Rattle.is_rules.specs.Steps.{Call, Entry}
-use Rattle.is_rules.proofs.PairLists.ChosenPair.{chosen-able, chosen-none, found-in, named-by, none_pass}
+use Rattle.is_theorems.proofs.Common.{◌&&◌, ◌<◌, ◌==◌, ◌∙◌, ◌≡◌, ◌≤◌, AgentRecord, ap, arith, Bool, Call, chosen-able, chosen-none, clears}
+use Rattle.is_theorems.proofs.Common.{Continues, Entry, eqb-true, false, followed, found-in, Has, HasSelected, if◌then◌else◌, inl, inr}
+use Rattle.is_theorems.proofs.Common.{is_eligible, is_nominated, is_numbered, is_valid, IsChosen, IsGreatest, IsSound, IsTopSelected}
+use Rattle.is_theorems.proofs.Common.{last_of, List, named-by, None, none_pass, Option, option_and_then, option_map_or, option_or}
+use Rattle.is_theorems.proofs.Common.{pair_numbered, PairRecord, Path, path_of, PathEffect, persists_at, refl, remains, selection_of, Some}
+use Rattle.is_theorems.proofs.Common.{subst, sym, true, ℕ}
 use Rattle.is_theorems.proofs.CallEffects.PathEffects.{below_is}
 
 -- a valid and nominated pair is eligible in either role

@@ -1,25 +1,12 @@
 -- In rounds in which candidates may be added a pair is checked, or its path answered. Until a success response is accepted no pair is
 -- valid, so the first one selects a path.
-use Rattle.std.proofs.Common.{◌≡◌, ℕ, ◌+◌, ◌*◌, ◌≤◌, Bool, true, false, List, [], ◌∷◌, ◌++◌, length, inl, inr, ◌⊎◌, refl, ap, sym, ◌∙◌, subst, arith, append_assoc}
-use Rattle.rand_core.specs.Stream.{Stream}
-use Rattle.is_proto.specs.Lists.{Has}
-use Rattle.is_stun.specs.Timing.{is_modern}
-use Rattle.is_candidate.specs.Candidates.{CandidateRecord}
-use Rattle.is_pair.specs.Pairs.{PairRecord, is_valid}
-use Rattle.is_rules.specs.declared.emitted.Path.{Path}
-use Rattle.is_rules.specs.Agent.{AgentRecord}
-use Rattle.is_theorems.specs.Asked.{IsAnsweredIn}
-use Rattle.is_rules.specs.Effects.{PathEffect, lite_set_by}
-use Rattle.is_theorems.specs.Logs.{Logged}
-use Rattle.is_theorems.specs.Progress.{Awaits, IsUnanswered, checks_for}
-use Rattle.is_theorems.specs.Reached.{IsLasting}
-use Rattle.is_theorems.specs.Rounds.{LoggedRound, entries_of, BringsSuccess, RunsOn, IsControllingIn, SegmentSelects, AnsweredRoundsSelect}
-use Rattle.is_theorems.specs.Runs.{IsFresh, Run, Point}
-use Rattle.is_rules.specs.Sending.{path_of}
-use Rattle.is_rules.specs.Steps.{Call}
 use Rattle.is_theorems.specs.DueRounds.{AnsweredDueRoundsSelect}
-use Rattle.is_theorems.specs.FirstTimeouts.{SufficesFromDue}
 use Rattle.is_theorems.specs.OpenRounds.{AnsweredOpenRoundsSelect}
+use Rattle.is_theorems.proofs.Common.{[], ◌*◌, ◌++◌, ◌+◌, ◌∙◌, ◌∷◌, ◌≡◌, ◌≤◌, ◌⊎◌, AgentRecord, AnsweredRoundsSelect, ap, append_assoc}
+use Rattle.is_theorems.proofs.Common.{arith, Awaits, Bool, BringsSuccess, Call, CandidateRecord, checks_for, entries_of, false, Has, inl}
+use Rattle.is_theorems.proofs.Common.{inr, is_modern, is_valid, IsAnsweredIn, IsControllingIn, IsFresh, IsLasting, IsUnanswered, length}
+use Rattle.is_theorems.proofs.Common.{List, lite_set_by, Logged, LoggedRound, PairRecord, Path, path_of, PathEffect, Point, refl, Run}
+use Rattle.is_theorems.proofs.Common.{RunsOn, SegmentSelects, Stream, subst, SufficesFromDue, sym, true, ℕ}
 use Rattle.is_theorems.proofs.PathSelection.SelectedAfterFirstResponse.{selects_path-at}
 use Rattle.is_theorems.proofs.DuePairs.AfterPackets.{NoneValid}
 use Rattle.is_theorems.proofs.ExecutionLogs.PerAgentExecutions.{either_has}
@@ -29,7 +16,8 @@ use Rattle.is_theorems.proofs.ExecutionLogs.LogSegments.{run-on, starts-controll
 use Rattle.is_theorems.proofs.DuePairs.NoNominationDue.{Quiet, due-none, lite_stays}
 use Rattle.is_theorems.proofs.PollingRounds.DuePairsInLogs.{reached-unless}
 use Rattle.is_theorems.proofs.PollingRounds.FirstRound.{due-unless}
-use Rattle.is_theorems.proofs.PollingRounds.InTurnAlong.{Accepts, IsOfRound, IsQuiet, lined-unanswered, no_agent, no_call, of_rounds, paid-none, quiet-in-turn}
+use Rattle.is_theorems.proofs.PollingRounds.InTurnAlong.{Accepts, IsOfRound, IsQuiet, lined-unanswered, no_agent, no_call, of_rounds}
+use Rattle.is_theorems.proofs.PollingRounds.InTurnAlong.{paid-none, quiet-in-turn}
 
 module _ {P : Type 0} where
   lite_kept : (m : Bool) (x : Logged P) (l : Bool) → IsOfRound m x → lite_set_by x.call l ≡ l

@@ -1,37 +1,23 @@
 -- Rounds of an execution in which candidates may be added, as rounds of a log.
-use Rattle.std.proofs.Common.{◌≡◌, ℕ, Bool, ◌+◌, ◌*◌, ◌<◌, ◌≤◌, true, false, List, [], ◌∷◌, ◌++◌, length, inl, inr, ◌⊎◌, refl, ap, sym, ◌∙◌, subst, arith, append_assoc}
-use Rattle.rand_core.specs.Stream.{Stream}
-use Rattle.is_proto.specs.Lists.{Has}
-use Rattle.is_candidate.specs.Candidates.{CandidateRecord}
-use Rattle.is_rules.specs.declared.emitted.Path.{Path}
-use Rattle.is_rules.specs.Agent.{AgentRecord}
-use Rattle.is_rules.specs.Nominating.{numbers}
-use Rattle.is_theorems.specs.Asked.{IsAnsweredOn, IsAnsweredIn}
-use Rattle.is_theorems.specs.AskedExecutions.{Ends, EndsAlong}
-use Rattle.is_proto.specs.Times.{MAX}
-use Rattle.is_stun.specs.Timing.{is_modern}
-use Rattle.is_pair.specs.Pairs.{PairRecord}
-use Rattle.is_theorems.specs.Executions.{ExecutionRound}
-use Rattle.is_theorems.specs.Exchange.{Execution}
-use Rattle.is_theorems.specs.Logs.{Logged}
-use Rattle.is_theorems.specs.Progress.{checks_for}
-use Rattle.is_theorems.specs.Reached.{IsLasting, IsPassing, ChecksIn, IsEndedIn, nominations_ahead}
-use Rattle.is_theorems.specs.ReachedExecutions.{ChecksAmong, IsAnsweredAmong, PassRounds, selections_among}
-use Rattle.is_theorems.specs.Rounds.{LoggedRound, Part, entries_of, RunsOn}
-use Rattle.is_theorems.specs.Runs.{IsFresh, Run}
-use Rattle.is_rules.specs.Sending.{path_of}
-use Rattle.is_rules.specs.Sound.{IsSound, GivesBased}
-use Rattle.is_rules.specs.Steps.{Call, Done, HandleTimeout, Entry, Step}
-use Rattle.is_theorems.proofs.ExecutionLogs.PerAgentExecutions.{entry_of, part_of, pushed, part_is, round_of, rounds_of, begun, as_many, either_has, recomputed, leads_on}
+use Rattle.is_theorems.proofs.Common.{[], ◌*◌, ◌++◌, ◌+◌, ◌<◌, ◌∙◌, ◌∷◌, ◌≡◌, ◌≤◌, ◌⊎◌, AgentRecord, ap, append_assoc, AreInRound, arith}
+use Rattle.is_theorems.proofs.Common.{Bool, Call, CandidateRecord, checks_for, ChecksAmong, ChecksIn, Done, Ends, EndsAlong, EndsAmong}
+use Rattle.is_theorems.proofs.Common.{entries_of, Entry, Execution, ExecutionRound, ExecutionsReachFromDue, ExecutionsReachUnanswered}
+use Rattle.is_theorems.proofs.Common.{false, GivesBased, HandleTimeout, Has, inl, inr, is_modern, IsAnsweredAmong, IsAnsweredIn}
+use Rattle.is_theorems.proofs.Common.{IsAnsweredOn, IsEndedIn, IsFresh, IsLasting, IsOpenRound, IsPassing, IsReached, IsReachedIn, IsSound}
+use Rattle.is_theorems.proofs.Common.{length, List, Logged, LoggedRound, MAX, nominations_ahead, numbers, OpenExecutionsReach, PairRecord}
+use Rattle.is_theorems.proofs.Common.{Part, PassRounds, Path, path_of, refl, RoundsSuffice, Run, RunsOn, selections_among, Step, Stream}
+use Rattle.is_theorems.proofs.Common.{subst, Suffices, SufficesFromDue, sym, true, ℕ}
+use Rattle.is_theorems.proofs.ExecutionLogs.PerAgentExecutions.{entry_of, part_of, pushed, part_is, round_of, rounds_of, begun, as_many}
+use Rattle.is_theorems.proofs.ExecutionLogs.PerAgentExecutions.{either_has, recomputed, leads_on}
 use Rattle.is_theorems.proofs.ExecutionLogs.LogSegments.{no-case, run-on}
-use Rattle.is_theorems.specs.FirstTimeouts.{AreInRound, IsOpenRound, EndsAmong, IsReached, IsReachedIn, SufficesFromDue, RoundsSuffice, Suffices, OpenExecutionsReach, ExecutionsReachFromDue, ExecutionsReachUnanswered}
 use Rattle.is_theorems.proofs.CallEffects.FailedCallsAndNewAgents.{fresh_sound}
 use Rattle.is_theorems.proofs.DuePairs.NoNominationDue.{due-none}
 use Rattle.is_theorems.proofs.DuePairs.NominationsAhead.{to_select, to_send}
 use Rattle.is_theorems.proofs.PollingRounds.CountedSelections.{among-nothing, among-within, paid, paid_among, paid-rounds}
 use Rattle.is_theorems.proofs.PollingRounds.DuePairsInLogs.{reached-unless}
 use Rattle.is_theorems.proofs.PollingRounds.FirstRound.{due-unless}
-use Rattle.is_theorems.proofs.PollingRounds.InTurnAlong.{Accepts, InTurn, IsNumbered, IsQuiet, Lined, Never, OffIn, lined, lined-unanswered, no_agent, no_call, numbered-in-turn, quiet-in-turn}
+use Rattle.is_theorems.proofs.PollingRounds.InTurnAlong.{Accepts, InTurn, IsNumbered, IsQuiet, Lined, Never, OffIn, lined, lined-unanswered}
+use Rattle.is_theorems.proofs.PollingRounds.InTurnAlong.{no_agent, no_call, numbered-in-turn, quiet-in-turn}
 use Rattle.is_theorems.proofs.StoredPairs.TransactionsOverPackets.{sound-execution}
 
 module _ {P : Type 0} where
@@ -346,7 +332,7 @@ module _ {H P : Type 0} (mac : H → List ℕ → List ℕ → List ℕ) (answer
 
   -- ---- no pair is valid
 
-  -- The same of a pair of a controlling agent that has no valid one: it is reached, unless a success response is accepted in the rounds.
+  -- A pair of a controlling agent that has no valid one is reached, unless a success response is accepted in the rounds.
   pub executions-reach-unanswered : ExecutionsReachUnanswered {H = H} {P = P} mac answers
   executions-reach-unanswered first start last xs r later p by fresh execution role waits unanswered from done early between run passing enough =
       due-executions-unless (Accepts mac answers) (IsQuiet mac answers) (no_agent mac answers) (no_call mac answers) (quiet-in-turn mac answers)

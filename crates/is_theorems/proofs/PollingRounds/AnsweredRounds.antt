@@ -1,32 +1,17 @@
 -- Round after round: if the checks of a pair are answered, a response is accepted within as many rounds as there are
 -- pairs that are due no later, or within twice as many if checks may go ahead.
-use Rattle.std.proofs.Common.{◌≡◌, ℕ, ◌+◌, ◌<◌, ◌≤◌, true, suc, List, [], ◌∷◌, length, map, nat_lt, Option, Some, None, is_some, unwrap_or, inl, inr, ◌⊎◌, refl, ap, sym, ◌∙◌, subst, arith}
-use Rattle.std.specs.Prelude.{IsSomeAnd}
-use Rattle.is_proto.specs.Lists.{Has}
-use Rattle.is_proto.specs.Times.{MAX}
-use Rattle.is_proto.specs.Packets.{Packet}
-use Rattle.is_candidate.specs.Candidates.{CandidateRecord, base_of, candidate_at}
-use Rattle.is_pair.specs.Checks.{unanswered_count}
-use Rattle.is_pair.specs.Pairs.{PairRecord}
-use Rattle.is_pair.specs.Due.{asked, due_time_of}
 use Rattle.is_stun.specs.declared.header.Class.TheVariants as class
-use Rattle.is_stun.specs.declared.timing.StunTiming.{StunTiming}
-use Rattle.is_rules.specs.declared.emitted.Path.{Path}
-use Rattle.is_rules.specs.Emitted.{issued_as}
-use Rattle.is_rules.specs.Agent.{AgentRecord}
-use Rattle.is_rules.specs.Sending.{path_of}
-use Rattle.is_rules.specs.Sound.{IsSound}
-use Rattle.is_rules.specs.Polls.{PollsTimeout, NextTimeoutFrom, NextTimeouts}
-use Rattle.is_rules.specs.Steps.{ReceivePacket, Step}
-use Rattle.is_rules.specs.declared.event.IceAgentEvent.{IceAgentEvent}
+use Rattle.is_theorems.proofs.Common.{[], ◌+◌, ◌<◌, ◌∙◌, ◌∷◌, ◌≡◌, ◌≤◌, ◌⊎◌, AgentRecord, AnsweredSelect, ap, arith, Arrival, ArriveInTurn}
+use Rattle.is_theorems.proofs.Common.{scheduled, base_of, candidate_at, CandidateRecord, due_by, due_time_of, Has, HasSuccess, IceAgentEvent}
+use Rattle.is_theorems.proofs.Common.{inl, inr, is_modern, is_some, IsPaced, IsSomeAnd, IsSound, IsSuccess, issued_as, length, List, map}
+use Rattle.is_theorems.proofs.Common.{MatchesTop, MAX, MayBeAsked, nat_lt, NextTimeoutFrom, NextTimeouts, None, Option, Packet, PairRecord}
+use Rattle.is_theorems.proofs.Common.{Passes, Path, path_of, PollsTimeout, ReceivePacket, refl, Round, Rounds, RoundSelects, SelectsAfter}
+use Rattle.is_theorems.proofs.Common.{Some, Step, Stream, StunTiming, subst, suc, sym, true, unanswered_count, unwrap_or, ℕ}
 use Rattle.is_theorems.proofs.CallEffects.PathAndTradeEffects.{path_theorem}
-use Rattle.rand_core.specs.Stream.{Stream}
-use Rattle.is_stun.specs.Timing.{is_modern}
 use Rattle.is_theorems.proofs.CallEffects.AddedCandidates.{by_deadline}
-use Rattle.is_pair.specs.Turns.{IsPaced, due_by}
-use Rattle.is_theorems.specs.Progress.{Passes, MayBeAsked, Arrival, HasSuccess, Round, IsSuccess, MatchesTop, ArriveInTurn, Rounds, SelectsAfter, RoundSelects, AnsweredSelect}
 use Rattle.is_theorems.proofs.DuePairs.NoNominationDue.{NoneIsDue, quiet-call}
-use Rattle.is_theorems.proofs.DuePairs.WithoutValidPair.{Calm, Persists, Waits, calm-quiet, polled-sound, asked-quiet, asked-sound, begins, persists, passed, pass-on, never}
+use Rattle.is_theorems.proofs.DuePairs.WithoutValidPair.{Calm, Persists, Waits, calm-quiet, polled-sound, asked-quiet, asked-sound, begins}
+use Rattle.is_theorems.proofs.DuePairs.WithoutValidPair.{persists, passed, pass-on, never}
 use Rattle.is_theorems.proofs.DuePairs.ChecksAhead.{calls_left, calls-kept, calls-from}
 use Rattle.is_theorems.proofs.DuePairs.AfterNominationAndRemoval.{last_time_of}
 use Rattle.is_theorems.proofs.DuePairs.AfterPackets.{Core, DueAlike, Held, Arrived, arrived-same, receives, spares-map}
@@ -92,11 +77,11 @@ module _ {H P : Type 0} where
       -- `poll_timeout`
       pub asks : (old new : AgentRecord H P) (deadline : Option ℕ) → old.last_time ≡ Some at → PollsTimeout old deadline new → Arrived mac by at following early old new
       asks old new deadline last h = some deadline (subst (λ o. NextTimeoutFrom o old deadline new) last h) where
-        fixed : new ≡ record old { pairs = map (asked at old.timing) old.pairs } → Arrived mac by at following early old new
+        fixed : new ≡ record old { pairs = map (scheduled at old.timing) old.pairs } → Arrived mac by at following early old new
         fixed made = subst (λ (a : AgentRecord H P). Arrived mac by at following early old a) (sym made) (
           refl,
           keeps-remote-same old.pairs old.remote old.remote refl,
-          spares-map by (last_time_of old) at old.timing old.next_number (asked at old.timing) old.pairs
+          spares-map by (last_time_of old) at old.timing old.next_number (scheduled at old.timing) old.pairs
               (λ p. record { number = refl; local = refl; remote = refl; valid = refl })
               (λ late p. record { matches = record { number = refl; local = refl; remote = refl; valid = refl }; checks = refl; before = λ m le. inr le; stays = λ m le now. now }),
         )

@@ -1,29 +1,17 @@
 -- Rounds in a log: if the checks of a pair are answered, a path is selected within as many rounds as there are pairs
 -- that are due no later, or within twice as many if checks may go ahead.
-use Rattle.std.proofs.Common.{◌≡◌, ℕ, ◌+◌, ◌<◌, ◌≤◌, true, List, [], ◌∷◌, ◌++◌, length, Some, inl, inr, ◌⊎◌, refl, ap, sym, ◌∙◌, subst, arith, append_assoc}
-use Rattle.rand_core.specs.Stream.{Stream}
-use Rattle.is_proto.specs.Lists.{Has}
-use Rattle.is_proto.specs.Times.{MAX}
-use Rattle.is_stun.specs.Timing.{is_modern}
-use Rattle.is_candidate.specs.Candidates.{CandidateRecord}
-use Rattle.is_pair.specs.Turns.{due_by}
-use Rattle.is_rules.specs.declared.emitted.Path.{Path}
-use Rattle.is_rules.specs.Agent.{AgentRecord}
-use Rattle.is_rules.specs.Sending.{path_of}
-use Rattle.is_rules.specs.Steps.{Call, Entry, ReceivePacket, HandleTimeout, PollTransmit, PollTimeout, PollEvent, Step}
-use Rattle.is_rules.specs.Sound.{IsSound, GivesBased}
-use Rattle.is_theorems.specs.Logs.{Logged}
-use Rattle.is_theorems.specs.Runs.{IsFresh, Run}
-use Rattle.is_theorems.specs.Progress.{Passes}
-use Rattle.is_theorems.specs.Rounds.{LoggedRound, entries_of, began_at, is_between, BringsSuccess, IsRound, RunsOn, IsControllingIn, SegmentSelects, AnsweredRoundsSelect}
+use Rattle.is_theorems.proofs.Common.{[], ◌++◌, ◌+◌, ◌<◌, ◌∙◌, ◌∷◌, ◌≡◌, ◌≤◌, ◌⊎◌, AcceptsSuccess, AgentRecord, AnsweredRoundsSelect, ap}
+use Rattle.is_theorems.proofs.Common.{append_assoc, arith, began_at, BringsSuccess, Call, CandidateRecord, due_by, entries_of, Entry}
+use Rattle.is_theorems.proofs.Common.{GivesBased, HandleTimeout, Has, inl, inr, is_between, is_in_round, is_modern, IsControllingIn}
+use Rattle.is_theorems.proofs.Common.{IsFresh, IsRound, IsSound, length, List, Logged, LoggedRound, MAX, Passes, Path, path_of, PollEvent}
+use Rattle.is_theorems.proofs.Common.{PollTimeout, PollTransmit, ReceivePacket, refl, Run, RunsOn, SegmentSelects, Some, Step, Stream}
+use Rattle.is_theorems.proofs.Common.{subst, sym, true, ℕ}
 use Rattle.is_theorems.proofs.CallEffects.PathAndTradeEffects.{path_theorem}
 use Rattle.is_theorems.proofs.ExecutionLogs.LogTheorems.{runs_sound}
 use Rattle.is_theorems.proofs.DuePairs.ChecksAhead.{calls_left, calls-from}
 use Rattle.is_theorems.proofs.DuePairs.AfterNominationAndRemoval.{last_time_of}
 use Rattle.is_theorems.proofs.DuePairs.AfterPackets.{Core, Arrived, receives, spares-same}
 use Rattle.is_theorems.proofs.DuePairs.NoNominationDue.{NoneIsDue, quiet-call}
-use Rattle.is_theorems.specs.Executions.{AcceptsSuccess}
-use Rattle.is_theorems.specs.Reached.{is_in_round}
 use Rattle.is_theorems.proofs.DuePairs.WithoutValidPair.{Calm, Persists, Waits, calm-quiet, begins, persists, passed, pass-on, never}
 use Rattle.is_theorems.proofs.PollingRounds.AnsweredRounds.{calm-on, waits-on, asks}
 use Rattle.is_theorems.proofs.ExecutionLogs.LogSegments.{no-case, run-on, starts-controlling, Halves, halves, passed as passed-at}

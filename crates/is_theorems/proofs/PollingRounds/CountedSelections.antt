@@ -1,17 +1,9 @@
 -- What the calls of a segment, or of rounds of an execution, count for: how many select a path.
-use Rattle.std.proofs.Common.{◌≡◌, ℕ, ◌+◌, ◌≤◌, ◌&&◌, Bool, true, false, List, [], ◌∷◌, ◌++◌, count_by, cond, if◌then◌else◌, refl, arith}
-use Rattle.std.proofs.lemmas.List.Sums.{sum_by-cons}
-use Rattle.is_rules.specs.Agent.{AgentRecord}
-use Rattle.is_rules.specs.Nominating.{numbers}
-use Rattle.is_rules.specs.Owed.{one_if}
-use Rattle.is_rules.specs.Steps.{Call, Entry, HandleTimeout}
-use Rattle.is_theorems.specs.Executions.{ExecutionRound}
-use Rattle.is_theorems.specs.Logs.{Logged}
-use Rattle.is_theorems.specs.Reached.{nominations_ahead, selection_count, selects}
-use Rattle.is_theorems.specs.ReachedExecutions.{selections_among}
-use Rattle.is_theorems.specs.Rounds.{LoggedRound, entries_of}
+use Rattle.is_theorems.proofs.Common.{[], ◌&&◌, ◌++◌, ◌+◌, ◌∷◌, ◌≡◌, ◌≤◌, AgentRecord, all_entries, arith, Bool, Call, cond, count_by}
+use Rattle.is_theorems.proofs.Common.{entries_of, Entry, ExecutionRound, false, HandleTimeout, if◌then◌else◌, List, Logged, LoggedRound}
+use Rattle.is_theorems.proofs.Common.{nominations_ahead, numbers, one_if, refl, selection_count, selections_among, selects, sum_by-cons}
+use Rattle.is_theorems.proofs.Common.{true, ℕ}
 use Rattle.is_theorems.proofs.DuePairs.NominationsAhead.{to_select, to_send}
-use Rattle.is_theorems.specs.TimedRounds.{all_entries}
 use Rattle.is_theorems.proofs.ExecutionLogs.PerAgentExecutions.{entry_of, part_of, round_of, rounds_of}
 use Rattle.is_theorems.proofs.ExecutionLogs.SegmentsAsExecutions.{calls_onto, round_from, rounds_onto}
 

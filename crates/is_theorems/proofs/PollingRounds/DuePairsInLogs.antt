@@ -1,43 +1,23 @@
 -- Rounds in a log: a pair that is due is checked in one of them, or answered, before more checks of other pairs are
 -- sent than the bound allows.
-use Rattle.std.proofs.Common.{◌≡◌, ℕ, suc, ◌+◌, ◌*◌, ◌<◌, ◌≤◌, Bool, true, false, not, List, [], ◌∷◌, ◌++◌, length, map, nat_lt, Option, Some, None, Ok, Err, is_some, unwrap_or, inl, inr, ◌⊎◌, refl, ap, sym, ◌∙◌, subst, arith, append_assoc}
-use Rattle.std.specs.Prelude.{IsSomeAnd}
-use Rattle.std.proofs.lemmas.Bool.Decides.{nat_tests}
-use Rattle.rand_core.specs.Stream.{Stream}
-use Rattle.is_proto.specs.Lists.{Has}
-use Rattle.is_proto.specs.Times.{MAX}
-use Rattle.is_candidate.specs.Candidates.{CandidateRecord}
-use Rattle.is_pair.specs.Checks.{unanswered_count}
-use Rattle.is_pair.specs.Due.{asked, stays_answered}
-use Rattle.is_pair.specs.Pairs.{PairRecord}
 use Rattle.is_stun.specs.declared.header.Class.TheVariants as class
-use Rattle.is_stun.specs.declared.timing.StunTiming.{StunTiming}
-use Rattle.is_stun.specs.Timing.{is_modern, consent_of}
-use Rattle.is_rules.specs.Agent.{AgentRecord}
-use Rattle.is_rules.specs.Checking.{all_asked}
-use Rattle.is_rules.specs.Nominating.{nominates_at_once, numbers}
-use Rattle.is_theorems.specs.Asked.{IsAnsweredOn, IsAnsweredIn, MayEndIn}
-use Rattle.is_theorems.specs.AskedExecutions.{Ends}
-use Rattle.is_rules.specs.Brought.{Brings}
-use Rattle.is_rules.specs.declared.emitted.Path.{Path}
-use Rattle.is_theorems.specs.Logs.{Logged}
-use Rattle.is_rules.specs.Polls.{PollsTimeout, NextTimeoutFrom, NextTimeouts}
-use Rattle.is_theorems.specs.Progress.{IsChecking}
-use Rattle.is_theorems.specs.Reached.{IsLasting, IsPassing, ChecksIn, is_in_round, IsEndedIn, PairsAreReached, AskedRoundsSelect, nominations_ahead, selection_count}
-use Rattle.is_theorems.specs.Rounds.{LoggedRound, entries_of, began_at, Part, RunsOn}
-use Rattle.is_theorems.specs.Runs.{IsFresh, Run, IsTopPath}
-use Rattle.is_rules.specs.Sending.{path_of}
-use Rattle.is_rules.specs.Sound.{IsSound}
-use Rattle.is_theorems.specs.Staying.{MayEnd, Stays}
-use Rattle.is_rules.specs.Settling.{loses_selected, Reselects}
-use Rattle.is_rules.specs.Steps.{Call, SetMtu, SetControlTieBreaker, SetMaxCandidatePairs, SetMaxDiscovered, SetRenomination, SetTimingAdvance, SetLocalPreference, SetControlling, SetLocalCredentials, AddLocalCandidate, AddRemoteCandidate, Entry, ReceivePacket, HandleTimeout, PollTransmit, PollTimeout, PollEvent, Done, Step}
-use Rattle.is_rules.specs.Timeouts.{timeout_begun, MaintainsPairs}
-use Rattle.is_rules.specs.Emitted.{issued_as}
+use Rattle.is_theorems.proofs.Common.{[], ◌*◌, ◌++◌, ◌+◌, ◌<◌, ◌∙◌, ◌∷◌, ◌≡◌, ◌≤◌, ◌⊎◌, AddLocalCandidate, AddRemoteCandidate, AgentRecord}
+use Rattle.is_theorems.proofs.Common.{all_scheduled, ap, append_assoc, arith, scheduled, AskedRoundsSelect, began_at, Bool, Brings, Call}
+use Rattle.is_theorems.proofs.Common.{CandidateRecord, ChecksIn, consent_of, Done, Ends, entries_of, Entry, Err, false, GivesBased}
+use Rattle.is_theorems.proofs.Common.{HandleTimeout, Has, inl, inr, is_in_round, is_modern, is_some, IsAnsweredIn, IsAnsweredOn, IsChecking}
+use Rattle.is_theorems.proofs.Common.{IsEndedIn, IsFresh, IsLasting, IsPassing, IsReachedIn, IsSomeAnd, IsSound, issued_as, IsTopPath}
+use Rattle.is_theorems.proofs.Common.{length, List, Logged, LoggedRound, loses_selected, MaintainsPairs, map, MAX, MayEnd, MayEndIn, nat_lt}
+use Rattle.is_theorems.proofs.Common.{nat_tests, NextTimeoutFrom, NextTimeouts, nominates_at_once, nominations_ahead, None, not, numbers}
+use Rattle.is_theorems.proofs.Common.{Ok, Option, PairRecord, PairsAreReached, Part, Path, path_of, PollEvent, PollsTimeout, PollTimeout}
+use Rattle.is_theorems.proofs.Common.{PollTransmit, ReceivePacket, refl, Reselects, rising-each, Run, RunsOn, selection_count}
+use Rattle.is_theorems.proofs.Common.{SetControlling, SetControlTieBreaker, SetLocalCredentials, SetLocalPreference, SetMaxCandidatePairs}
+use Rattle.is_theorems.proofs.Common.{SetMaxDiscovered, SetMtu, SetRenomination, SetTimingAdvance, Some, Stays, stays_answered, Step}
+use Rattle.is_theorems.proofs.Common.{Stream, StunTiming, subst, suc, sym, timeout_begun, true, unanswered_count, unwrap_or, ℕ}
 use Rattle.is_theorems.proofs.PathSelection.NominatedByPeer.{asked-are-selected_paths}
 use Rattle.is_theorems.proofs.CallEffects.PathAndTradeEffects.{path_theorem}
 use Rattle.is_theorems.proofs.CallEffects.AddedCandidates.{by_deadline}
 use Rattle.is_theorems.proofs.RuleEffects.UnchangedSettings.{either}
-use Rattle.is_theorems.proofs.EarlierChecks.ChecksOfOtherPairs.{all-but, leads, own-le, lead-asked, leads-map, leads-others}
+use Rattle.is_theorems.proofs.EarlierChecks.ChecksOfOtherPairs.{all-but, leads, own-le, lead-scheduled, leads-map, leads-others}
 use Rattle.is_theorems.proofs.ExecutionLogs.LogTheorems.{runs_sound}
 use Rattle.is_theorems.proofs.ExecutionLogs.LogSegments.{no-case, run-on, passed as passed-at}
 use Rattle.is_theorems.proofs.ExecutionLogs.SegmentsAsExecutions.{ended-fits, split-ended, split-run}
@@ -46,19 +26,18 @@ use Rattle.is_theorems.proofs.EarlierChecks.BetweenTimeouts.{Ground, Goes, goes-
 use Rattle.is_theorems.proofs.DuePairs.FirstDuePair.{due-at, timeout-follows}
 use Rattle.is_theorems.proofs.DuePairs.ChecksAhead.{times, calls_left, Falls, calls-added, calls-at-once, calls-in-turn, calls-over}
 use Rattle.is_theorems.proofs.EarlierChecks.OneCheckFewer.{Ready, timeout-goes}
-use Rattle.is_rules.proofs.PairLists.RisingNumbers.{rising-each}
 use Rattle.is_theorems.proofs.CallEffects.ServedRequests.{Has-mapped}
 use Rattle.is_theorems.proofs.DuePairs.PollingCycles.{none-left, maintains_pairs-from, distinct-sound}
 use Rattle.is_theorems.proofs.CallEffects.FailedCallsAndNewAgents.{mtu_kept, local_kept, enrolment_kept, storing_kept}
 use Rattle.is_theorems.proofs.StoredPairs.PairsThatStay.{none-entered, pairs-stay}
 use Rattle.is_theorems.proofs.RuleEffects.SelectedPaths.{one_pair}
-use Rattle.is_theorems.proofs.DuePairs.AfterNominationAndRemoval.{Base, Kept, answered-if, answered-on, answered_at, kept_of, last_time_of, lasts-young}
+use Rattle.is_theorems.proofs.DuePairs.AfterNominationAndRemoval.{Base, Kept, answered-if, answered-on, answered_at, kept_of, last_time_of}
+use Rattle.is_theorems.proofs.DuePairs.AfterNominationAndRemoval.{lasts-young}
 use Rattle.is_theorems.proofs.EarlierChecks.AddedCandidates.{local-goes, remote-goes}
-use Rattle.is_rules.specs.Sound.{GivesBased}
-use Rattle.is_theorems.specs.FirstTimeouts.{IsReachedIn}
 use Rattle.is_theorems.proofs.DuePairs.NominationsAhead.{to_select, to_send}
 use Rattle.is_theorems.proofs.DuePairs.NoNominationDue.{as-is}
-use Rattle.is_theorems.proofs.PollingRounds.InTurnAlong.{InTurn, IsNumbered, Never, OffIn, Sufficing, numbered-in-turn, of_rounds, sufficing, turn-along}
+use Rattle.is_theorems.proofs.PollingRounds.InTurnAlong.{InTurn, IsNumbered, Never, OffIn, Sufficing, numbered-in-turn, of_rounds}
+use Rattle.is_theorems.proofs.PollingRounds.InTurnAlong.{sufficing, turn-along}
 use Rattle.is_theorems.proofs.PollingRounds.CountedSelections.{paid, paid-join, paid-within}
 
 lt-is : (n m : ℕ) → n < m → nat_lt n m ≡ true
@@ -100,15 +79,15 @@ module _ {H P : Type 0} where
   -- `poll_timeout`, called after the time by which the pair is due
   asks-goes : (n by at : ℕ) → by < at → at < MAX → (old new : AgentRecord H P) (deadline : Option ℕ) → old.last_time ≡ Some at → PollsTimeout old deadline new → Goes n by old new
   asks-goes n by at following early old new deadline last h = some deadline (subst (λ o. NextTimeoutFrom o old deadline new) last h) where
-    fixed : new ≡ record old { pairs = map (asked at old.timing) old.pairs } → Goes n by old new
+    fixed : new ≡ record old { pairs = map (scheduled at old.timing) old.pairs } → Goes n by old new
     fixed made = goes-to n by old _ new (
       refl,
       record {
-        less = λ w late. (let le : leads w by (map (asked at old.timing) old.pairs) ≤ leads w by old.pairs =
-            leads-map w by (asked at old.timing) old.pairs (λ y. own-le w by y (asked at old.timing y) refl (lead-asked w.both by at old.timing y following early)) in
+        less = λ w late. (let le : leads w by (map (scheduled at old.timing) old.pairs) ≤ leads w by old.pairs =
+            leads-map w by (scheduled at old.timing) old.pairs (λ y. own-le w by y (scheduled at old.timing y) refl (lead-scheduled w.both by at old.timing y following early)) in
             omega (arith, le));
         fixed = λ d cs le (q, has, is, due, checks).
-            (asked at old.timing q, Has-mapped (asked at old.timing) old.pairs q has, is, ap Some (due-at at d old.timing q due), checks);
+            (scheduled at old.timing q, Has-mapped (scheduled at old.timing) old.pairs q has, is, ap Some (due-at at d old.timing q due), checks);
       },
     ) made
 
@@ -298,7 +277,7 @@ module _ {H P : Type 0} where
 
     pub timeout-on : (now k spent : ℕ) (e : Entry) (old new : AgentRecord H P) (s t : Stream) → e.answer ≡ Done → Step mac answers old s (HandleTimeout now) e new t → IsSound old → IsSound new
         → Persists by n path keeps ahead owes total base now k spent old → owes new ≤ owes old + pays e
-        → ((h : MaintainsPairs mac now (timeout_begun now old) s e.emitted new t) → nominates_at_once (all_asked now h.4) ≡ true → owes new + 1 ≤ owes old + pays e) → keeps now ≡ true
+        → ((h : MaintainsPairs mac now (timeout_begun now old) s e.emitted new t) → nominates_at_once (all_scheduled now h.4) ≡ true → owes new + 1 ≤ owes old + pays e) → keeps now ≡ true
         → ((id : List ℕ) × (e.emitted.issued ≡ Some (issued_as path class.Request id))) ⊎ Waits by n path keeps ahead owes total base now (suc k) (pays e + spent) new
     timeout-on now k spent e old new s t done step sound sound_new st owing at_once lasting =
         let h = passed-at mac answers old new s t now e done step in
@@ -315,7 +294,7 @@ module _ {H P : Type 0} where
               let next : new.next_number ≡ old.next_number = ap (λ (b : Base). b.next_number) m.0 in
               let timing : new.timing ≡ old.timing = ap (λ (b : Base). b.timing) m.0 in
               let fewer_for : leads (all-but n) by new.pairs ≤ leads (all-but n) by old.pairs = fewer (all-but n) in
-              let falls_for : nominates_at_once (all_asked now p.4) ≡ false → Falls ahead old.ahead_turn new.ahead_turn (leads (all-but n) by old.pairs) (leads (all-but n) by new.pairs) =
+              let falls_for : nominates_at_once (all_scheduled now p.4) ≡ false → Falls ahead old.ahead_turn new.ahead_turn (leads (all-but n) by old.pairs) (leads (all-but n) by new.pairs) =
               λ in_turn. subst (λ b. Falls b old.ahead_turn new.ahead_turn (leads (all-but n) by old.pairs) (leads (all-but n) by new.pairs)) st.rules
               (subst (λ i. Falls (is_modern old.timing) old.ahead_turn new.ahead_turn (leads (all-but i) by old.pairs) (leads (all-but i) by new.pairs)) st.number (falls in_turn)) in
               inr (record {
@@ -335,7 +314,7 @@ module _ {H P : Type 0} where
                 before = before;
                 due = due;
                 rules = ap (λ (b : Base). is_modern b.timing) m.0 ∙ st.rules;
-                count = counted-on next fewer_for (nominates_at_once (all_asked now p.4)) falls_for (λ due. at_once p due);
+                count = counted-on next fewer_for (nominates_at_once (all_scheduled now p.4)) falls_for (λ due. at_once p due);
               }))
         ] where
           -- the check is in turn, or sends a nomination at once

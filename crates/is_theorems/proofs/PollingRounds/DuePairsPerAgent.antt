@@ -1,32 +1,19 @@
 -- A pair that waits in a per-agent execution is checked, or answered, as soon as one that waits in a log. If a controlling agent has
 -- no valid pair, a check is sent on the path, or a path is selected: else each check on the path is answered, as there is none.
-use Rattle.std.proofs.Common.{◌≡◌, ℕ, ◌+◌, ◌*◌, ◌≤◌, ◌&&◌, Bool, true, false, List, [], ◌∷◌, ◌++◌, length, Option, Some, None, inl, inr, ◌⊎◌, refl, ap, sym, ◌∙◌, subst, arith, append_assoc}
-use Rattle.rand_core.specs.Stream.{Stream}
-use Rattle.is_proto.specs.Lists.{Has}
-use Rattle.is_candidate.specs.Addresses.{same_address, same_protocol}
-use Rattle.is_candidate.specs.Candidates.{CandidateRecord}
-use Rattle.is_pair.specs.Pairs.{PairRecord}
-use Rattle.is_stun.specs.declared.header.Class.{Class}
 use Rattle.is_stun.specs.declared.header.Class.TheVariants as class
-use Rattle.is_stun.specs.Timing.{is_modern}
-use Rattle.is_rules.specs.declared.emitted.Issued.{Issued}
-use Rattle.is_rules.specs.declared.emitted.Path.{Path}
-use Rattle.is_rules.specs.Agent.{AgentRecord}
-use Rattle.is_theorems.specs.Asked.{IsAnsweredOn, IsAnsweredIn}
-use Rattle.is_theorems.specs.Executions.{ExecutionRound}
-use Rattle.is_rules.specs.Emitted.{issued_as}
-use Rattle.is_theorems.specs.Exchange.{Execution}
-use Rattle.is_theorems.specs.Logs.{Logged}
-use Rattle.is_theorems.specs.Pending.{is_request, is_same_path, is_check_on}
-use Rattle.is_theorems.specs.Progress.{checks_for}
-use Rattle.is_theorems.specs.Reached.{IsLasting, is_in_round, IsPassing, ChecksIn, IsEndedIn, nominations_ahead}
-use Rattle.is_theorems.specs.ReachedExecutions.{IsPassed, ChecksAmong, IsAnsweredAmong, PassRounds, ExecutionsReach, ExecutionsCheck}
-use Rattle.is_theorems.specs.Rounds.{LoggedRound, entries_of, is_between, RunsOn}
-use Rattle.is_rules.specs.Sending.{path_of}
-use Rattle.is_theorems.specs.Staying.{MayEnd}
-use Rattle.is_rules.specs.Steps.{Call, SetMtu, SetControlTieBreaker, SetMaxCandidatePairs, SetMaxDiscovered, SetRenomination, SetTimingAdvance, SetLocalPreference, SetControlling, SetLocalCredentials, AddLocalCandidate, AddRemoteCandidate, ReceivePacket, HandleTimeout, PollTransmit, PollTimeout, PollEvent, Entry}
+use Rattle.is_theorems.proofs.Common.{[], ◌&&◌, ◌*◌, ◌++◌, ◌+◌, ◌∙◌, ◌∷◌, ◌≡◌, ◌≤◌, ◌⊎◌, AddLocalCandidate, AddRemoteCandidate, AgentRecord}
+use Rattle.is_theorems.proofs.Common.{ap, append_assoc, arith, Bool, Call, CandidateRecord, checks_for, ChecksAmong, ChecksIn, Class}
+use Rattle.is_theorems.proofs.Common.{entries_of, Entry, Execution, ExecutionRound, ExecutionsCheck, ExecutionsReach, false, HandleTimeout}
+use Rattle.is_theorems.proofs.Common.{Has, inl, inr, is_between, is_check_on, is_in_round, is_modern, is_request, is_same_path}
+use Rattle.is_theorems.proofs.Common.{IsAnsweredAmong, IsAnsweredIn, IsAnsweredOn, IsEndedIn, IsLasting, IsPassed, IsPassing, Issued}
+use Rattle.is_theorems.proofs.Common.{issued_as, length, List, Logged, LoggedRound, MayEnd, nominations_ahead, None, Option, PairRecord}
+use Rattle.is_theorems.proofs.Common.{PassRounds, Path, path_of, PollEvent, PollTimeout, PollTransmit, ReceivePacket, refl, RunsOn}
+use Rattle.is_theorems.proofs.Common.{same_address, same_protocol, SetControlling, SetControlTieBreaker, SetLocalCredentials}
+use Rattle.is_theorems.proofs.Common.{SetLocalPreference, SetMaxCandidatePairs, SetMaxDiscovered, SetMtu, SetRenomination, SetTimingAdvance}
+use Rattle.is_theorems.proofs.Common.{Some, Stream, subst, sym, true, ℕ}
 use Rattle.is_theorems.proofs.BasicLemmas.EqualAddresses.{both, same_address-sound, same_protocol-sound}
-use Rattle.is_theorems.proofs.ExecutionLogs.PerAgentExecutions.{entry_of, part_of, pushed, part_is, round_of, rounds_of, begun, as_many, either_has, recomputed, leads_on, executions-announce}
+use Rattle.is_theorems.proofs.ExecutionLogs.PerAgentExecutions.{entry_of, part_of, pushed, part_is, round_of, rounds_of, begun, as_many}
+use Rattle.is_theorems.proofs.ExecutionLogs.PerAgentExecutions.{either_has, recomputed, leads_on, executions-announce}
 use Rattle.is_theorems.proofs.ExecutionLogs.LogSegments.{no-case}
 use Rattle.is_theorems.proofs.StoredPairs.TransactionsThatStay.{is-on}
 use Rattle.is_theorems.proofs.PollingRounds.CountedSelections.{selections-same}

@@ -1,35 +1,17 @@
 -- The first round leaves a pair that is due by its `handle_timeout` call, and is not checked in it, due as it was. So what holds of
 -- a pair that is due before the rounds holds of it from the second round on.
-use Rattle.std.proofs.Common.{◌≡◌, ℕ, ◌+◌, ◌*◌, ◌<◌, ◌≤◌, Bool, true, false, not, List, [], ◌∷◌, ◌++◌, length, map, nat_lt, Option, Some, None, Ok, Err, is_some, unwrap_or, inl, inr, ◌⊎◌, refl, ap, sym, ◌∙◌, subst, arith}
-use Rattle.std.specs.Prelude.{IsSomeAnd}
-use Rattle.std.proofs.lemmas.Bool.{eq-eqb}
-use Rattle.std.proofs.lemmas.Bool.Decides.{nat_tests}
-use Rattle.rand_core.specs.Stream.{Stream}
-use Rattle.is_proto.specs.Lists.{Has}
-use Rattle.is_candidate.specs.Candidates.{CandidateRecord}
-use Rattle.is_pair.specs.Checks.{unanswered_count}
-use Rattle.is_pair.specs.Due.{asked, due_time_of, stays_answered}
-use Rattle.is_pair.specs.Pairs.{PairRecord}
 use Rattle.is_stun.specs.declared.header.Class.TheVariants as class
-use Rattle.is_stun.specs.declared.timing.StunTiming.{StunTiming}
-use Rattle.is_stun.specs.Timing.{is_modern, consent_of}
-use Rattle.is_rules.specs.Agent.{AgentRecord}
-use Rattle.is_rules.specs.Nominating.{numbers}
-use Rattle.is_theorems.specs.Asked.{IsAnsweredIn}
-use Rattle.is_theorems.specs.AskedExecutions.{AcceptsSuccessOn, Ends}
-use Rattle.is_rules.specs.declared.emitted.Path.{Path}
-use Rattle.is_rules.specs.Emitted.{issued_as}
-use Rattle.is_theorems.specs.Logs.{Logged}
-use Rattle.is_rules.specs.Polls.{PollsTimeout, NextTimeoutFrom, NextTimeouts}
-use Rattle.is_theorems.specs.Progress.{IsChecking}
-use Rattle.is_theorems.specs.Reached.{IsLasting, IsPassing, IsEndedIn, is_in_round, nominations_ahead, selection_count}
-use Rattle.is_theorems.specs.Rounds.{LoggedRound, Part, RunsOn, began_at, entries_of}
-use Rattle.is_theorems.specs.Runs.{IsFresh, Run}
-use Rattle.is_rules.specs.Sending.{path_of}
-use Rattle.is_rules.specs.Sound.{IsSound}
-use Rattle.is_theorems.specs.Staying.{MayEnd, Stays}
-use Rattle.is_rules.specs.Steps.{Call, SetMtu, SetControlTieBreaker, SetMaxCandidatePairs, SetMaxDiscovered, SetRenomination, SetTimingAdvance, SetLocalPreference, SetControlling, SetLocalCredentials, AddLocalCandidate, AddRemoteCandidate, Entry, ReceivePacket, HandleTimeout, PollTransmit, PollTimeout, PollEvent, Done, Step}
-use Rattle.is_rules.specs.Timeouts.{timeout_begun}
+use Rattle.is_theorems.proofs.Common.{[], ◌*◌, ◌++◌, ◌+◌, ◌<◌, ◌∙◌, ◌∷◌, ◌≡◌, ◌≤◌, ◌⊎◌, AcceptsSuccessOn, AddLocalCandidate}
+use Rattle.is_theorems.proofs.Common.{AddRemoteCandidate, AgentRecord, ap, arith, scheduled, began_at, Bool, Call, CandidateRecord, consent_of}
+use Rattle.is_theorems.proofs.Common.{Done, due_time_of, Ends, entries_of, Entry, eq-eqb, Err, false, HandleTimeout, Has, inl, inr}
+use Rattle.is_theorems.proofs.Common.{is_in_round, is_modern, is_some, IsAnsweredIn, IsChecking, IsEndedIn, IsFresh, IsLasting, IsPassing}
+use Rattle.is_theorems.proofs.Common.{IsReachedIn, IsSomeAnd, IsSound, issued_as, length, List, Logged, LoggedRound, map, MayEnd, nat_lt}
+use Rattle.is_theorems.proofs.Common.{nat_tests, NextTimeoutFrom, NextTimeouts, nominations_ahead, None, not, numbers, Ok, Option}
+use Rattle.is_theorems.proofs.Common.{PairRecord, PairsAreReachedFromDue, Part, Path, path_of, PollEvent, PollsTimeout, PollTimeout}
+use Rattle.is_theorems.proofs.Common.{PollTransmit, ReceivePacket, refl, rising-each, Run, RunsOn, selection_count, SetControlling}
+use Rattle.is_theorems.proofs.Common.{SetControlTieBreaker, SetLocalCredentials, SetLocalPreference, SetMaxCandidatePairs, SetMaxDiscovered}
+use Rattle.is_theorems.proofs.Common.{SetMtu, SetRenomination, SetTimingAdvance, Some, Stays, stays_answered, Step, Stream, StunTiming}
+use Rattle.is_theorems.proofs.Common.{subst, SufficesFromDue, sym, timeout_begun, true, unanswered_count, unwrap_or, ℕ}
 use Rattle.is_theorems.proofs.CallEffects.PathAndTradeEffects.{path_theorem}
 use Rattle.is_theorems.proofs.CallEffects.AddedCandidates.{by_deadline}
 use Rattle.is_theorems.proofs.ExecutionLogs.LogTheorems.{runs_sound}
@@ -41,18 +23,18 @@ use Rattle.is_theorems.proofs.DuePairs.ChecksAhead.{times, none-suffices}
 use Rattle.is_theorems.proofs.DuePairs.NominationsAhead.{to_select, to_send}
 use Rattle.is_theorems.proofs.ExecutionLogs.SegmentsAsExecutions.{ended-fits}
 use Rattle.is_theorems.proofs.CallEffects.FailedCallsAndNewAgents.{mtu_kept, local_kept, enrolment_kept, storing_kept}
-use Rattle.is_rules.proofs.PairLists.RisingNumbers.{rising-each}
 use Rattle.is_theorems.proofs.CallEffects.ServedRequests.{Has-mapped}
 use Rattle.is_theorems.proofs.DuePairs.PollingCycles.{none-left, maintains_pairs-from, distinct-sound}
 use Rattle.is_theorems.proofs.StoredPairs.PairsThatStay.{none-entered, pairs-stay}
 use Rattle.is_theorems.proofs.RuleEffects.SelectedPaths.{one_pair}
-use Rattle.is_theorems.proofs.DuePairs.AfterNominationAndRemoval.{Base, Kept, answered-if, answered-on, answered_at, kept_of, last_time_of, lasts-young}
+use Rattle.is_theorems.proofs.DuePairs.AfterNominationAndRemoval.{Base, Kept, answered-if, answered-on, answered_at, kept_of, last_time_of}
+use Rattle.is_theorems.proofs.DuePairs.AfterNominationAndRemoval.{lasts-young}
 use Rattle.is_theorems.proofs.EarlierChecks.AddedCandidates.{local-goes, remote-goes}
-use Rattle.is_theorems.specs.FirstTimeouts.{IsReachedIn, PairsAreReachedFromDue, SufficesFromDue}
 use Rattle.is_theorems.proofs.EarlierChecks.FirstTimeout.{Other, timeout-goes}
 use Rattle.is_theorems.proofs.ExecutionLogs.PerAgentExecutions.{either_has}
 use Rattle.is_theorems.proofs.PollingRounds.DuePairsInLogs.{reached-unless, reselected-goes}
-use Rattle.is_theorems.proofs.PollingRounds.InTurnAlong.{InTurn, IsNumbered, IsOfRound, Lined, Never, OffIn, lined, numbered-in-turn, profile-along, turn-along}
+use Rattle.is_theorems.proofs.PollingRounds.InTurnAlong.{InTurn, IsNumbered, IsOfRound, Lined, Never, OffIn, lined, numbered-in-turn}
+use Rattle.is_theorems.proofs.PollingRounds.InTurnAlong.{profile-along, turn-along}
 use Rattle.is_theorems.proofs.PollingRounds.CountedSelections.{paid, paid-within}
 
 lt-is : (n m : ℕ) → n < m → nat_lt n m ≡ true
@@ -93,11 +75,11 @@ module _ {H P : Type 0} where
 
   pub asks-keeps : (n at : ℕ) (old new : AgentRecord H P) (deadline : Option ℕ) → old.last_time ≡ Some at → PollsTimeout old deadline new → Keeps n old new
   asks-keeps n at old new deadline last h = some deadline (subst (λ o. NextTimeoutFrom o old deadline new) last h) where
-    fixed : new ≡ record old { pairs = map (asked at old.timing) old.pairs } → Keeps n old new
+    fixed : new ≡ record old { pairs = map (scheduled at old.timing) old.pairs } → Keeps n old new
     fixed made = keeps-to n old _ new (
       refl,
       λ d cs le (q, has, is, due, checks).
-          (asked at old.timing q, Has-mapped (asked at old.timing) old.pairs q has, is, ap Some (due-at at d old.timing q due), checks),
+          (scheduled at old.timing q, Has-mapped (scheduled at old.timing) old.pairs q has, is, ap Some (due-at at d old.timing q due), checks),
     ) made
 
     some : (deadline : Option ℕ) → IsSomeAnd deadline (λ w. NextTimeouts old at w new) → Keeps n old new

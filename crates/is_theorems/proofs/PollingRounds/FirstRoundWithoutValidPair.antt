@@ -1,28 +1,12 @@
 -- A controlling agent without a valid pair that is due by its first `handle_timeout` call has none after the round either, or selects
 -- a path in it. So what holds of pairs that are due before the rounds holds of it from the second round on.
-use Rattle.std.proofs.Common.{◌≡◌, ℕ, ◌<◌, ◌≤◌, Bool, true, List, [], ◌∷◌, ◌++◌, length, Some, inl, inr, ◌⊎◌, refl, ap, sym, ◌∙◌, subst, arith}
-use Rattle.std.proofs.lemmas.Bool.{eq-eqb}
-use Rattle.rand_core.specs.Stream.{Stream}
-use Rattle.is_proto.specs.Lists.{Has}
-use Rattle.is_candidate.specs.Candidates.{CandidateRecord}
-use Rattle.is_pair.specs.Checks.{unanswered_count}
-use Rattle.is_pair.specs.Due.{due_time_of}
-use Rattle.is_pair.specs.Pairs.{PairRecord}
-use Rattle.is_pair.specs.Turns.{IsPaced}
-use Rattle.is_stun.specs.declared.timing.StunTiming.{StunTiming}
-use Rattle.is_rules.specs.Agent.{AgentRecord}
-use Rattle.is_theorems.specs.AskedExecutions.{SuccessesSelect}
-use Rattle.is_theorems.specs.Executions.{ExecutionRound, SelectsAmong, ControlsAlong, ExecutionRounds}
-use Rattle.is_rules.specs.declared.emitted.Path.{Path}
-use Rattle.is_theorems.specs.Exchange.{AreBetween, Execution}
-use Rattle.is_theorems.specs.ReachedExecutions.{IsPassed, ChecksAmong, ExecutionsCheck}
-use Rattle.is_theorems.specs.Rounds.{is_between}
-use Rattle.is_theorems.specs.Runs.{IsFresh}
-use Rattle.is_rules.specs.Sending.{path_of}
-use Rattle.is_rules.specs.Sound.{IsSound, GivesBased}
-use Rattle.is_theorems.specs.Staying.{MayEnd}
-use Rattle.is_rules.specs.Steps.{Call, Entry, ReceivePacket, HandleTimeout, PollTransmit, PollTimeout, PollEvent, Step}
-use Rattle.is_rules.specs.Timeouts.{timeout_begun}
+use Rattle.is_theorems.proofs.Common.{[], ◌++◌, ◌<◌, ◌∙◌, ◌∷◌, ◌≡◌, ◌≤◌, ◌⊎◌, AgentRecord, ap, AreAsManyAsDue, AreBetween, arith, Bool}
+use Rattle.is_theorems.proofs.Common.{Call, CandidateRecord, ChecksAmong, ControlsAlong, due_time_of, Entry, eq-eqb, Execution}
+use Rattle.is_theorems.proofs.Common.{ExecutionRound, ExecutionRounds, ExecutionsCheck, ExecutionsCheckFromDue, GivesBased, HandleTimeout}
+use Rattle.is_theorems.proofs.Common.{Has, inl, inr, is_between, IsFresh, IsPaced, IsPassed, IsSound, length, List, MayEnd, PairRecord}
+use Rattle.is_theorems.proofs.Common.{Path, path_of, PollEvent, PollTimeout, PollTransmit, ReceivePacket, refl, SelectsAmong, Some, Step}
+use Rattle.is_theorems.proofs.Common.{Stream, StunTiming, subst, SuccessesSelect, SufficeForDue, sym, timeout_begun, times_of, true}
+use Rattle.is_theorems.proofs.Common.{unanswered_count, ℕ}
 use Rattle.is_theorems.proofs.DuePairs.AfterPackets.{NoneValid}
 use Rattle.is_theorems.proofs.DuePairs.NoNominationDue.{NoneIsDue, Quiet, due-none, none-is-due, quiet-call, quiet-timeout}
 use Rattle.is_theorems.proofs.PollingRounds.InTurnAlong.{Lined, lined-unanswered}
@@ -37,9 +21,9 @@ use Rattle.is_theorems.proofs.DuePairs.PollingCycles.{maintains_pairs-from}
 use Rattle.is_theorems.proofs.StoredPairs.PairsThatStay.{pairs-stay}
 use Rattle.is_theorems.proofs.StoredPairs.TransactionsOverPackets.{sound-execution}
 use Rattle.is_theorems.proofs.DuePairs.AfterNominationAndRemoval.{Base, answered_at, base_of as agent_base}
-use Rattle.is_theorems.specs.FirstChecks.{AreAsManyAsDue, SufficeForDue, ExecutionsCheckFromDue, times_of}
 use Rattle.is_theorems.proofs.EarlierChecks.FirstTimeout.{Other}
-use Rattle.is_theorems.proofs.PollingRounds.FirstRound.{Keeps, Waits, asks-keeps, between-keeps, keeps-to, lt-from, timeout-on, only-one, waits-on}
+use Rattle.is_theorems.proofs.PollingRounds.FirstRound.{Keeps, Waits, asks-keeps, between-keeps, keeps-to, lt-from, timeout-on, only-one}
+use Rattle.is_theorems.proofs.PollingRounds.FirstRound.{waits-on}
 
 many-times : {P : Type 0} (rounds : List (ExecutionRound P)) → length (times_of rounds) ≡ length rounds
 many-times [] = omega arith

@@ -1,28 +1,16 @@
 -- Along a segment each check is in turn, or sends a nomination at once, which is counted. While no pair is valid, until a success response
 -- is accepted, and without numbers, none is sent at once.
-use Rattle.std.proofs.Common.{◌≡◌, ℕ, ◌+◌, ◌*◌, ◌<◌, ◌≤◌, Bool, true, false, List, [], ◌∷◌, ◌++◌, length, Some, is_some, inl, inr, ◌⊎◌, refl, ap, sym, ◌∙◌, subst, arith}
-use Rattle.rand_core.specs.Stream.{Stream}
-use Rattle.is_proto.specs.Lists.{Has}
-use Rattle.is_stun.specs.Timing.{is_modern}
-use Rattle.is_candidate.specs.Candidates.{CandidateRecord}
-use Rattle.is_pair.specs.Checks.{unanswered_count}
-use Rattle.is_pair.specs.Due.{due_time_of}
-use Rattle.is_pair.specs.Pairs.{PairRecord, is_valid}
-use Rattle.is_rules.specs.Agent.{AgentRecord}
-use Rattle.is_rules.specs.Checking.{all_asked}
-use Rattle.is_rules.specs.Nominating.{nominates_at_once, numbers}
-use Rattle.is_rules.specs.Sound.{IsSound, GivesBased}
-use Rattle.is_rules.specs.Steps.{Call, HandleTimeout, Entry, Step}
-use Rattle.is_rules.specs.Timeouts.{timeout_begun, MaintainsPairs}
-use Rattle.is_theorems.specs.Executions.{AcceptsSuccess}
-use Rattle.is_theorems.specs.Logs.{Logged}
-use Rattle.is_theorems.specs.Progress.{Awaits, IsChecking, IsUnanswered, checks_for}
-use Rattle.is_theorems.specs.Reached.{IsInLine, IsLasting, IsPassing, Suffice, is_in_round, nominations_ahead, selection_count, selects}
-use Rattle.is_theorems.specs.Rounds.{LoggedRound, RunsOn, began_at, entries_of}
-use Rattle.is_theorems.specs.Runs.{IsFresh, Run}
+use Rattle.is_theorems.proofs.Common.{[], ◌*◌, ◌++◌, ◌+◌, ◌<◌, ◌∙◌, ◌∷◌, ◌≡◌, ◌≤◌, ◌⊎◌, AcceptsSuccess, AgentRecord, all_scheduled, ap, arith}
+use Rattle.is_theorems.proofs.Common.{Awaits, began_at, Bool, Call, CandidateRecord, checks_for, due_time_of, entries_of, Entry, false}
+use Rattle.is_theorems.proofs.Common.{GivesBased, HandleTimeout, Has, inl, inr, is_in_round, is_modern, is_some, is_valid, IsChecking}
+use Rattle.is_theorems.proofs.Common.{IsFresh, IsInLine, IsLasting, IsPassing, IsSound, IsUnanswered, length, List, Logged, LoggedRound}
+use Rattle.is_theorems.proofs.Common.{MaintainsPairs, nominates_at_once, nominations_ahead, numbers, PairRecord, refl, Run, RunsOn}
+use Rattle.is_theorems.proofs.Common.{selection_count, selects, Some, Step, Stream, subst, Suffice, sym, timeout_begun, true}
+use Rattle.is_theorems.proofs.Common.{unanswered_count, ℕ}
 use Rattle.is_theorems.proofs.CallEffects.PathAndTradeEffects.{path_theorem}
 use Rattle.is_theorems.proofs.DuePairs.NominationsAhead.{at-once-ends, calls-due, sends-less, sends-more, timeouts-due, to_select, to_send}
-use Rattle.is_theorems.proofs.DuePairs.NoNominationDue.{Quiet, as-is, modern-stays, modern-stays-timeout, none-at-check, quiet-call, quiet-timeout}
+use Rattle.is_theorems.proofs.DuePairs.NoNominationDue.{Quiet, as-is, modern-stays, modern-stays-timeout, none-at-check, quiet-call}
+use Rattle.is_theorems.proofs.DuePairs.NoNominationDue.{quiet-timeout}
 use Rattle.is_theorems.proofs.ExecutionLogs.LogSegments.{no-case, run-on}
 use Rattle.is_theorems.proofs.ExecutionLogs.LogTheorems.{runs_sound}
 use Rattle.is_theorems.proofs.ExecutionLogs.PerAgentExecutions.{either_has}
@@ -110,7 +98,7 @@ module _ {H P : Type 0} (mac : H → List ℕ → List ℕ → List ℕ) (answer
     pub owing : (call : Call P) (e : Entry) (old new : AgentRecord H P) (s t : Stream) → is_in_round (is_modern old.timing) call ≡ true → Step mac answers old s call e new t → owes new ≤ owes old + pays e
     pub owing_timeout : (now : ℕ) (e : Entry) (old new : AgentRecord H P) (s t : Stream) → Step mac answers old s (HandleTimeout now) e new t → owes new ≤ owes old + pays e
     pub at_once : (now : ℕ) (e : Entry) (old new : AgentRecord H P) (s t : Stream) → is_some old.remote_creds ≡ true → old.lite ≡ false → Stays old
-        → (h : MaintainsPairs mac now (timeout_begun now old) s e.emitted new t) → nominates_at_once (all_asked now h.4) ≡ true → owes new + 1 ≤ owes old + pays e
+        → (h : MaintainsPairs mac now (timeout_begun now old) s e.emitted new t) → nominates_at_once (all_scheduled now h.4) ≡ true → owes new + 1 ≤ owes old + pays e
     -- no `handle_timeout` call turns it off
     pub apart : (now : ℕ) (e : Entry) → Off (HandleTimeout now) e → ⊥
 
@@ -152,7 +140,7 @@ module _ {H P : Type 0} (mac : H → List ℕ → List ℕ → List ℕ) (answer
   Never call e = ⊥
 
   numbered-at-once : (c : Bool) (now : ℕ) (e : Entry) (old new : AgentRecord H P) (s t : Stream) → is_some old.remote_creds ≡ true → old.lite ≡ false → IsNumbered c old
-      → (h : MaintainsPairs mac now (timeout_begun now old) s e.emitted new t) → nominates_at_once (all_asked now h.4) ≡ true → to_send c new + 1 ≤ to_send c old + to_select c e
+      → (h : MaintainsPairs mac now (timeout_begun now old) s e.emitted new t) → nominates_at_once (all_scheduled now h.4) ≡ true → to_send c new + 1 ≤ to_send c old + to_select c e
   numbered-at-once c now e old new s t known full stays h due = by-count c refl where
     k : (new.nomination_due ≡ false) × (numbers old ≡ true) × ((old.nomination_due ≡ true) ⊎ (selects e ≡ true))
     k = (let l = at-once-ends mac now (timeout_begun now old) new s t e.emitted known full h due in (l.0, l.1, l.2))

@@ -1,11 +1,8 @@
 -- With limits on pairs and on what packets bring, a bound on the rounds before a pair that is due is checked.
-use Rattle.std.proofs.Common.{◌≡◌, ℕ, ◌+◌, ◌*◌, ◌≤◌, List, ◌++◌, length, sym, ◌∙◌, arith, append_assoc}
-use Rattle.is_stun.specs.Timing.{is_modern}
-use Rattle.is_candidate.specs.Candidates.{CandidateRecord}
 use Rattle.is_theorems.specs.BoundedRounds.{LimitsReach}
-use Rattle.is_theorems.specs.Bounds.{gathered_count, pair_bound, signal_count}
-use Rattle.is_theorems.specs.Reached.{PairsAreReached, nominations_ahead, selection_count}
-use Rattle.is_theorems.specs.Rounds.{entries_of}
+use Rattle.is_theorems.proofs.Common.{◌*◌, ◌++◌, ◌+◌, ◌∙◌, ◌≡◌, ◌≤◌, append_assoc, arith, CandidateRecord, entries_of, gathered_count}
+use Rattle.is_theorems.proofs.Common.{is_modern, length, List, nominations_ahead, pair_bound, PairsAreReached, selection_count}
+use Rattle.is_theorems.proofs.Common.{signal_count, sym, ℕ}
 use Rattle.is_theorems.proofs.DuePairs.ChecksAhead.{times, times-kept}
 use Rattle.is_theorems.proofs.StorageBounds.NumberOfPairs.{pairs_within}
 use Rattle.is_theorems.proofs.ExecutionLogs.PointsOfSegments.{deeper}

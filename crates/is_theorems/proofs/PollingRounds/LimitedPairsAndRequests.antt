@@ -1,23 +1,12 @@
 -- With limits, a bound on the rounds before a pair that is due is checked, whatever pairs requests add in them.
-use Rattle.std.proofs.Common.{◌≡◌, ℕ, ◌+◌, ◌*◌, ◌<◌, ◌≤◌, Bool, true, false, List, [], ◌∷◌, ◌++◌, length, count_by, inl, inr, refl, ap, sym, ◌∙◌, subst, arith, cond}
-use Rattle.std.proofs.Math.Nat.{add-mul, le_of_mul-le-mul_right, mul-le-mul_right}
-use Rattle.std.proofs.lemmas.List.Sums.{sum_by-append, sum_by-cons}
-use Rattle.rand_core.specs.Stream.{Stream}
-use Rattle.is_proto.specs.Lists.{Has}
-use Rattle.is_stun.specs.Timing.{is_modern}
-use Rattle.is_candidate.specs.Candidates.{CandidateRecord}
-use Rattle.is_pair.specs.Pairs.{PairRecord}
-use Rattle.is_rules.specs.Agent.{AgentRecord}
-use Rattle.is_theorems.specs.Bounds.{FormsFew, IsLimited, gathered_count, is_gathered, is_signal, pair_bound, signal_count}
-use Rattle.is_theorems.specs.Logs.{Logged}
-use Rattle.is_theorems.specs.Reached.{IsEndedIn, PairsAreReached, is_in_round, nominations_ahead, selection_count}
-use Rattle.is_theorems.specs.Rounds.{LoggedRound, Part, RunsOn, entries_of}
-use Rattle.is_theorems.specs.Runs.{IsFresh, Run}
-use Rattle.is_rules.specs.Sending.{path_of}
-use Rattle.is_rules.specs.Sound.{IsSound}
-use Rattle.is_theorems.specs.Staying.{MayEnd}
-use Rattle.is_rules.specs.Steps.{Call, SetRenomination, AddLocalCandidate, AddRemoteCandidate, InvalidateCandidate, RestartIce, RecreateCandidatePairs, HandleTimeout, Entry}
-use Rattle.is_rules.specs.declared.emitted.Path.{Path}
+use Rattle.is_theorems.proofs.Common.{[], ◌*◌, ◌++◌, ◌+◌, ◌<◌, ◌∙◌, ◌∷◌, ◌≡◌, ◌≤◌, add-mul, AddLocalCandidate, AddRemoteCandidate}
+use Rattle.is_theorems.proofs.Common.{AgentRecord, ap, AreSteady, arith, Bool, Call, CandidateRecord, cond, ConsentLastsIn, count_by}
+use Rattle.is_theorems.proofs.Common.{entries_of, Entry, false, FormsFew, gathered_count, HandleTimeout, Has, inl, inr, InvalidateCandidate}
+use Rattle.is_theorems.proofs.Common.{is_gathered, is_in_round, is_modern, is_signal, is_steady, is_timeout, IsEndedIn, IsFresh, IsLimited}
+use Rattle.is_theorems.proofs.Common.{IsSound, le_of_mul-le-mul_right, length, List, Logged, LoggedRound, MayEnd, mul-le-mul_right}
+use Rattle.is_theorems.proofs.Common.{nominations_ahead, NoneIsStarved, pair_bound, PairRecord, PairsAreReached, Part, Path, path_of}
+use Rattle.is_theorems.proofs.Common.{RecreateCandidatePairs, refl, RestartIce, Run, RunsOn, selection_count, SetRenomination, signal_count}
+use Rattle.is_theorems.proofs.Common.{Stream, subst, sum_by-append, sum_by-cons, sym, timeout_count, true, ℕ}
 use Rattle.is_theorems.proofs.DuePairs.ChecksAhead.{times, times-kept}
 use Rattle.is_theorems.proofs.StorageBounds.BoundedLists.{at-most-one}
 use Rattle.is_theorems.proofs.StorageBounds.NumberOfPairs.{pairs_within}
@@ -25,7 +14,6 @@ use Rattle.is_theorems.proofs.CallEffects.PathAndTradeEffects.{path_theorem}
 use Rattle.is_theorems.proofs.ExecutionLogs.LogTheorems.{runs_sound}
 use Rattle.is_theorems.proofs.ExecutionLogs.LogSegments.{no-case, run-on}
 use Rattle.is_theorems.proofs.ExecutionLogs.PointsOfSegments.{deeper}
-use Rattle.is_theorems.specs.NotStarved.{AreSteady, ConsentLastsIn, NoneIsStarved, is_steady, is_timeout, timeout_count}
 use Rattle.is_theorems.proofs.RemainingChecks.PairsThatRequestsAdd.{requests-add-few}
 use Rattle.is_theorems.proofs.BasicLemmas.EqualAddresses.{both}
 

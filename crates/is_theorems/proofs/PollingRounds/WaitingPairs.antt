@@ -1,14 +1,6 @@
 -- A pair that waits for its check when rounds begin.
-use Rattle.std.proofs.Common.{◌≡◌, ℕ, ◌+◌, ◌<◌, ◌≤◌, Bool, true, false, List, nat_lt, refl, arith}
-use Rattle.std.proofs.lemmas.Bool.Decides.{nat_tests}
-use Rattle.is_proto.specs.Times.{MAX}
-use Rattle.is_stun.specs.Timing.{is_modern}
-use Rattle.is_pair.specs.Checks.{unanswered_count}
-use Rattle.is_pair.specs.Pairs.{PairRecord}
-use Rattle.is_rules.specs.Agent.{AgentRecord}
-use Rattle.is_rules.specs.Sending.{path_of}
-use Rattle.is_theorems.specs.KindsInTurn.{WaitsInRounds}
-use Rattle.is_theorems.specs.Rounds.{LoggedRound}
+use Rattle.is_theorems.proofs.Common.{◌+◌, ◌<◌, ◌≡◌, ◌≤◌, AgentRecord, arith, Bool, false, is_modern, List, LoggedRound, MAX, nat_lt}
+use Rattle.is_theorems.proofs.Common.{nat_tests, PairRecord, path_of, refl, true, unanswered_count, WaitsInRounds, ℕ}
 use Rattle.is_theorems.proofs.DuePairs.AfterNominationAndRemoval.{answered_at}
 use Rattle.is_theorems.proofs.DuePairs.ChecksAhead.{calls_left, times}
 use Rattle.is_theorems.proofs.EarlierChecks.ChecksOfOtherPairs.{all-but, leads}

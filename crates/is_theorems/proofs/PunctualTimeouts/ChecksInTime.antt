@@ -1,34 +1,17 @@
 -- A pair that waits for its check is due at each `poll_timeout` call, so this returns a time at most one pacing interval after the last
 -- `handle_timeout` call.
-use Rattle.std.proofs.Common.{◌≡◌, ℕ, zero, suc, ◌+◌, ◌*◌, ◌<◌, ◌≤◌, max, Bool, true, false, List, [], ◌∷◌, ◌++◌, length, Option, Some, is_some, inl, inr, ◌⊎◌, refl, ap, sym, ◌∙◌, subst, arith}
-use Rattle.std.proofs.Math.Nat.{suc-mul}
-use Rattle.rand_core.specs.Stream.{Stream}
-use Rattle.is_proto.specs.Lists.{Has}
-use Rattle.is_proto.specs.Times.{MAX}
-use Rattle.is_candidate.specs.Candidates.{CandidateRecord}
-use Rattle.is_pair.specs.Checks.{unanswered_count}
-use Rattle.is_pair.specs.Due.{due_time_of, call_time_of}
-use Rattle.is_pair.specs.Pairs.{PairRecord}
-use Rattle.is_pair.specs.Turns.{IsPaced}
 use Rattle.is_pair.proofs.ConsentTimes.EndOfConsent.{calls-when-due}
-use Rattle.is_stun.specs.declared.timing.StunTiming.{StunTiming}
-use Rattle.is_stun.specs.Timing.{is_modern}
-use Rattle.is_rules.specs.declared.emitted.Path.{Path}
-use Rattle.is_rules.specs.Agent.{AgentRecord}
-use Rattle.is_theorems.specs.AskedExecutions.{Ends, EndsAlong, IsAnsweredAlong, SuccessesSelect}
-use Rattle.is_theorems.specs.Executions.{ControlsAlong, ExecutionRound, ExecutionRounds}
-use Rattle.is_theorems.specs.Exchange.{AreBetween, Execution}
-use Rattle.is_rules.specs.Polls.{PollsTimeout, soon}
-use Rattle.is_theorems.specs.Progress.{Awaits, IsUnanswered}
-use Rattle.is_theorems.specs.Reached.{IsInLine, IsLasting, nominations_ahead}
-use Rattle.is_theorems.specs.ReachedExecutions.{IsAnsweredAmong, IsPassed, PassRounds, selections_among}
-use Rattle.is_theorems.specs.Runs.{IsFresh}
-use Rattle.is_theorems.specs.SelectedInTime.{SelectsBy}
-use Rattle.is_rules.specs.Sending.{path_of}
-use Rattle.is_rules.specs.Sound.{IsSound}
-use Rattle.is_theorems.specs.Staying.{MayEnd}
-use Rattle.is_rules.specs.Steps.{Call, Entry, HandleTimeout, PollTimeout, SetTimingAdvance, Done, NextTimeout, Step}
-use Rattle.is_rules.specs.Timeouts.{timeout_begun}
+use Rattle.is_theorems.proofs.Common.{[], ◌*◌, ◌++◌, ◌+◌, ◌<◌, ◌∙◌, ◌∷◌, ◌≡◌, ◌≤◌, ◌⊎◌, AgentRecord, ap, AreBetween, AreInRound, arith}
+use Rattle.is_theorems.proofs.Common.{Awaits, Bool, Call, call_time_of, CandidateRecord, ChecksBy, ComeBy, ControlsAlong, Done, due_time_of}
+use Rattle.is_theorems.proofs.Common.{Ends, EndsAlong, EndsAmong, Entry, Execution, ExecutionRound, ExecutionRounds, ExecutionsCheckFromDue}
+use Rattle.is_theorems.proofs.Common.{ExecutionsCheckInTime, ExecutionsReachFromDue, ExecutionsReachInTime, false, HandleTimeout, Has, inl}
+use Rattle.is_theorems.proofs.Common.{inr, is_modern, is_some, IsAnsweredAlong, IsAnsweredAmong, IsFresh, IsInLine, IsLasting, IsOpenRound}
+use Rattle.is_theorems.proofs.Common.{IsPaced, IsPassed, IsPrompt, IsPunctual, IsReachedBy, IsSound, IsTimed, IsUnanswered, KeepsPace}
+use Rattle.is_theorems.proofs.Common.{length, List, MAX, max, MayEnd, NextComesInTime, NextTimeout, nominations_ahead, Option, pacing-short}
+use Rattle.is_theorems.proofs.Common.{PairRecord, PassRounds, Path, path_of, PollsTimeout, PollTimeout, refl, RoundsComeInTime}
+use Rattle.is_theorems.proofs.Common.{RoundsSuffice, selections_among, SelectsBy, SetTimingAdvance, Some, soon, Step, Stream, StunTiming}
+use Rattle.is_theorems.proofs.Common.{subst, suc, suc-mul, SuccessesSelect, SufficeForDue, Suffices, sym, timeout_begun, timeouts-in-time}
+use Rattle.is_theorems.proofs.Common.{times_of, true, unanswered_count, zero, ℕ}
 use Rattle.is_theorems.proofs.CallEffects.PathAndTradeEffects.{path_theorem}
 use Rattle.is_theorems.proofs.ExecutionLogs.LogSegments.{passed as passed-at}
 use Rattle.is_theorems.proofs.DuePairs.FirstDuePair.{due-at, timeout-follows}
@@ -41,10 +24,6 @@ use Rattle.is_theorems.proofs.PathSelection.FirstSuccessInRounds.{SelectsBySucce
 use Rattle.is_theorems.proofs.PathSelection.NominatedByPeerPerAgent.{execution_on}
 use Rattle.is_theorems.proofs.StoredPairs.PairsThatStay.{pairs-stay}
 use Rattle.is_theorems.proofs.StoredPairs.TransactionsOverPackets.{sound-execution}
-use Rattle.is_rules.proofs.PollsAndResponses.NextTimeout.{pacing-short, timeouts-in-time}
-use Rattle.is_theorems.specs.FirstChecks.{ExecutionsCheckFromDue, SufficeForDue, times_of}
-use Rattle.is_theorems.specs.FirstTimeouts.{AreInRound, IsOpenRound, EndsAmong, RoundsSuffice, Suffices, ExecutionsReachFromDue}
-use Rattle.is_theorems.specs.InTime.{ChecksBy, ComeBy, ExecutionsCheckInTime, ExecutionsReachInTime, IsPrompt, IsPunctual, IsReachedBy, IsTimed, KeepsPace, NextComesInTime, RoundsComeInTime}
 use Rattle.is_theorems.specs.Pacing.{advance_after}
 use Rattle.is_theorems.proofs.PollingRounds.CountedSelections.{ahead-fewer}
 use Rattle.is_theorems.proofs.PollingRounds.FirstRoundWithoutValidPair.{Calm, on-call}
@@ -245,7 +224,7 @@ module _ {H P : Type 0} where
           ]
         ]
 
-    -- the same, with a bound on the round of a success response
+    -- the rounds of a punctual caller come in time, with a bound on the round of a success response
     pub rounds-come-soon : (first start last : AgentRecord H P) (xs : List (Call P × Entry)) (r : ExecutionRound P) (later : List (ExecutionRound P)) (p : PairRecord) (by pace delay : ℕ)
         → IsFresh first → Execution mac answers xs first start → Lined r.now by start p → by ≤ r.now → r.timeout.answer ≡ Done → AreInRound (is_modern start.timing) r.following
         → (run : PassRounds mac answers (r ∷ later) start last) → ((x : ExecutionRound P) → Has later x → IsOpenRound (is_modern start.timing) by x)

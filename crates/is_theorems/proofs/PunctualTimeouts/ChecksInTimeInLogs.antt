@@ -1,29 +1,15 @@
 -- A pair is checked in time in the rounds of a log. What mutants/specifications changes is read by tactics.
-use Rattle.std.proofs.Common.{◌≡◌, ℕ, ◌+◌, ◌*◌, ◌<◌, ◌≤◌, ◌⊎◌, Bool, true, List, [], ◌∷◌, ◌++◌, length, inl, inr, refl, ap, sym, ◌∙◌, subst, arith}
-use Rattle.rand_core.specs.Stream.{Stream}
-use Rattle.is_proto.specs.Lists.{Has}
-use Rattle.is_proto.specs.Times.{MAX}
-use Rattle.is_stun.specs.Timing.{is_modern}
-use Rattle.is_candidate.specs.Candidates.{CandidateRecord}
-use Rattle.is_pair.specs.Pairs.{PairRecord}
-use Rattle.is_rules.specs.declared.emitted.Path.{Path}
-use Rattle.is_rules.specs.Agent.{AgentRecord}
-use Rattle.is_rules.specs.Sending.{path_of}
-use Rattle.is_rules.specs.Steps.{Call, Entry, HandleTimeout, Done}
-use Rattle.is_theorems.specs.Asked.{IsAnsweredIn}
-use Rattle.is_theorems.specs.AskedExecutions.{AcceptsSuccessOn, IsAnsweredAlong}
-use Rattle.is_theorems.specs.Executions.{ExecutionRound}
-use Rattle.is_theorems.specs.FirstTimeouts.{IsOpenRound, RoundsSuffice}
-use Rattle.is_theorems.specs.InTime.{ExecutionsReachInTime, IsPrompt, IsPunctual, IsReachedBy, IsTimed, RoundsComeInTime, SendsCheckOn}
-use Rattle.is_theorems.specs.Logs.{Logged}
-use Rattle.is_theorems.specs.Progress.{checks_for}
-use Rattle.is_theorems.specs.Reached.{IsInLine, IsLasting, is_in_round, IsPassing, nominations_ahead, selection_count}
-use Rattle.is_theorems.specs.ReachedExecutions.{PassRounds, selections_among}
-use Rattle.is_theorems.specs.Rounds.{LoggedRound, Part, entries_of}
-use Rattle.is_theorems.specs.Runs.{IsFresh}
-use Rattle.is_theorems.specs.TimedRounds.{all_entries, IsPromptIn, IsPunctualIn, IsReachedInBy, IsTimedIn, last_round, LoggedRoundsSuffice, PairsAreReachedInTime}
+use Rattle.is_theorems.proofs.Common.{[], ◌*◌, ◌++◌, ◌+◌, ◌<◌, ◌∙◌, ◌∷◌, ◌≡◌, ◌≤◌, ◌⊎◌, AcceptsSuccessOn, AgentRecord, all_entries, ap}
+use Rattle.is_theorems.proofs.Common.{arith, Bool, Call, CandidateRecord, checks_for, Done, entries_of, Entry, ExecutionRound}
+use Rattle.is_theorems.proofs.Common.{ExecutionsReachInTime, HandleTimeout, Has, inl, inr, is_in_round, is_modern, IsAnsweredAlong}
+use Rattle.is_theorems.proofs.Common.{IsAnsweredIn, IsFresh, IsInLine, IsLasting, IsOpenRound, IsPassing, IsPrompt, IsPromptIn, IsPunctual}
+use Rattle.is_theorems.proofs.Common.{IsPunctualIn, IsReachedBy, IsReachedInBy, IsTimed, IsTimedIn, last_round, length, List, Logged}
+use Rattle.is_theorems.proofs.Common.{LoggedRound, LoggedRoundsSuffice, MAX, nominations_ahead, PairRecord, PairsAreReachedInTime, Part}
+use Rattle.is_theorems.proofs.Common.{PassRounds, Path, path_of, refl, RoundsComeInTime, RoundsSuffice, selection_count, selections_among}
+use Rattle.is_theorems.proofs.Common.{SendsCheckOn, Stream, subst, sym, true, ℕ}
 use Rattle.is_theorems.proofs.CallEffects.ExternalViews.{Has-front, Has-rear}
-use Rattle.is_theorems.proofs.ExecutionLogs.SegmentsAsExecutions.{among_onto, calls_onto, execution_to, onto_has, onto_is, pass_onto, round_from, rounds_count, rounds_is, rounds_onto}
+use Rattle.is_theorems.proofs.ExecutionLogs.SegmentsAsExecutions.{among_onto, calls_onto, execution_to, onto_has, onto_is, pass_onto}
+use Rattle.is_theorems.proofs.ExecutionLogs.SegmentsAsExecutions.{round_from, rounds_count, rounds_is, rounds_onto}
 use Rattle.is_theorems.proofs.PollingRounds.AddedCandidatesInLogs.{in_entries}
 use Rattle.is_theorems.proofs.PollingRounds.CountedSelections.{selections-all, selections-onto}
 use Rattle.is_theorems.proofs.PunctualTimeouts.ChecksInTime.{come-all}

@@ -1,29 +1,14 @@
 -- After a `handle_timeout` call each pair has consent, and the next one comes in time for its end.
-use Rattle.std.proofs.Common.{◌≡◌, ℕ, ◌+◌, ◌≤◌, max, true, false, List, [], ◌∷◌, Option, Some, None, Ok, Err, inl, inr, refl, ap, sym, ◌∙◌, subst, arith}
-use Rattle.std.specs.Prelude.{MatchOption}
-use Rattle.rand_core.specs.Stream.{Stream}
-use Rattle.is_proto.specs.Lists.{Has}
-use Rattle.is_candidate.specs.Candidates.{CandidateRecord}
-use Rattle.is_pair.specs.Due.{consent_end, call_time_of, call_time_with}
-use Rattle.is_pair.specs.Pairs.{PairRecord}
-use Rattle.is_stun.specs.declared.timing.Consent.{Consent}
-use Rattle.is_stun.specs.Timing.{consent_of}
 use Rattle.is_pair.proofs.ConsentTimes.EndOfConsent.{calls-at-end}
-use Rattle.is_rules.specs.Agent.{AgentRecord}
-use Rattle.is_rules.specs.declared.emitted.Emitted.{Emitted}
-use Rattle.is_rules.specs.declared.emitted.Path.{Path}
-use Rattle.is_rules.specs.Forming.{Combination, FormsAll}
-use Rattle.is_rules.specs.Polls.{PollsTimeout, soon}
-use Rattle.is_rules.specs.Queue.{request_at}
-use Rattle.is_rules.specs.Steps.{Call, SetMtu, SetControlTieBreaker, SetMaxCandidatePairs, SetMaxDiscovered, SetRenomination, SetTimingAdvance, SetLocalPreference, SetControlling, SetLocalCredentials, AddLocalCandidate, AddRemoteCandidate, ReceivePacket, PollTransmit, PollTimeout, PollEvent, NextTimeout, Entry, Step}
-use Rattle.is_rules.specs.Settling.{loses_selected, Reselects}
-use Rattle.is_rules.specs.Timeouts.{at_request, timeout_begun, MaintainsPairs, ServesQueued, TimesOut}
 use Rattle.is_theorems.specs.Consent.{ConsentEndsInTime, ConsentHolds, IsPolledIn}
-use Rattle.is_theorems.specs.Exchange.{Execution}
-use Rattle.is_theorems.specs.FirstTimeouts.{AreInRound}
-use Rattle.is_theorems.specs.InTime.{KeepsPace}
-use Rattle.is_theorems.specs.Reached.{is_in_round}
-use Rattle.is_rules.proofs.PollsAndResponses.NextTimeout.{pacing-short, timeouts-in-time}
+use Rattle.is_theorems.proofs.Common.{[], ◌+◌, ◌∙◌, ◌∷◌, ◌≡◌, ◌≤◌, AddLocalCandidate, AddRemoteCandidate, AgentRecord, ap, AreInRound}
+use Rattle.is_theorems.proofs.Common.{arith, at_request, Call, call_time_of, call_time_with, CandidateRecord, Combination, Consent}
+use Rattle.is_theorems.proofs.Common.{consent_end, consent_of, Emitted, Entry, Err, Execution, false, FormsAll, Has, inl, inr, is_in_round}
+use Rattle.is_theorems.proofs.Common.{KeepsPace, List, loses_selected, MaintainsPairs, MatchOption, max, NextTimeout, None, Ok, Option}
+use Rattle.is_theorems.proofs.Common.{pacing-short, PairRecord, Path, PollEvent, PollsTimeout, PollTimeout, PollTransmit, ReceivePacket}
+use Rattle.is_theorems.proofs.Common.{refl, request_at, Reselects, ServesQueued, SetControlling, SetControlTieBreaker, SetLocalCredentials}
+use Rattle.is_theorems.proofs.Common.{SetLocalPreference, SetMaxCandidatePairs, SetMaxDiscovered, SetMtu, SetRenomination, SetTimingAdvance}
+use Rattle.is_theorems.proofs.Common.{Some, soon, Step, Stream, subst, sym, timeout_begun, timeouts-in-time, TimesOut, true, ℕ}
 use Rattle.is_theorems.proofs.CallEffects.AddedCandidates.{by_adding_local, by_adding_remote, by_waking}
 use Rattle.is_theorems.proofs.CallEffects.FailedCallsAndNewAgents.{mtu_kept, local_kept, enrolment_kept, storing_kept}
 use Rattle.is_theorems.proofs.ExecutionLogs.LogSegments.{no-case}

@@ -1,27 +1,12 @@
 -- In the rounds in which the check is due, a success response is accepted or the check is sent. Then a success response comes within the
 -- round trip, and the first one selects a path. What mutants/specifications changes is read by tactics.
-use Rattle.std.proofs.Common.{◌≡◌, ℕ, ◌+◌, ◌*◌, ◌<◌, ◌≤◌, true, List, [], ◌∷◌, ◌++◌, length, inl, inr, ◌⊎◌, refl, sym, subst, arith}
-use Rattle.is_proto.specs.Lists.{Has}
-use Rattle.is_proto.specs.Times.{MAX}
-use Rattle.is_candidate.specs.Candidates.{CandidateRecord}
-use Rattle.is_pair.specs.Pairs.{PairRecord}
-use Rattle.is_stun.specs.Timing.{is_modern}
-use Rattle.is_rules.specs.declared.emitted.Path.{Path}
-use Rattle.is_rules.specs.Agent.{AgentRecord}
-use Rattle.is_rules.specs.Sending.{path_of}
-use Rattle.is_rules.specs.Sound.{IsSound}
-use Rattle.is_rules.specs.Steps.{Call, Entry, Done}
-use Rattle.is_theorems.specs.AskedExecutions.{IsAnsweredAlong, SuccessesSelect}
-use Rattle.is_theorems.specs.Executions.{ExecutionRound, ExecutionRounds}
-use Rattle.is_theorems.specs.Exchange.{AreBetween, Execution}
-use Rattle.is_theorems.specs.FirstChecks.{ExecutionsCheckFromDue}
-use Rattle.is_theorems.specs.FirstTimeouts.{AreInRound, ExecutionsReachUnanswered, EndsAmong, IsOpenRound, IsReached, Suffices}
-use Rattle.is_theorems.specs.InTime.{ChecksBy, ComeBy, IsTimed}
-use Rattle.is_theorems.specs.Progress.{Awaits, IsUnanswered}
-use Rattle.is_theorems.specs.ReachedExecutions.{IsPassed, PassRounds}
-use Rattle.is_theorems.specs.Runs.{IsFresh}
-use Rattle.is_theorems.specs.ServedSoon.{ExecutionsReachServed, SufficesForServed}
-use Rattle.is_theorems.specs.SelectedInTime.{AcceptsBy, AcceptsSuccessAlong, ExecutionsSelectInTime, in_any_role, SelectsBy}
+use Rattle.is_theorems.proofs.Common.{[], ◌*◌, ◌++◌, ◌+◌, ◌<◌, ◌∷◌, ◌≡◌, ◌≤◌, ◌⊎◌, AcceptsBy, AcceptsSuccessAlong, AgentRecord, AreBetween}
+use Rattle.is_theorems.proofs.Common.{AreInRound, arith, Awaits, Call, CandidateRecord, ChecksBy, ComeBy, Done, EndsAmong, Entry, Execution}
+use Rattle.is_theorems.proofs.Common.{ExecutionRound, ExecutionRounds, ExecutionsCheckFromDue, ExecutionsReachServed}
+use Rattle.is_theorems.proofs.Common.{ExecutionsReachUnanswered, ExecutionsSelectInTime, Has, in_any_role, inl, inr, is_modern}
+use Rattle.is_theorems.proofs.Common.{IsAnsweredAlong, IsFresh, IsOpenRound, IsPassed, IsReached, IsSound, IsTimed, IsUnanswered, length}
+use Rattle.is_theorems.proofs.Common.{List, MAX, PairRecord, PassRounds, Path, path_of, refl, SelectsBy, subst, SuccessesSelect, Suffices}
+use Rattle.is_theorems.proofs.Common.{SufficesForServed, sym, true, ℕ}
 use Rattle.is_theorems.proofs.DuePairs.NoNominationDue.{Quiet, due-none}
 use Rattle.is_theorems.proofs.ExecutionLogs.PerAgentExecutions.{either_has, front_has}
 use Rattle.is_theorems.proofs.PathSelection.FirstSuccessInRounds.{selects-by}

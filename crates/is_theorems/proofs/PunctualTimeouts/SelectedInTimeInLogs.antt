@@ -1,32 +1,19 @@
 -- A path is selected in time in the rounds of a log. What mutants/specifications changes is read by tactics.
-use Rattle.std.proofs.Common.{◌≡◌, ℕ, ◌+◌, ◌*◌, ◌≤◌, ◌⊎◌, Bool, true, List, [], ◌∷◌, ◌++◌, length, suc, is_some, inl, inr, refl, ap, sym, ◌∙◌, subst, arith, append_assoc}
-use Rattle.std.proofs.lemmas.List.{append-nil}
-use Rattle.rand_core.specs.Stream.{Stream}
-use Rattle.is_proto.specs.Lists.{Has}
-use Rattle.is_stun.specs.Timing.{is_modern}
-use Rattle.is_candidate.specs.Candidates.{CandidateRecord}
-use Rattle.is_rules.specs.declared.emitted.Path.{Path}
-use Rattle.is_rules.specs.Agent.{AgentRecord}
-use Rattle.is_rules.specs.Effects.{last_of}
-use Rattle.is_rules.specs.Sending.{path_of}
-use Rattle.is_rules.specs.Steps.{Call, Entry, HandleTimeout, Done, Step}
-use Rattle.is_theorems.specs.Executions.{AcceptsSuccess, ControlsAlong, ExecutionRound, ExecutionRounds}
-use Rattle.is_theorems.specs.Exchange.{AreBetween, Execution}
-use Rattle.is_theorems.specs.FirstChecks.{SufficeForDue, times_of}
-use Rattle.is_theorems.specs.FirstTimeouts.{AreInRound, EndsAmong, IsOpenRound, Suffices}
-use Rattle.is_theorems.specs.InTime.{SendsCheckOn}
-use Rattle.is_theorems.specs.Logs.{Logged}
 use Rattle.is_theorems.specs.OpenRounds.{ArePlain}
-use Rattle.is_theorems.specs.Reached.{is_in_round, IsEndedIn, IsPassing}
-use Rattle.is_theorems.specs.ReachedExecutions.{PassRounds}
-use Rattle.is_theorems.specs.Rounds.{LoggedRound, entries_of, is_between, RunsOn, IsControllingIn}
-use Rattle.is_theorems.specs.SelectedInTime.{AcceptsBy, ExecutionsSelectInTime, in_any_role, IsAnsweredWithin, SelectsBy, SufficeForCheck}
-use Rattle.is_theorems.specs.ServedSoon.{IsOvertakenAmong}
-use Rattle.is_theorems.specs.UrgentFirst.{IsOvertaken, IsOvertakenIn}
 use Rattle.is_theorems.specs.TimedSelections.{AcceptsInBy, logged_times, OvertakeLater, PathsAreSelectedInTime, SelectsInBy}
+use Rattle.is_theorems.proofs.Common.{[], ◌*◌, ◌++◌, ◌+◌, ◌∙◌, ◌∷◌, ◌≡◌, ◌≤◌, ◌⊎◌, AcceptsBy, AcceptsSuccess, AgentRecord, ap, append-nil}
+use Rattle.is_theorems.proofs.Common.{append_assoc, AreBetween, AreInRound, arith, Bool, Call, CandidateRecord, ControlsAlong, Done}
+use Rattle.is_theorems.proofs.Common.{EndsAmong, entries_of, Entry, Execution, ExecutionRound, ExecutionRounds, ExecutionsSelectInTime}
+use Rattle.is_theorems.proofs.Common.{HandleTimeout, Has, in_any_role, inl, inr, is_between, is_in_round, is_modern, is_some}
+use Rattle.is_theorems.proofs.Common.{IsAnsweredWithin, IsControllingIn, IsEndedIn, IsOpenRound, IsOvertaken, IsOvertakenAmong}
+use Rattle.is_theorems.proofs.Common.{IsOvertakenIn, IsPassing, last_of, length, List, Logged, LoggedRound, PassRounds, Path, path_of, refl}
+use Rattle.is_theorems.proofs.Common.{RunsOn, SelectsBy, SendsCheckOn, Step, Stream, subst, suc, SufficeForCheck, SufficeForDue, Suffices}
+use Rattle.is_theorems.proofs.Common.{sym, times_of, true, ℕ}
 use Rattle.is_theorems.proofs.CallEffects.ExternalViews.{Has-front, Has-rear}
 use Rattle.is_theorems.proofs.ExecutionLogs.LogSegments.{now-controlling, starts-controlling}
-use Rattle.is_theorems.proofs.ExecutionLogs.SegmentsAsExecutions.{among_onto, calls_onto, execution_from, execution_onto, execution_to, onto_has, pass_from, pass_onto, round_from, rounds_count, rounds_is, rounds_onto, split-run}
+use Rattle.is_theorems.proofs.ExecutionLogs.SegmentsAsExecutions.{among_onto, calls_onto, execution_from, execution_onto, execution_to}
+use Rattle.is_theorems.proofs.ExecutionLogs.SegmentsAsExecutions.{onto_has, pass_from, pass_onto, round_from, rounds_count, rounds_is}
+use Rattle.is_theorems.proofs.ExecutionLogs.SegmentsAsExecutions.{rounds_onto, split-run}
 use Rattle.is_theorems.proofs.PunctualTimeouts.ChecksInTimeInLogs.{call-is, timed}
 use Rattle.is_theorems.proofs.UrgentPairs.RoundsOfUrgentPairs.{split-overtaken}
 

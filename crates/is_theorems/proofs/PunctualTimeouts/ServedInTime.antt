@@ -1,9 +1,7 @@
 -- With a punctual caller a pair on which a request was served is reached by the time of the last round. What mutants/specifications changes is
 -- read by tactics.
-use Rattle.std.proofs.Common.{ℕ, ◌+◌, List, inl, inr, refl, arith}
-use Rattle.is_candidate.specs.Candidates.{CandidateRecord}
-use Rattle.is_theorems.specs.InTime.{RoundsComeInTime}
-use Rattle.is_theorems.specs.ServedSoon.{ServedExecutionsReach, ServedExecutionsReachInTime}
+use Rattle.is_theorems.proofs.Common.{◌+◌, arith, CandidateRecord, inl, inr, List, refl, RoundsComeInTime, ServedExecutionsReach}
+use Rattle.is_theorems.proofs.Common.{ServedExecutionsReachInTime, ℕ}
 use Rattle.is_theorems.proofs.PunctualTimeouts.ChecksInTime.{come-all}
 
 module _ {H P : Type 0} (mac : H → List ℕ → List ℕ → List ℕ) (answers : P → CandidateRecord → ℕ → ℕ → Type 0) where

@@ -1,29 +1,14 @@
 -- A pair is checked in time in the rounds of a log, whatever pairs requests add. What mutants/specifications changes is read by tactics.
-use Rattle.std.proofs.Common.{◌≡◌, ℕ, zero, suc, ◌+◌, ◌-◌, ◌*◌, ◌<◌, ◌≤◌, nat_lt, Bool, true, false, List, [], ◌∷◌, ◌++◌, length, cond, if◌then◌else◌, inl, inr, ◌⊎◌, refl, ap, sym, ◌∙◌, subst, arith, append_assoc}
-use Rattle.std.proofs.Math.Nat.{mul-le-mul_right}
-use Rattle.std.proofs.lemmas.Bool.Decides.{nat_tests}
-use Rattle.std.proofs.lemmas.List.Sums.{sum_by-append, sum_by-cons}
-use Rattle.rand_core.specs.Stream.{Stream}
-use Rattle.is_proto.specs.Lists.{Has}
-use Rattle.is_stun.specs.Timing.{is_modern}
-use Rattle.is_candidate.specs.Candidates.{CandidateRecord}
-use Rattle.is_pair.specs.Pairs.{PairRecord}
-use Rattle.is_rules.specs.Agent.{AgentRecord}
-use Rattle.is_rules.specs.Nominating.{numbers}
-use Rattle.is_rules.specs.Owed.{one_if}
-use Rattle.is_rules.specs.Sending.{path_of}
-use Rattle.is_rules.specs.Steps.{Call, Step}
-use Rattle.is_rules.specs.declared.emitted.Path.{Path}
-use Rattle.is_theorems.specs.Asked.{IsAnsweredIn}
-use Rattle.is_theorems.specs.Bounds.{FormsFew, IsLimited, gathered_count, pair_bound, signal_count}
-use Rattle.is_theorems.specs.InTime.{RoundsComeInTime}
-use Rattle.is_theorems.specs.Logs.{Logged}
-use Rattle.is_theorems.specs.NotStarved.{AreSteady, ConsentLastsIn, is_timeout, timeout_count}
-use Rattle.is_theorems.specs.Reached.{is_in_round, nominations_ahead, selection_count, selects}
-use Rattle.is_theorems.specs.Rounds.{LoggedRound, Part, RunsOn, entries_of}
-use Rattle.is_theorems.specs.Runs.{IsFresh}
-use Rattle.is_theorems.specs.TimedRounds.{ChecksInBy, IsPunctualIn, IsReachedInBy, IsTimedIn, LoggedRoundsSuffice, PairsAreReachedInTime, all_entries}
-use Rattle.is_theorems.specs.TimedSteadyRounds.{AreEnoughLater, BeginsAfter, NoneIsStarvedInTime, SteadyRounds, SufficeSteadyInTime, bound_in}
+use Rattle.is_theorems.specs.TimedSteadyRounds.{AreEnoughLater, BeginsAfter, NoneIsStarvedInTime, SteadyRounds, SufficeSteadyInTime}
+use Rattle.is_theorems.specs.TimedSteadyRounds.{bound_in}
+use Rattle.is_theorems.proofs.Common.{[], ◌*◌, ◌++◌, ◌+◌, ◌-◌, ◌<◌, ◌∙◌, ◌∷◌, ◌≡◌, ◌≤◌, ◌⊎◌, AgentRecord, all_entries, ap, append_assoc}
+use Rattle.is_theorems.proofs.Common.{AreSteady, arith, Bool, Call, CandidateRecord, ChecksInBy, cond, ConsentLastsIn, entries_of, false}
+use Rattle.is_theorems.proofs.Common.{FormsFew, gathered_count, Has, if◌then◌else◌, inl, inr, is_in_round, is_modern, is_timeout}
+use Rattle.is_theorems.proofs.Common.{IsAnsweredIn, IsFresh, IsLimited, IsPunctualIn, IsReachedInBy, IsTimedIn, length, List, Logged}
+use Rattle.is_theorems.proofs.Common.{LoggedRound, LoggedRoundsSuffice, mul-le-mul_right, nat_lt, nat_tests, nominations_ahead, numbers}
+use Rattle.is_theorems.proofs.Common.{one_if, pair_bound, PairRecord, PairsAreReachedInTime, Part, Path, path_of, refl, RoundsComeInTime}
+use Rattle.is_theorems.proofs.Common.{RunsOn, selection_count, selects, signal_count, Step, Stream, subst, suc, sum_by-append, sum_by-cons}
+use Rattle.is_theorems.proofs.Common.{sym, timeout_count, true, zero, ℕ}
 use Rattle.is_theorems.proofs.CallEffects.ExternalViews.{Has-front, Has-rear}
 use Rattle.is_theorems.proofs.DuePairs.ChecksAhead.{times, times-kept}
 use Rattle.is_theorems.proofs.DuePairs.NominationsAhead.{Dues, calls-due, timeouts-due}
@@ -79,10 +64,6 @@ module _ {P : Type 0} where
       omega (arith, same, sum)
 
 -- ---- nominations that may be sent at once
-
-counts-one : (b : Bool) → one_if b ≡ cond b 1 0
-counts-one true = refl
-counts-one false = refl
 
 one-owed : (due_was due_now selected : Bool) → (due_was ≡ false → (due_now ≡ false) ⊎ (selected ≡ true)) → one_if due_now ≤ one_if due_was + cond selected 1 0
 one-owed due_was false selected due = omega arith

@@ -1,53 +1,31 @@
 -- Each transition leaves the pacing interval, except that `set_timing_advance` sets it; and the time up to which checks are charged, except
 -- for the charge of a check.
-use Rattle.std.proofs.Common.{◌≡◌, ℕ, ◌==◌, Bool, true, false, List, Option, Some, None, Ok, Err, inl, inr, ap, ◌∙◌, ◌&&◌, max, refl, sym, if◌then◌else◌}
-use Rattle.std.specs.List.{list_any}
-use Rattle.std.specs.Option.{option_map_or}
-use Rattle.std.specs.Prelude.{MatchBool, MatchOption}
-use Rattle.rand_core.specs.Stream.{Stream}
-use Rattle.is_proto.specs.Times.{later}
-use Rattle.is_candidate.specs.Candidates.{CandidateRecord, candidate_at}
-use Rattle.is_pair.specs.Multiset.{is_valid_at}
-use Rattle.is_pair.specs.Pairs.{PairRecord}
-use Rattle.is_stun.specs.declared.header.Class.{Class}
 use Rattle.is_stun.specs.declared.header.Class.TheVariants as class
-use Rattle.is_stun.specs.Message.{Message}
-use Rattle.is_stun.specs.declared.timing.StunTiming.{StunTiming}
-use Rattle.is_rules.specs.Accepting.{Takes}
-use Rattle.is_rules.specs.Agent.{AgentRecord}
-use Rattle.is_rules.specs.Answers.{HandlesSuccess, HandlesFailure}
-use Rattle.is_rules.specs.Charging.{CHARGE, charged_after}
-use Rattle.is_rules.specs.Checking.{all_asked, ChecksTop, MayCheck}
-use Rattle.is_rules.specs.declared.credentials.IceCreds.{IceCreds}
-use Rattle.is_rules.specs.declared.places.RemotePlace.{RemotePlace}
-use Rattle.is_rules.specs.declared.places.RemotePlace.TheVariants.{Known, Barred, Unknown, Vacant, Full}
-use Rattle.is_rules.specs.declared.roles.Conflict.{Conflict}
-use Rattle.is_rules.specs.declared.roles.Conflict.TheVariants.{Absent, Send487, SwitchRole}
-use Rattle.is_rules.specs.declared.emitted.Emitted.{Emitted}
-use Rattle.is_rules.specs.declared.emitted.Issued.{Issued}
-use Rattle.is_rules.specs.declared.emitted.Path.{Path}
-use Rattle.is_rules.specs.Discarding.{local_to_discard, remote_to_discard, InvalidatesAt}
-use Rattle.is_rules.specs.Emitted.{issued_as}
-use Rattle.is_rules.specs.Forming.{formed, with_pair, Combination, FormsAll}
-use Rattle.is_rules.specs.Nominating.{followed, remains, selection_of, Nominates}
-use Rattle.is_rules.specs.Places.{local_place}
-use Rattle.is_rules.specs.Request.{RequestRecord, request_in}
-use Rattle.is_rules.specs.Roles.{conflict_of, switched}
-use Rattle.is_rules.specs.Sending.{path_of}
-use Rattle.is_rules.specs.Settling.{loses_selected, Reselects}
-use Rattle.is_rules.specs.Serving.{is_misled, is_for_other_peer, pair_served, request_counted, selects_at_requests, with_sender, with_sender_at, Drops, Queues, RecordsAndResponds, FindsOrAddsPair, AddsUnknownSender, CountsAndServes, ResolvesRoleConflictBy, ResolvesRoleConflict, Serves}
-use Rattle.is_rules.specs.Steps.{SetMtu, SetControlTieBreaker, SetMaxCandidatePairs, SetMaxDiscovered, SetIceLite, SetRenomination, SetConsent, SetProfile, SetTimingAdvance, SetInitialStunRto, SetMaxStunRto, SetMaxStunRetransmits, SetLiteTimeout, SetLocalPreference, SetControlling, SetLocalCredentials, SetRemoteCredentials, SkipPairIds, AddLocalCandidate, AddRemoteCandidate, InvalidateCandidate, RestartIce, RecreateCandidatePairs, ReceivePacket, HandleTimeout, PollTransmit, PollTimeout, PollEvent, Entry, Becomes, Receives, NotCalled, quiet}
-use Rattle.is_rules.specs.Settings.{with_retransmits}
-use Rattle.is_rules.specs.Timeouts.{at_request, at_timeout, is_expired, expired_gone, timeout_begun, RemovesExpired, MaintainsPairs, ServesQueued}
-use Rattle.is_rules.specs.Queue.{request_at}
+use Rattle.is_theorems.proofs.Common.{◌&&◌, ◌==◌, ◌∙◌, ◌≡◌, Absent, AddLocalCandidate, AddRemoteCandidate, AddsUnknownSender, AgentRecord}
+use Rattle.is_theorems.proofs.Common.{all_scheduled, ap, at_request, at_timeout, Barred, Becomes, Bool, candidate_at, CandidateRecord, CHARGE}
+use Rattle.is_theorems.proofs.Common.{charged_after, ChecksTop, Class, Combination, Conflict, conflict_of, CountsAndServes, Drops, Emitted}
+use Rattle.is_theorems.proofs.Common.{Entry, Err, expired_gone, false, FindsOrAddsPair, followed, formed, FormsAll, Full, HandlesFailure}
+use Rattle.is_theorems.proofs.Common.{HandlesSuccess, HandleTimeout, IceCreds, if◌then◌else◌, in_turn, inl, inr, InvalidateCandidate}
+use Rattle.is_theorems.proofs.Common.{InvalidatesAt, is_expired, is_for_other_peer, is_misled, is_request, is_valid_at, Issued, issued_as}
+use Rattle.is_theorems.proofs.Common.{Known, later, List, list_any, local_place, local_to_discard, loses_selected, MaintainsPairs}
+use Rattle.is_theorems.proofs.Common.{MatchBool, MatchOption, max, MayCheck, Message, Nominates, None, NotCalled, Ok, Option, option_map_or}
+use Rattle.is_theorems.proofs.Common.{pair_served, PairRecord, Path, path_left, path_of, PollEvent, PollTimeout, PollTransmit, Queues}
+use Rattle.is_theorems.proofs.Common.{quiet, ReceivePacket, Receives, RecordsAndResponds, RecreateCandidatePairs, refl, remains}
+use Rattle.is_theorems.proofs.Common.{remote_to_discard, RemotePlace, RemovesExpired, request_at, request_counted, request_in}
+use Rattle.is_theorems.proofs.Common.{RequestRecord, Reselects, ResolvesRoleConflict, ResolvesRoleConflictBy, RestartIce, selection_of}
+use Rattle.is_theorems.proofs.Common.{selects_at_requests, Send487, Serves, ServesQueued, SetConsent, SetControlling, SetControlTieBreaker}
+use Rattle.is_theorems.proofs.Common.{SetIceLite, SetInitialStunRto, SetLiteTimeout, SetLocalCredentials, SetLocalPreference}
+use Rattle.is_theorems.proofs.Common.{SetMaxCandidatePairs, SetMaxDiscovered, SetMaxStunRetransmits, SetMaxStunRto, SetMtu, SetProfile}
+use Rattle.is_theorems.proofs.Common.{SetRemoteCredentials, SetRenomination, SetTimingAdvance, SkipPairIds, Some, Stream, StunTiming}
+use Rattle.is_theorems.proofs.Common.{switched, SwitchRole, sym, Takes, timeout_begun, true, Unknown, Vacant, with_pair, with_retransmits}
+use Rattle.is_theorems.proofs.Common.{with_sender, with_sender_at, ℕ}
 use Rattle.is_theorems.proofs.CallEffects.AddedCandidates.{by_adding_local, by_adding_remote, by_waking}
 use Rattle.is_theorems.proofs.RuleEffects.UnchangedSettings.{either}
 use Rattle.is_theorems.proofs.RuleEffects.NominatedPairs.{SelectsPath, selects_path}
-use Rattle.is_theorems.proofs.CallEffects.FailedCallsAndNewAgents.{mtu_kept, local_kept, remote_kept, restart_kept, recreation_kept, enrolment_kept, storing_kept}
+use Rattle.is_theorems.proofs.CallEffects.FailedCallsAndNewAgents.{mtu_kept, local_kept, remote_kept, restart_kept, recreation_kept}
+use Rattle.is_theorems.proofs.CallEffects.FailedCallsAndNewAgents.{enrolment_kept, storing_kept}
 use Rattle.is_theorems.specs.Pacing.{PacingIsSet}
-use Rattle.is_theorems.specs.Pending.{is_request}
 use Rattle.is_theorems.proofs.RuleEffects.NotedErrors.{by_failure}
-use Rattle.is_rules.specs.Leaving.{path_left}
 
 -- what the times of timeouts depend on, pairs aside
 pub record Clock : Type 0 where
@@ -150,7 +128,7 @@ module _ {H P : Type 0} where
       here (Some l) s new emitted h = resolves (conflict_of s q) l s new emitted h
 
       pub serves : (s new : AgentRecord H P) (emitted : Emitted) → Serves mac q s emitted new → Same s new
-      serves s new emitted h = either (is_for_other_peer s q) h
+      serves s new emitted h = either (is_for_other_peer s q) (in_turn mac q s new emitted h)
           (λ _ k. made-of s new k.1)
           (λ _ k. here (local_place s.local q) s new emitted k)
 
@@ -187,7 +165,7 @@ module _ {H P : Type 0} where
     checks now None old new s t issued h = made-of old new h.1 ∙ issues now None issued old h.0
     checks now (Some peer) old new s t issued h = either old.lite h
         (λ _ k. made-of _ new k.1 ∙ issues now None issued old k.0)
-        (λ _ k. tops now peer k.0 (all_asked now old) new s t issued k.2)
+        (λ _ k. tops now peer k.0 (all_scheduled now old) new s t issued k.2)
 
     pub maintains : (now : ℕ) (old new : AgentRecord H P) (s t : Stream) (emitted : Emitted) → MaintainsPairs mac now old s emitted new t → Same (charged now emitted.issued (at_timeout now old)) new
     maintains now old new s t emitted (first, second, issued, named, kept, nominating, giving, checking, is) =

@@ -1,29 +1,23 @@
 -- How many pairs requests add in a segment of a log in which no candidate is added.
-use Rattle.std.proofs.Common.{◌≡◌, ℕ, true, false, List, [], ◌∷◌, ◌++◌, length, map, Ok, Err, inl, inr, refl, ap, sym, ◌∙◌, subst, arith, cond}
-use Rattle.std.proofs.Math.Nat.{add-mul}
-use Rattle.std.proofs.lemmas.List.Sums.{sum_by-cons}
-use Rattle.rand_core.specs.Stream.{Stream}
-use Rattle.is_candidate.specs.Candidates.{CandidateRecord}
-use Rattle.is_pair.specs.Due.{asked}
-use Rattle.is_rules.specs.Agent.{AgentRecord}
-use Rattle.is_theorems.specs.Logs.{Logged}
-use Rattle.is_theorems.specs.Rounds.{RunsOn}
-use Rattle.is_theorems.specs.Runs.{IsFresh, Run}
-use Rattle.is_rules.specs.Sound.{IsSound}
-use Rattle.is_rules.specs.Steps.{Call, SetMtu, SetControlTieBreaker, SetMaxCandidatePairs, SetMaxDiscovered, SetRenomination, SetTimingAdvance, SetLocalPreference, SetControlling, SetLocalCredentials, ReceivePacket, HandleTimeout, PollTransmit, PollTimeout, PollEvent, Entry, Step}
+use Rattle.is_theorems.proofs.Common.{[], ◌++◌, ◌∙◌, ◌∷◌, ◌≡◌, add-mul, AgentRecord, ap, AreSteady, arith, scheduled, Call, CandidateRecord}
+use Rattle.is_theorems.proofs.Common.{cond, ConsentLastsIn, Entry, Err, false, HandleTimeout, HaveConsent, inl, inr, is_steady, is_timeout}
+use Rattle.is_theorems.proofs.Common.{IsFresh, IsSound, length, List, Logged, map, Ok, PollEvent, PollTimeout, PollTransmit, ReceivePacket}
+use Rattle.is_theorems.proofs.Common.{refl, RequestsAddFew, Run, RunsOn, SetControlling, SetControlTieBreaker, SetLocalCredentials}
+use Rattle.is_theorems.proofs.Common.{SetLocalPreference, SetMaxCandidatePairs, SetMaxDiscovered, SetMtu, SetRenomination, SetTimingAdvance}
+use Rattle.is_theorems.proofs.Common.{Step, Stream, subst, sum_by-cons, sym, timeout_count, true, ℕ}
 use Rattle.is_theorems.proofs.CallEffects.PathAndTradeEffects.{path_theorem}
 use Rattle.is_theorems.proofs.CallEffects.AddedCandidates.{by_waking}
 use Rattle.is_theorems.proofs.ExecutionLogs.LogTheorems.{runs_sound}
 use Rattle.is_theorems.proofs.ExecutionLogs.LogSegments.{no-case, run-on}
 use Rattle.is_theorems.proofs.CallEffects.FailedCallsAndNewAgents.{mtu_kept, local_kept}
-use Rattle.is_theorems.specs.NotStarved.{AreSteady, ConsentLastsIn, HaveConsent, RequestsAddFew, is_steady, is_timeout, timeout_count}
-use Rattle.is_theorems.proofs.RemainingChecks.RemainingAfterRules.{Held, Spends, spends-to, spends-none, spends-on, receives-spends, times-out-spends}
+use Rattle.is_theorems.proofs.RemainingChecks.RemainingAfterRules.{Held, Spends, spends-to, spends-none, spends-on, receives-spends}
+use Rattle.is_theorems.proofs.RemainingChecks.RemainingAfterRules.{times-out-spends}
 use Rattle.is_theorems.proofs.RemainingChecks.RemainingOfPairs.{unspent-alike, unspents-map, unspents-most}
 
 module _ {H P : Type 0} (mac : H → List ℕ → List ℕ → List ℕ) (answers : P → CandidateRecord → ℕ → ℕ → Type 0) (m : ℕ) where
-  asks-spends : (at : ℕ) (old new : AgentRecord H P) → new ≡ record old { pairs = map (asked at old.timing) old.pairs } → Spends m 0 old new
+  asks-spends : (at : ℕ) (old new : AgentRecord H P) → new ≡ record old { pairs = map (scheduled at old.timing) old.pairs } → Spends m 0 old new
   asks-spends at old new made =
-      let le = unspents-map m (asked at old.timing) old.pairs (λ p. unspent-alike m p (asked at old.timing p) refl) in
+      let le = unspents-map m (scheduled at old.timing) old.pairs (λ p. unspent-alike m p (scheduled at old.timing p) refl) in
       spends-to m 0 old _ new (refl, omega arith, omega (arith, le)) made
 
   kept : (old needed new : AgentRecord H P) → Spends m 0 old needed → new ≡ needed → Spends m 0 old new

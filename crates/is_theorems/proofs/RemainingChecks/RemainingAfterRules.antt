@@ -1,60 +1,35 @@
 -- How the rules change the number of checks that pairs still send before they may be removed after timeout. A request that adds
 -- a pair adds as many as a pair may have, and a `handle_timeout` call takes at most one.
-use Rattle.std.proofs.Common.{◌≡◌, ℕ, ◌+◌, ◌-◌, ◌*◌, ◌≤◌, ◌&&◌, ◌||◌, Bool, true, false, not, List, [], ◌∷◌, ◌++◌, length, map, Option, Some, None, Result, Ok, Err, inl, inr, refl, ap, sym, ◌∙◌, subst, arith, if◌then◌else◌}
-use Rattle.std.specs.Prelude.{MatchOption}
-use Rattle.std.specs.List.{list_any}
-use Rattle.std.specs.declared.net.socket_addr.SocketAddr.{SocketAddr}
-use Rattle.std.proofs.Math.Nat.{suc-mul}
-use Rattle.std.proofs.lemmas.List.{length-append}
-use Rattle.rand_core.specs.Stream.{Stream}
-use Rattle.is_proto.specs.Lists.{same}
-use Rattle.is_proto.specs.declared.error.IceError.{IceError}
-use Rattle.is_candidate.specs.Candidates.{CandidateRecord, candidate_at}
-use Rattle.is_pair.specs.Multiset.{change_at, is_numbered, is_valid_at, rises, change_pair}
 use Rattle.is_pair.specs.Due as due
-use Rattle.is_pair.specs.Due.{asked}
-use Rattle.is_pair.specs.Pairs.{PairRecord, is_nominated, checked, validated, with_request, renominated}
 use Rattle.is_pair.proofs.PairEntries.ChangedEntry.{rises-changed, rises-filter}
-use Rattle.is_stun.specs.declared.header.Class.{Class}
 use Rattle.is_stun.specs.declared.header.Class.TheVariants as class
-use Rattle.is_stun.specs.declared.timing.StunTiming.{StunTiming}
-use Rattle.is_stun.specs.Message.{Message}
-use Rattle.is_stun.specs.Timing.{consent_of}
-use Rattle.is_rules.specs.Accepting.{discovered_emitted, Takes}
-use Rattle.is_rules.specs.Agent.{AgentRecord}
-use Rattle.is_rules.specs.Answers.{is_left_out, local_with, mapped_candidate, success_counted, HandlesSuccess, HandlesFailure}
-use Rattle.is_rules.specs.Checking.{all_asked, ChecksTop, MayCheck}
-use Rattle.is_rules.specs.declared.credentials.IceCreds.{IceCreds}
-use Rattle.is_rules.specs.declared.places.RemotePlace.{RemotePlace}
-use Rattle.is_rules.specs.declared.places.RemotePlace.TheVariants.{Known, Barred, Unknown, Vacant, Full}
-use Rattle.is_rules.specs.declared.roles.Conflict.{Conflict}
-use Rattle.is_rules.specs.declared.roles.Conflict.TheVariants.{Absent, Send487, SwitchRole}
-use Rattle.is_rules.specs.declared.emitted.Path.{Path}
-use Rattle.is_rules.specs.declared.emitted.Emitted.{Emitted}
-use Rattle.is_rules.specs.declared.emitted.Issued.{Issued}
-use Rattle.is_rules.specs.Forming.{formed, with_pair}
-use Rattle.is_rules.specs.Nominating.{nominated_by_self, Nominates, followed, remains, selection_of, nominates_at_once, numbers}
-use Rattle.is_rules.specs.Places.{local_place}
-use Rattle.is_rules.specs.Queue.{first_taken, request_at}
-use Rattle.is_rules.specs.Request.{RequestRecord, request_in}
-use Rattle.is_rules.specs.Roles.{conflict_of, switched, switched_sides, with_priority_in}
-use Rattle.is_rules.specs.Serving.{selects_at_requests, after_request, validated_by_peer, is_misled, is_for_other_peer, pair_served, request_counted, with_sender, with_sender_at, Drops, Queues, RecordsAndResponds, FindsOrAddsPair, AddsUnknownSender, CountsAndServes, ResolvesRoleConflictBy, ResolvesRoleConflict, Serves, as_taken, nominated_by_peer}
-use Rattle.is_rules.specs.States.{evaluated}
-use Rattle.is_rules.specs.Steps.{Entry, Receives}
-use Rattle.is_theorems.specs.NotStarved.{HaveConsent}
-use Rattle.is_rules.specs.Settling.{settled}
-use Rattle.is_rules.specs.Timeouts.{at_request, at_timeout, expired_gone, is_expired, timeout_begun, RemovesExpired, MaintainsPairs, TimesOut}
+use Rattle.is_theorems.proofs.Common.{[], ◌&&◌, ◌*◌, ◌++◌, ◌+◌, ◌-◌, ◌||◌, ◌∙◌, ◌∷◌, ◌≡◌, ◌≤◌, Absent, AddsUnknownSender, after_request}
+use Rattle.is_theorems.proofs.Common.{AgentRecord, all_scheduled, ap, arith, as_taken, scheduled, at_request, at_timeout, Barred, Bool}
+use Rattle.is_theorems.proofs.Common.{candidate_at, CandidateRecord, change_at, change_pair, checked, ChecksTop, Class, Conflict}
+use Rattle.is_theorems.proofs.Common.{conflict_of, consent_of, CountsAndServes, discovered_emitted, Drops, Emitted, Entry, Err, evaluated}
+use Rattle.is_theorems.proofs.Common.{expired_gone, false, FindsOrAddsPair, first_taken, followed, formed, Full, gives_way, HandlesFailure}
+use Rattle.is_theorems.proofs.Common.{HandlesSuccess, hastened, HaveConsent, IceCreds, IceError, if◌then◌else◌, in_turn, inl, inr}
+use Rattle.is_theorems.proofs.Common.{is_expired, is_for_other_peer, is_left_out, is_misled, is_nominated, is_numbered, is_valid_at, Issued}
+use Rattle.is_theorems.proofs.Common.{Known, length, length-append, List, list_any, local_place, local_with, MaintainsPairs, map}
+use Rattle.is_theorems.proofs.Common.{mapped_candidate, MatchOption, MayCheck, Message, nominated_by_peer, nominated_by_self, Nominates}
+use Rattle.is_theorems.proofs.Common.{nominates_at_once, None, not, numbers, Ok, Option, pair_served, PairRecord, Path, path_left, Queues}
+use Rattle.is_theorems.proofs.Common.{Receives, RecordsAndResponds, refl, remains, RemotePlace, RemovesExpired, renominated, request_at}
+use Rattle.is_theorems.proofs.Common.{request_counted, request_in, RequestRecord, ResolvesRoleConflict, ResolvesRoleConflictBy, Result}
+use Rattle.is_theorems.proofs.Common.{rises, rising-each, same, selection_of, selects_at_requests, Send487, Serves, state_updated, silent_gone}
+use Rattle.is_theorems.proofs.Common.{SocketAddr, Some, Stream, StunTiming, subst, suc-mul, success_counted, switched, switched_sides}
+use Rattle.is_theorems.proofs.Common.{SwitchRole, sym, Takes, timeout_begun, TimesOut, true, Unknown, Vacant, validated, validated_by_peer}
+use Rattle.is_theorems.proofs.Common.{with_pair, with_priority_in, with_request, with_sender, with_sender_at, ℕ}
 use Rattle.is_theorems.proofs.DuePairs.AfterNominationAndRemoval.{Base, Thins, consent-same, names-thins}
 use Rattle.is_theorems.proofs.RuleEffects.UnchangedSettings.{either}
 use Rattle.is_theorems.proofs.RuleEffects.ChangedPairs.{self_kept}
 use Rattle.is_theorems.proofs.RuleEffects.TriggeredPairs.{triggered_by, by_trigger}
 use Rattle.is_theorems.proofs.RuleEffects.NominatedPairs.{SelectsPath, selects_path}
-use Rattle.is_rules.proofs.PairLists.RisingNumbers.{rising-each}
-use Rattle.is_theorems.proofs.RemainingChecks.RemainingOfPairs.{unspent, unspent-alike, unspent-answered, unspent-checked, all-spent, unspents, unspents-map, unspents-push, unspents-filter, unspents-set, unspents-change}
+use Rattle.is_theorems.proofs.RemainingChecks.RemainingOfPairs.{unspent, unspent-alike, unspent-answered, unspent-checked, all-spent}
+use Rattle.is_theorems.proofs.RemainingChecks.RemainingOfPairs.{unspents, unspents-map, unspents-push, unspents-filter, unspents-set}
+use Rattle.is_theorems.proofs.RemainingChecks.RemainingOfPairs.{unspents-change}
 use Rattle.is_theorems.proofs.BasicLemmas.PairsInTurn.{by-begins, sent-pairs, sent_at}
 use Rattle.is_theorems.proofs.BasicLemmas.ServedPairs.{numbered-by}
 use Rattle.is_theorems.proofs.RuleEffects.NotedErrors.{coded, recoded, by_failure}
-use Rattle.is_rules.specs.Leaving.{gives_way, hastened, path_left, silent_gone}
 use Rattle.is_theorems.proofs.RuleEffects.HastenedPairs.{by-hastened, due_next, Hastens}
 use Rattle.is_theorems.proofs.RuleEffects.PathsThatAreLeft.{gives-stores}
 
@@ -229,7 +204,7 @@ module _ {H P : Type 0} where
         here (Some l) s new emitted h = resolves (conflict_of s q) l s new emitted h
 
         pub serves-spends : (s new : AgentRecord H P) (emitted : Emitted) → Serves mac q s emitted new → Spends 0 s new
-        serves-spends s new emitted h = either (is_for_other_peer s q) h (λ _ k. spends-none s new k.1) (λ _ k. here (local_place s.local q) s new emitted k)
+        serves-spends s new emitted h = either (is_for_other_peer s q) (in_turn mac q s new emitted h) (λ _ k. spends-none s new k.1) (λ _ k. here (local_place s.local q) s new emitted k)
 
         requested : (remote : Option IceCreds) (s new : AgentRecord H P) (emitted : Emitted) → MatchOption remote (Queues q s emitted new) (λ _. Serves mac q s emitted new) → Spends 0 s new
         requested None s new emitted h = spends-to 0 s _ new (refl, omega arith, omega arith) h.1
@@ -286,7 +261,7 @@ module _ {H P : Type 0} where
             spends-to 0 old (evaluated now k.0) new (named.0, named.1, named.2) k.2,
             λ rising. ap (λ (a : AgentRecord H P). rises a.pairs) k.2 ∙ (nominates-rises (expired_gone now old) k.0 path k.1 ∙ rises-filter (λ p. not (is_expired now old p)) old.pairs rising),
           )))
-          (λ _ k. (spends-to 0 old (settled true now old) new (refl, omega arith, omega arith) k.1, λ rising. ap (λ (a : AgentRecord H P). rises a.pairs) k.1 ∙ rising))
+          (λ _ k. (spends-to 0 old (state_updated true now old) new (refl, omega arith, omega arith) k.1, λ rising. ap (λ (a : AgentRecord H P). rises a.pairs) k.1 ∙ rising))
 
       check : (now : ℕ) (remote : Option IceCreds) (old new : AgentRecord H P) (s t : Stream) (issued : Option Issued) → old.lite ≡ false → rises old.pairs ≡ true
           → MayCheck mac now remote old s issued new t → Spends 1 old new
@@ -294,23 +269,23 @@ module _ {H P : Type 0} where
       check now (Some remote) old new s t issued full rising h = either old.lite h
           (λ is _. absurd (let no : true ≡ false = sym is ∙ full in cc))
           (λ _ k. next k.0 k.2) where
-            all : unspents m old.pairs ≤ unspents m (map (asked now old.timing) old.pairs)
-            all = unspents-map m (asked now old.timing) old.pairs (λ p. unspent-alike m p (asked now old.timing p) refl)
+            all : unspents m old.pairs ≤ unspents m (map (scheduled now old.timing) old.pairs)
+            all = unspents-map m (scheduled now old.timing) old.pairs (λ p. unspent-alike m p (scheduled now old.timing p) refl)
 
-            next : (top : Option PairRecord) → ChecksTop mac now remote top (all_asked now old) s issued new t → Spends 1 old new
-            next None (is, made, drawn) = spends-to 1 old (all_asked now old) new (refl, omega arith, (let le = all in omega (arith, le))) made
+            next : (top : Option PairRecord) → ChecksTop mac now remote top (all_scheduled now old) s issued new t → Spends 1 old new
+            next None (is, made, drawn) = spends-to 1 old (all_scheduled now old) new (refl, omega arith, (let le = all in omega (arith, le))) made
             next (Some p) (id, drawn, values, is, made) =
-                let begins : Bool = nominates_at_once (all_asked now old) in
+                let begins : Bool = nominates_at_once (all_scheduled now old) in
                 let change : PairRecord → PairRecord = sent_at begins now old.timing old.controlling id in
-                let one : unspents m (map (asked now old.timing) old.pairs)
+                let one : unspents m (map (scheduled now old.timing) old.pairs)
                 ≤ unspents m (change_pair p.number (checked now old.timing old.controlling id)
-                (if begins then change_pair p.number renominated (map (asked now old.timing) old.pairs) else map (asked now old.timing) old.pairs)) + 1 =
-                subst (λ ps. unspents m (map (asked now old.timing) old.pairs) ≤ unspents m ps + 1)
-                (sym (sent-pairs begins p.number now old.timing old.controlling id (map (asked now old.timing) old.pairs)))
-                (unspents-change m p.number change (map (asked now old.timing) old.pairs)
+                (if begins then change_pair p.number renominated (map (scheduled now old.timing) old.pairs) else map (scheduled now old.timing) old.pairs)) + 1 =
+                subst (λ ps. unspents m (map (scheduled now old.timing) old.pairs) ≤ unspents m ps + 1)
+                (sym (sent-pairs begins p.number now old.timing old.controlling id (map (scheduled now old.timing) old.pairs)))
+                (unspents-change m p.number change (map (scheduled now old.timing) old.pairs)
                 (λ x. by-begins begins (λ y. unspent m x ≤ unspent m y + 1) now old.timing old.controlling id x
                 (unspent-checked m now old.timing old.controlling id (renominated x)) (unspent-checked m now old.timing old.controlling id x))
-                (rising-each (map (asked now old.timing) old.pairs) (rises-changed (asked now old.timing) (λ x. refl) old.pairs ∙ rising))) in
+                (rising-each (map (scheduled now old.timing) old.pairs) (rises-changed (scheduled now old.timing) (λ x. refl) old.pairs ∙ rising))) in
                 spends-to 1 old _ new (refl, omega arith, (let le = all in omega (arith, le, one))) made
 
       maintains : (now : ℕ) (old new : AgentRecord H P) (s t : Stream) (emitted : Emitted) → old.lite ≡ false → old.timing.max_retransmits ≡ m → rises old.pairs ≡ true → HaveConsent now old

@@ -1,17 +1,10 @@
 -- How many checks pairs still send before they may be removed after timeout.
-use Rattle.std.proofs.Common.{◌≡◌, ℕ, zero, suc, ◌+◌, ◌-◌, ◌*◌, ◌<◌, ◌≤◌, ◌&&◌, ◌||◌, Bool, true, false, not, List, [], ◌∷◌, ◌++◌, length, map, filter, nat_lt, Some, inl, inr, refl, ap, sym, subst, arith, if◌then◌else◌}
-use Rattle.std.specs.Prelude.{slice_get, slice_set}
-use Rattle.std.proofs.Math.Nat.{suc-mul}
-use Rattle.std.proofs.lemmas.Bool.{eqb-true, ltb-false}
-use Rattle.std.proofs.lemmas.List.{length-append, length-drop}
-use Rattle.is_proto.specs.Lists.{Has}
-use Rattle.is_pair.specs.Multiset.{is_numbered, change_at, change_pair}
-use Rattle.is_pair.specs.Checks.{Check, answered_at, last_checks, unanswered_count}
 use Rattle.is_pair.specs.Due as due
-use Rattle.is_pair.specs.Pairs.{PairRecord, answered, checked, check_of}
-use Rattle.is_stun.specs.declared.timing.StunTiming.{StunTiming}
-use Rattle.is_stun.specs.Timing.{consent_of}
-use Rattle.is_rules.proofs.PairLists.RisingNumbers.{AreRising}
+use Rattle.is_theorems.proofs.Common.{[], ◌&&◌, ◌*◌, ◌++◌, ◌+◌, ◌-◌, ◌<◌, ◌||◌, ◌∷◌, ◌≡◌, ◌≤◌, answered, answered_at, ap, AreRising, arith}
+use Rattle.is_theorems.proofs.Common.{Bool, change_at, change_pair, Check, check_of, checked, consent_of, eqb-true, false, filter, Has}
+use Rattle.is_theorems.proofs.Common.{if◌then◌else◌, inl, inr, is_numbered, last_checks, length, length-append, length-drop, List}
+use Rattle.is_theorems.proofs.Common.{ltb-false, map, nat_lt, not, PairRecord, refl, slice_get, slice_set, Some, StunTiming, subst, suc}
+use Rattle.is_theorems.proofs.Common.{suc-mul, sym, true, unanswered_count, zero, ℕ}
 use Rattle.is_theorems.proofs.RuleEffects.SelectedPaths.{some_is}
 
 -- ---- one pair

@@ -1,56 +1,26 @@
 -- Nominations with numbers: the path with the greatest number is selected, and stays so. Each transition leaves the selected pair, or
 -- ends with the best one selected.
-use Rattle.std.proofs.Common.{◌≡◌, ℕ, ◌+◌, ◌<◌, ◌≤◌, ◌==◌, ◌&&◌, ◌||◌, Bool, true, false, not, List, [], ◌∷◌, ◌++◌, length, max, Option, Some, None, Result, Ok, Err, inl, inr, ◌⊎◌, refl, ap, sym, ◌∙◌, subst, arith, if◌then◌else◌}
-use Rattle.std.specs.Prelude.{MatchOption, option_map}
-use Rattle.std.specs.Option.{option_and_then, option_or}
-use Rattle.std.proofs.lemmas.Bool.{eqb-true, eq-eqb}
-use Rattle.std.proofs.lemmas.List.{length-append}
-use Rattle.rand_core.specs.Stream.{Stream}
-use Rattle.is_proto.specs.Lists.{Has, same}
-use Rattle.is_proto.specs.declared.error.IceError.{IceError}
-use Rattle.is_candidate.specs.Candidates.{CandidateRecord, candidate_at}
-use Rattle.is_pair.specs.Pairs.{PairRecord, is_nominated, is_valid}
-use Rattle.is_pair.specs.Multiset.{is_valid_at}
-use Rattle.is_stun.specs.declared.header.Class.{Class}
 use Rattle.is_stun.specs.declared.header.Class.TheVariants as class
-use Rattle.is_stun.specs.Message.{Message}
-use Rattle.is_stun.specs.Timing.{is_modern}
-use Rattle.is_rules.specs.declared.credentials.IceCreds.{IceCreds}
-use Rattle.is_rules.specs.declared.emitted.Path.{Path}
-use Rattle.is_rules.specs.declared.emitted.Emitted.{Emitted}
-use Rattle.is_rules.specs.declared.places.RemotePlace.{RemotePlace}
-use Rattle.is_rules.specs.declared.places.RemotePlace.TheVariants.{Known, Barred, Unknown, Vacant, Full}
-use Rattle.is_rules.specs.declared.roles.Conflict.{Conflict}
-use Rattle.is_rules.specs.declared.roles.Conflict.TheVariants.{Absent, Send487, SwitchRole}
-use Rattle.is_rules.specs.Accepting.{Takes}
-use Rattle.is_rules.specs.Agent.{AgentRecord}
-use Rattle.is_rules.specs.Answers.{HandlesFailure}
-use Rattle.is_rules.specs.Effects.{last_of}
-use Rattle.is_rules.specs.Discarding.{local_to_discard, remote_to_discard, InvalidatesAt, Invalidates}
-use Rattle.is_rules.specs.Emitted.{nothing_emitted, selected_in, selected_only}
-use Rattle.is_rules.specs.Forming.{Combination, FormsAll, formed, with_pair}
-use Rattle.is_rules.specs.Limit.{IsSenderPlace}
-use Rattle.is_rules.specs.Local.{AddsLocal}
-use Rattle.is_rules.specs.Nominating.{eligible_numbered, first_numbered, followed, followed_by_number, if_eligible, is_eligible, number_of, numbers}
-use Rattle.is_rules.specs.Places.{local_place}
-use Rattle.is_rules.specs.Points.{IsTopSelected}
-use Rattle.is_rules.specs.Queue.{request_at, first_taken, queued}
-use Rattle.is_rules.specs.Remote.{AddsRemote}
-use Rattle.is_rules.specs.Request.{RequestRecord, request_in}
-use Rattle.is_rules.specs.Roles.{conflict_of, switched}
-use Rattle.is_rules.specs.Serving.{after_request, pair_served, selects_at_requests, with_sender, with_sender_at, sender_candidate, request_counted, is_misled, is_for_other_peer}
-use Rattle.is_rules.specs.Serving.{Drops, RecordsAndResponds, FindsOrAddsPair, AddsUnknownSender, CountsAndServes, ResolvesRoleConflictBy, ResolvesRoleConflict, Serves}
-use Rattle.is_rules.specs.Sound.{IsSound}
-use Rattle.is_rules.specs.Sending.{path_of}
-use Rattle.is_rules.specs.Settling.{loses_selected, Reselects}
-use Rattle.is_rules.specs.Steps.{Answer, Done, Flag, answer_by, added, done, Call, AddLocalCandidate, AddRemoteCandidate, InvalidateCandidate, ReceivePacket, HandleTimeout, Entry, Receives, Step}
-use Rattle.is_rules.specs.Timeouts.{at_request, timeout_begun, TimesOut, MaintainsPairs, ServesQueued}
-use Rattle.is_theorems.specs.Logs.{Logged, clears_at, last_selected}
-use Rattle.is_theorems.specs.Numbered.{GoesByNumbers, GreatestAreKept, GreatestAreLast, GreatestAreSelected, GreatestStay, IsGreatest, IsNumberedByPeer, LeadsByNumber, LeadsWith, StaysAhead, StaysGreatest}
-use Rattle.is_theorems.specs.Rounds.{RunsOn}
-use Rattle.is_theorems.specs.Runs.{Run}
-use Rattle.is_rules.proofs.PairLists.ChosenPair.{numbered-able}
-use Rattle.is_rules.proofs.PairLists.PairsByNumber.{numbered-found}
+use Rattle.is_theorems.specs.Numbered.{IsGreatest}
+use Rattle.is_theorems.proofs.Common.{[], ◌&&◌, ◌++◌, ◌+◌, ◌<◌, ◌==◌, ◌||◌, ◌∙◌, ◌∷◌, ◌≡◌, ◌≤◌, ◌⊎◌, Absent, added, AddLocalCandidate}
+use Rattle.is_theorems.proofs.Common.{AddRemoteCandidate, AddsLocal, AddsRemote, AddsUnknownSender, after_request, AgentRecord, Answer}
+use Rattle.is_theorems.proofs.Common.{answer_by, ap, arith, at_request, Barred, Bool, Call, candidate_at, CandidateRecord, Class, clears_at}
+use Rattle.is_theorems.proofs.Common.{Combination, Conflict, conflict_of, CountsAndServes, Done, done, Drops, eligible_numbered, Emitted}
+use Rattle.is_theorems.proofs.Common.{Entry, eq-eqb, eqb-true, Err, false, FindsOrAddsPair, first_numbered, first_taken, Flag, followed}
+use Rattle.is_theorems.proofs.Common.{followed_by_number, formed, FormsAll, Full, GoesByNumbers, GreatestAreKept, GreatestAreLast}
+use Rattle.is_theorems.proofs.Common.{GreatestAreSelected, GreatestStay, HandlesFailure, HandleTimeout, Has, IceCreds, IceError}
+use Rattle.is_theorems.proofs.Common.{if_eligible, if◌then◌else◌, in_turn, inl, inr, InvalidateCandidate, Invalidates, InvalidatesAt}
+use Rattle.is_theorems.proofs.Common.{is_eligible, is_for_other_peer, is_misled, is_modern, is_nominated, is_valid, is_valid_at}
+use Rattle.is_theorems.proofs.Common.{IsNumberedByPeer, IsSenderPlace, IsSound, IsTopSelected, Known, last_of, last_selected, LeadsByNumber}
+use Rattle.is_theorems.proofs.Common.{LeadsWith, length, length-append, List, local_place, local_to_discard, Logged, loses_selected}
+use Rattle.is_theorems.proofs.Common.{MaintainsPairs, MatchOption, max, Message, None, not, nothing_emitted, number_of, numbered-able}
+use Rattle.is_theorems.proofs.Common.{numbered-found, numbers, Ok, Option, option_and_then, option_map, option_or, pair_served, PairRecord}
+use Rattle.is_theorems.proofs.Common.{Path, path_of, queued, ReceivePacket, Receives, RecordsAndResponds, refl, remote_to_discard}
+use Rattle.is_theorems.proofs.Common.{RemotePlace, request_at, request_counted, request_in, RequestRecord, Reselects, ResolvesRoleConflict}
+use Rattle.is_theorems.proofs.Common.{ResolvesRoleConflictBy, Result, Run, RunsOn, same, selected_in, selected_only, selects_at_requests}
+use Rattle.is_theorems.proofs.Common.{Send487, sender_candidate, Serves, ServesQueued, Some, StaysAhead, StaysGreatest, Step, Stream, subst}
+use Rattle.is_theorems.proofs.Common.{switched, SwitchRole, sym, Takes, timeout_begun, TimesOut, true, Unknown, Vacant, with_pair}
+use Rattle.is_theorems.proofs.Common.{with_sender, with_sender_at, ℕ}
 use Rattle.is_theorems.proofs.BasicLemmas.EqualAddresses.{both}
 use Rattle.is_theorems.proofs.BasicLemmas.VacantIndices.{known-in, vacant-at, length-put}
 use Rattle.is_theorems.proofs.CallEffects.AddedCandidates.{by_adding_local, by_adding_remote}
@@ -128,14 +98,14 @@ module _ {H P : Type 0} where
   -- ---- each transition
 
   -- the selected pair stays and no path is selected, or the best pair is selected
-  abbrev Settles : AgentRecord H P → Emitted → AgentRecord H P → Type 0
-  Settles old emitted new = ((new.selected_pair ≡ old.selected_pair) × (last_of emitted.selected_paths ≡ None)) ⊎ IsTopSelected new
+  abbrev IsPlaceAtLimit : AgentRecord H P → Emitted → AgentRecord H P → Type 0
+  IsPlaceAtLimit old emitted new = ((new.selected_pair ≡ old.selected_pair) × (last_of emitted.selected_paths ≡ None)) ⊎ IsTopSelected new
 
-  settles-same : (old new : AgentRecord H P) (emitted : Emitted) → emitted ≡ nothing_emitted → new ≡ old → Settles old emitted new
+  settles-same : (old new : AgentRecord H P) (emitted : Emitted) → emitted ≡ nothing_emitted → new ≡ old → IsPlaceAtLimit old emitted new
   settles-same old new emitted nothing made = inl (ap (λ (a : AgentRecord H P). a.selected_pair) made, ap (λ (x : Emitted). last_of x.selected_paths) nothing)
 
   module _ (mac : H → List ℕ → List ℕ → List ℕ) (q : RequestRecord) where
-    records-settles : (l r number : ℕ) (s new : AgentRecord H P) (emitted : Emitted) → FitOf s → RecordsAndResponds mac q l r number s emitted new → Settles s emitted new
+    records-settles : (l r number : ℕ) (s new : AgentRecord H P) (emitted : Emitted) → FitOf s → RecordsAndResponds mac q l r number s emitted new → IsPlaceAtLimit s emitted new
     records-settles l r number s new emitted fit (path, mid, nominating, (values, is, made)) =
         let rising = (one_changed AllNumbers All1 All3 (parts_of AllNumbers All1 All3 s) number (after_request q s) fit
         (λ p has_p same. request_changes AllNumbers All1 All3 (path_in (parts_of AllNumbers All1 All3 s) p) q s p (λ _. tt) (λ _ _ _ _. tt))).fit.rising in
@@ -144,7 +114,7 @@ module _ {H P : Type 0} where
         (λ _ k. inl (ap (λ (a : AgentRecord H P). a.selected_pair) made ∙ ap (λ (a : AgentRecord H P). a.selected_pair) k.1, ap (λ (x : Emitted). last_of x.selected_paths) is ∙ ap (λ (o : Option Path). last_of (selected_in o None)) k.0))
 
     takes-settles : (l r : ℕ) (number : Option ℕ) (s new : AgentRecord H P) (emitted : Emitted) → l < length s.local → r < length s.remote → FitOf s
-        → FindsOrAddsPair mac q l r number s emitted new → Settles s emitted new
+        → FindsOrAddsPair mac q l r number s emitted new → IsPlaceAtLimit s emitted new
     takes-settles l r (Some number) s new emitted in_local in_remote fit h = records-settles l r number s new emitted fit h
     takes-settles l r None s new emitted in_local in_remote fit h = either (candidate_at s.local l).discarded h
         (λ _ k. settles-same s new emitted k.0 k.1)
@@ -155,7 +125,7 @@ module _ {H P : Type 0} where
         records-settles l r s.next_number (with_pair p s) new emitted joins.fit k.1))
 
     joins-settles : (l : ℕ) (place : RemotePlace) (s new : AgentRecord H P) (emitted : Emitted) → l < length s.local → FitOf s
-        → IsSenderPlace s q place → AddsUnknownSender mac q l place s emitted new → Settles s emitted new
+        → IsSenderPlace s q place → AddsUnknownSender mac q l place s emitted new → IsPlaceAtLimit s emitted new
     joins-settles l (Known r) s new emitted in_local fit remote (number, between, h) =
         let k = known_at s.remote q r (known-in s.max_discovered s.remote s.pairs q r remote) in
         takes-settles l r number s new emitted in_local k.0 fit h
@@ -173,26 +143,26 @@ module _ {H P : Type 0} where
         let joins = remote_joins AllNumbers All1 All3 (parts_of AllNumbers All1 All3 s) c fit in
         takes-settles l r number (with_sender q s) new emitted in_local (omega (arith, longer)) joins.fit h
 
-    admits-settles : (l : ℕ) (s new : AgentRecord H P) (emitted : Emitted) → l < length s.local → FitOf s → CountsAndServes mac q l s emitted new → Settles s emitted new
+    admits-settles : (l : ℕ) (s new : AgentRecord H P) (emitted : Emitted) → l < length s.local → FitOf s → CountsAndServes mac q l s emitted new → IsPlaceAtLimit s emitted new
     admits-settles l s new emitted in_local fit h = either (is_misled s.controlling q) h
         (λ _ k. settles-same s new emitted k.0 k.1)
         (λ _ k. joins-settles l k.0 (request_counted s) new emitted in_local fit k.1 k.2)
 
     resolves-settles : (conflict : Conflict) (l : ℕ) (s new : AgentRecord H P) (emitted : Emitted) → l < length s.local → FitOf s
-        → ResolvesRoleConflictBy mac conflict q l s emitted new → Settles s emitted new
+        → ResolvesRoleConflictBy mac conflict q l s emitted new → IsPlaceAtLimit s emitted new
     resolves-settles Absent l s new emitted in_local fit h = admits-settles l s new emitted in_local fit h
     resolves-settles Send487 l s new emitted in_local fit (values, is, made) =
         inl (ap (λ (a : AgentRecord H P). a.selected_pair) made, ap (λ (x : Emitted). last_of x.selected_paths) is)
     resolves-settles SwitchRole l s new emitted in_local fit h = admits-settles l (switched s) new emitted in_local (switches AllNumbers All1 All3 s fit).fit h
 
     here-settles : (place : Option ℕ) (s new : AgentRecord H P) (emitted : Emitted) → local_place s.local q ≡ place → ((l : ℕ) → local_place s.local q ≡ Some l → l < length s.local)
-        → FitOf s → MatchOption place (Drops s emitted new) (λ l. ResolvesRoleConflict mac q l s emitted new) → Settles s emitted new
+        → FitOf s → MatchOption place (Drops s emitted new) (λ l. ResolvesRoleConflict mac q l s emitted new) → IsPlaceAtLimit s emitted new
     here-settles None s new emitted is within fit h = settles-same s new emitted h.0 h.1
     here-settles (Some l) s new emitted is within fit h = resolves-settles (conflict_of s q) l s new emitted (within l is) fit h
 
     serves-settles : (s new : AgentRecord H P) (emitted : Emitted) → ((l : ℕ) → local_place s.local q ≡ Some l → l < length s.local) → FitOf s
-        → Serves mac q s emitted new → Settles s emitted new
-    serves-settles s new emitted within fit h = either (is_for_other_peer s q) h
+        → Serves mac q s emitted new → IsPlaceAtLimit s emitted new
+    serves-settles s new emitted within fit h = either (is_for_other_peer s q) (in_turn mac q s new emitted h)
         (λ _ k. settles-same s new emitted k.0 k.1)
         (λ _ k. here-settles (local_place s.local q) s new emitted refl within fit k)
 
@@ -204,14 +174,14 @@ module _ {H P : Type 0} where
     fit = fit_of old sound
 
     request-settles : (peer : Option IceCreds) (q : RequestRecord) (mid : AgentRecord H P) (emitted : Emitted)
-        → MatchOption peer ((emitted ≡ nothing_emitted) × (mid ≡ queued q old)) (λ _. Serves mac q old emitted mid) → Settles old emitted mid
+        → MatchOption peer ((emitted ≡ nothing_emitted) × (mid ≡ queued q old)) (λ _. Serves mac q old emitted mid) → IsPlaceAtLimit old emitted mid
     request-settles None q mid emitted (is, made) = inl (ap (λ (a : AgentRecord H P). a.selected_pair) made, ap (λ (x : Emitted). last_of x.selected_paths) is)
     request-settles (Some peer) q mid emitted h = serves-settles mac q old mid emitted (within q) fit h
 
-    failed-settles : (mid : AgentRecord H P) (via : Path) (m : Message) (emitted : Emitted) → HandlesFailure old via m emitted mid → Settles old emitted mid
-    failed-settles mid via m emitted h = by_failure (λ e a. Settles old e a) old mid via m emitted (λ code. inl (refl, refl)) (λ code. inl (refl, refl)) h
+    failed-settles : (mid : AgentRecord H P) (via : Path) (m : Message) (emitted : Emitted) → HandlesFailure old via m emitted mid → IsPlaceAtLimit old emitted mid
+    failed-settles mid via m emitted h = by_failure (λ e a. IsPlaceAtLimit old e a) old mid via m emitted (λ code. inl (refl, refl)) (λ code. inl (refl, refl)) h
 
-    taken-settles : (c : Class) (now : ℕ) (mid : AgentRecord H P) (via : Path) (m : Message) (emitted : Emitted) → Takes mac c now old via m emitted mid → Settles old emitted mid
+    taken-settles : (c : Class) (now : ℕ) (mid : AgentRecord H P) (via : Path) (m : Message) (emitted : Emitted) → Takes mac c now old via m emitted mid → IsPlaceAtLimit old emitted mid
     taken-settles class.Request now mid via m emitted h = request-settles old.remote_creds (request_in now via m) mid emitted h
     taken-settles class.Success now mid via m emitted h = inr (success_top now old mid via m emitted fit h)
     taken-settles class.Failure now mid via m emitted h = failed-settles mid via m emitted h
@@ -219,27 +189,27 @@ module _ {H P : Type 0} where
     taken-settles class.Unknown now mid via m emitted h = absurd h
 
     -- by what the entry emits
-    by-entry : (answer : Answer) (emitted : Emitted) → e ≡ record { answer = answer; emitted = emitted } → Settles old emitted new → Settles old e.emitted new
-    by-entry answer emitted is k = subst (λ (x : Emitted). Settles old x new) (sym (ap (λ (x : Entry). x.emitted) is)) k
+    by-entry : (answer : Answer) (emitted : Emitted) → e ≡ record { answer = answer; emitted = emitted } → IsPlaceAtLimit old emitted new → IsPlaceAtLimit old e.emitted new
+    by-entry answer emitted is k = subst (λ (x : Emitted). IsPlaceAtLimit old x new) (sym (ap (λ (x : Entry). x.emitted) is)) k
 
-    packet-settles : (now : ℕ) (via : Path) (bytes : List ℕ) → Receives mac answers now old via bytes e new → Settles old e.emitted new
+    packet-settles : (now : ℕ) (via : Path) (bytes : List ℕ) → Receives mac answers now old via bytes e new → IsPlaceAtLimit old e.emitted new
     packet-settles now via bytes (inl (fault, has, is, made)) = settles-same old new e.emitted (ap (λ (x : Entry). x.emitted) is) made
     packet-settles now via bytes (inr (m, reads, (Ok false, emitted, is, (unaccepted, nothing, made)))) = settles-same old new e.emitted (ap (λ (x : Entry). x.emitted) is ∙ nothing) made
     packet-settles now via bytes (inr (m, reads, (Err error, emitted, is, (may, nothing, made)))) = settles-same old new e.emitted (ap (λ (x : Entry). x.emitted) is ∙ nothing) made
     packet-settles now via bytes (inr (m, reads, (Ok true, emitted, is, (accepted, (mid, takes, made))))) =
         by-entry (Flag true) emitted is
-        (subst (λ (a : AgentRecord H P). Settles old emitted a) (sym made) (elim (taken-settles m.class now mid via m emitted takes) [ inl kept ↦ inl kept | inr top ↦ inr top ]))
+        (subst (λ (a : AgentRecord H P). IsPlaceAtLimit old emitted a) (sym made) (elim (taken-settles m.class now mid via m emitted takes) [ inl kept ↦ inl kept | inr top ↦ inr top ]))
 
     timeout-by : (now : ℕ) (emitted : Emitted) (o : Option RequestRecord)
-        → MatchOption o (MaintainsPairs mac now (timeout_begun now old) s emitted new t) (λ q. ServesQueued mac q (at_request now (timeout_begun now old)) s emitted new t) → Settles old emitted new
+        → MatchOption o (MaintainsPairs mac now (timeout_begun now old) s emitted new t) (λ q. ServesQueued mac q (at_request now (timeout_begun now old)) s emitted new t) → IsPlaceAtLimit old emitted new
     timeout-by now emitted None h = inr (maintains_pairs_top mac now (timeout_begun now old) new s t emitted fit h)
     timeout-by now emitted (Some q) (h, drawn) = serves-settles mac q (first_taken (at_request now (timeout_begun now old))) new emitted (within q) fit h
 
-    timeout-settles : (now : ℕ) (r : Result (Unit {0}) IceError) (emitted : Emitted) → TimesOut mac now old s r emitted new t → Settles old emitted new
+    timeout-settles : (now : ℕ) (r : Result (Unit {0}) IceError) (emitted : Emitted) → TimesOut mac now old s r emitted new t → IsPlaceAtLimit old emitted new
     timeout-settles now (Ok _) emitted h = timeout-by now emitted (request_at now old) h
     timeout-settles now (Err error) emitted (may, nothing, made, drawn) = settles-same old new emitted nothing made
 
-    calm-settles : (call : Call P) → is_calm call ≡ true → is_of_candidate call ≡ false → Step mac answers old s call e new t → Settles old e.emitted new
+    calm-settles : (call : Call P) → is_calm call ≡ true → is_of_candidate call ≡ false → Step mac answers old s call e new t → IsPlaceAtLimit old e.emitted new
     calm-settles call is other h =
         let k = silent mac answers old new s t e call is other h in inl (k.selected_paths, ap (λ (x : Emitted). last_of x.selected_paths) k.emitted)
 
@@ -284,7 +254,7 @@ module _ {H P : Type 0} where
     invalidates c found mid h = discards (local_to_discard c old) (remote_to_discard c old) found mid h
 
     selects-settles : (loses : Bool) (mid : AgentRecord H P) (path : Option Path) → Leaves mid → Reselects loses mid path new
-        → Settles old (selected_only path) new
+        → IsPlaceAtLimit old (selected_only path) new
     selects-settles true mid path leaves (named, nominating, made) =
         inr (subst (λ (a : AgentRecord H P). IsTopSelected a) (sym made) (nominates_top mid named path leaves.0.rising nominating))
     selects-settles false mid path leaves (none, made) =
@@ -292,11 +262,11 @@ module _ {H P : Type 0} where
 
     -- a candidate is added or invalidated
     candidate-settles : (answer : Answer) (emitted : Emitted) → e ≡ record { answer = answer; emitted = emitted } → (path : Option Path) (mid : AgentRecord H P)
-        → Leaves mid → Reselects (loses_selected old mid) mid path new → emitted ≡ selected_only path → Settles old e.emitted new
+        → Leaves mid → Reselects (loses_selected old mid) mid path new → emitted ≡ selected_only path → IsPlaceAtLimit old e.emitted new
     candidate-settles answer emitted is path mid leaves again emits =
-        by-entry answer emitted is (subst (λ (x : Emitted). Settles old x new) (sym emits) (selects-settles (loses_selected old mid) mid path leaves again))
+        by-entry answer emitted is (subst (λ (x : Emitted). IsPlaceAtLimit old x new) (sym emits) (selects-settles (loses_selected old mid) mid path leaves again))
 
-    pub settles : (call : Call P) → Step mac answers old s call e new t → Settles old e.emitted new
+    pub settles : (call : Call P) → Step mac answers old s call e new t → IsPlaceAtLimit old e.emitted new
     settles (AddLocalCandidate c) (r, emitted, is, (path, mid, h, again, emits), drawn) =
         candidate-settles (answer_by added r) emitted is path mid (adds-local c r mid h) again emits
     settles (AddRemoteCandidate c) (r, emitted, is, (path, mid, h, again, emits), drawn) =

@@ -1,60 +1,34 @@
 -- Which pair an agent records as the one that its peer nominated last: that of the request with USE-CANDIDATE that was served last.
-use Rattle.std.proofs.Common.{◌≡◌, ℕ, ◌==◌, ◌&&◌, Bool, true, false, not, List, [], ◌∷◌, ◌++◌, length, Option, Some, None, is_some, Result, Ok, Err, inl, inr, ◌⊎◌, refl, ap, sym, ◌∙◌, subst, if◌then◌else◌}
-use Rattle.std.specs.Prelude.{slice_set, MatchOption}
-use Rattle.std.specs.List.{list_any}
-use Rattle.std.proofs.lemmas.Bool.{eqb-true, eq-eqb}
-use Rattle.rand_core.specs.Stream.{Stream}
-use Rattle.is_proto.specs.Lists.{Has}
-use Rattle.is_proto.specs.declared.error.IceError.{IceError}
-use Rattle.is_candidate.specs.Candidates.{CandidateRecord, IsBased, base_of, candidate_at}
-use Rattle.is_pair.specs.Multiset.{change_at, change_pair, is_valid_at, IsPairBetween}
-use Rattle.is_pair.specs.Pairs.{PairRecord, is_nominated, with_request, validated}
-use Rattle.is_stun.specs.declared.header.Class.{Class}
 use Rattle.is_stun.specs.declared.header.Class.TheVariants as class
-use Rattle.is_stun.specs.Message.{Message}
-use Rattle.is_stun.specs.Reading.{Reads}
-use Rattle.is_rules.specs.declared.credentials.IceCreds.{IceCreds}
-use Rattle.is_rules.specs.declared.places.RemotePlace.{RemotePlace}
-use Rattle.is_rules.specs.declared.places.RemotePlace.TheVariants.{Known, Barred, Unknown, Vacant, Full}
-use Rattle.is_rules.specs.declared.roles.Conflict.{Conflict}
-use Rattle.is_rules.specs.declared.roles.Conflict.TheVariants.{Absent, Send487, SwitchRole}
-use Rattle.is_rules.specs.declared.emitted.Path.{Path}
-use Rattle.is_rules.specs.declared.emitted.Emitted.{Emitted}
-use Rattle.is_rules.specs.declared.emitted.Issued.{Issued}
-use Rattle.is_rules.specs.Emitted.{issued_as, nothing_emitted, reversed}
-use Rattle.is_rules.specs.Accepting.{Takes, discovered_emitted}
-use Rattle.is_rules.specs.Agent.{AgentRecord}
-use Rattle.is_rules.specs.Answers.{HandlesSuccess, HandlesFailure}
-use Rattle.is_theorems.specs.Asked.{IsAskedOn}
-use Rattle.is_rules.specs.Brought.{IsServing}
-use Rattle.is_rules.specs.Checking.{all_asked, ChecksTop, MayCheck}
-use Rattle.is_rules.specs.Forming.{formed, with_pair}
-use Rattle.is_rules.specs.Limit.{IsSenderPlace}
-use Rattle.is_theorems.specs.Logs.{Logged}
-use Rattle.is_rules.specs.Nominating.{with_selection, nominated_emitted, Nominates, NominatesWhere, numbers}
-use Rattle.is_rules.specs.Places.{local_place}
-use Rattle.is_rules.specs.Queue.{first_taken, queued, request_at}
-use Rattle.is_rules.specs.Request.{RequestRecord, request_in}
-use Rattle.is_rules.specs.Roles.{conflict_of, switched}
-use Rattle.is_rules.specs.Sending.{path_between, path_of}
-use Rattle.is_rules.specs.Serving.{nominates, trigger_time, selects_at_requests, after_request, Drops, is_misled, is_for_other_peer, nominated_last, pair_served, replied, request_counted, sender_candidate, served, validated_by_peer, with_sender, with_sender_at, RecordsAndResponds, FindsOrAddsPair, AddsUnknownSender, CountsAndServes, ResolvesRoleConflictBy, ResolvesRoleConflict, Serves, as_taken, nominated_by_peer}
-use Rattle.is_rules.specs.Settling.{settled}
-use Rattle.is_rules.specs.Sound.{IsSound}
-use Rattle.is_rules.specs.Steps.{Call, Entry, ReceivePacket, HandleTimeout, Done, Flag, answer_by, done, Receives, Step}
-use Rattle.is_rules.specs.Timeouts.{at_request, at_timeout, expired_gone, is_expired, timeout_begun, RemovesExpired, MaintainsPairs, ServesQueued, TimesOut}
+use Rattle.is_theorems.proofs.Common.{[], ◌&&◌, ◌++◌, ◌==◌, ◌∙◌, ◌∷◌, ◌≡◌, ◌⊎◌, Absent, AddsUnknownSender, after_request, AgentRecord}
+use Rattle.is_theorems.proofs.Common.{all_scheduled, answer_by, ap, as_taken, at_request, at_timeout, Barred, base_of, Bool, Call, candidate_at}
+use Rattle.is_theorems.proofs.Common.{CandidateRecord, change_at, change_pair, ChecksTop, Class, Conflict, conflict_of, CountsAndServes}
+use Rattle.is_theorems.proofs.Common.{discovered_emitted, Done, done, Drops, Emitted, Entry, eq-eqb, eqb-true, Err, expired_gone, false}
+use Rattle.is_theorems.proofs.Common.{FindsOrAddsPair, first_taken, Flag, formed, Full, HandlesFailure, HandlesSuccess, HandleTimeout, Has}
+use Rattle.is_theorems.proofs.Common.{IceCreds, IceError, if◌then◌else◌, in_turn, inl, inr, is_expired, is_for_other_peer, is_misled}
+use Rattle.is_theorems.proofs.Common.{is_nominated, is_some, is_valid_at, IsAskedOn, IsBased, IsPairBetween, IsSenderPlace, IsServing}
+use Rattle.is_theorems.proofs.Common.{IsSound, Issued, issued_as, Known, length, List, list_any, local_place, Logged, MaintainsPairs}
+use Rattle.is_theorems.proofs.Common.{MatchOption, MayCheck, Message, nominated_by_peer, nominated_emitted, nominated_last, Nominates}
+use Rattle.is_theorems.proofs.Common.{nominates, NominatesWhere, None, not, nothing_emitted, numbers, Ok, Option, pair_served, PairRecord}
+use Rattle.is_theorems.proofs.Common.{Path, path_between, path_left, path_of, queued, Reads, ReceivePacket, Receives, RecordsAndResponds}
+use Rattle.is_theorems.proofs.Common.{refl, RemotePlace, RemovesExpired, replied, request_at, request_counted, request_in, RequestRecord}
+use Rattle.is_theorems.proofs.Common.{ResolvesRoleConflict, ResolvesRoleConflictBy, Result, reversed, selects_at_requests, Send487}
+use Rattle.is_theorems.proofs.Common.{sender_candidate, served, Serves, ServesQueued, state_updated, slice_set, Some, Step, Stream, subst}
+use Rattle.is_theorems.proofs.Common.{switched, SwitchRole, sym, Takes, timeout_begun, TimesOut, trigger_time, true, Unknown, Vacant}
+use Rattle.is_theorems.proofs.Common.{validated, validated_by_peer, with_pair, with_request, with_selection, with_sender, with_sender_at, ℕ}
 use Rattle.is_theorems.proofs.BasicLemmas.EqualAddresses.{both}
 use Rattle.is_theorems.proofs.PathSelection.NominatedByPeer.{uses-too}
 use Rattle.is_theorems.proofs.CallEffects.CallsThatEmitNothing.{is_calm, calm}
 use Rattle.is_theorems.proofs.RuleEffects.UnchangedSettings.{Frame, either, where_frame}
 use Rattle.is_theorems.proofs.RuleEffects.ChangedPairs.{self_kept}
-use Rattle.is_theorems.proofs.CallEffects.ServedRequests.{reached, known_at, served_nominated, HasNominated, where_nominated, Has-last, Has-mapped}
+use Rattle.is_theorems.proofs.CallEffects.ServedRequests.{reached, known_at, served_nominated, HasNominated, where_nominated, Has-last}
+use Rattle.is_theorems.proofs.CallEffects.ServedRequests.{Has-mapped}
 use Rattle.is_theorems.proofs.RuleEffects.SelectedPaths.{some_is}
 use Rattle.is_theorems.proofs.BasicLemmas.VacantIndices.{known-in, vacant-at, put-here}
 use Rattle.is_theorems.proofs.BasicLemmas.CandidatesByIndex.{at-end}
 use Rattle.is_theorems.proofs.RuleEffects.TriggeredPairs.{triggered_by, by_trigger}
 use Rattle.is_theorems.proofs.BasicLemmas.ServedPairs.{numbered-by}
 use Rattle.is_theorems.proofs.RuleEffects.NotedErrors.{by_failure}
-use Rattle.is_rules.specs.Leaving.{path_left}
 
 -- a request leaves the number and the indices of its pair
 pub record SamePlace (p q : PairRecord) : Type 0 where
@@ -119,7 +93,7 @@ module _ {H P : Type 0} where
   check-last mac now (Some remote) old new s t issued h = either old.lite h
       (λ _ k. ap (λ (a : AgentRecord H P). a.last_nominated) k.1)
       (λ _ k. next k.0 k.2) where
-        next : (top : Option PairRecord) → ChecksTop mac now remote top (all_asked now old) s issued new t → new.last_nominated ≡ old.last_nominated
+        next : (top : Option PairRecord) → ChecksTop mac now remote top (all_scheduled now old) s issued new t → new.last_nominated ≡ old.last_nominated
         next None (is, made, drawn) = ap (λ (a : AgentRecord H P). a.last_nominated) made
         next (Some p) (id, drawn, values, is, made) = ap (λ (a : AgentRecord H P). a.last_nominated) made
 
@@ -158,7 +132,7 @@ module _ {H P : Type 0} where
         (path : Option Path) (mid : AgentRecord H P)
         (nominating : NominatesWhere (selects_at_requests s && is_valid_at number s.pairs) (pair_served q number s) path mid)
         (out : emitted.issued ≡ Some (issued_as (path_between s l r) class.Success q.id))
-        (made : new ≡ replied mac q (path_between s l r) (settled (is_some path) (trigger_time q s) mid)) where
+        (made : new ≡ replied mac q (path_between s l r) (state_updated (is_some path) (trigger_time q s) mid)) where
       record-is : new.last_nominated ≡ nominated_last s.controlling (as_taken (numbers s) q) number s.last_nominated
       record-is = ap (λ (a : AgentRecord H P). a.last_nominated) made ∙ where-last (selects_at_requests s && is_valid_at number s.pairs) (pair_served q number s) mid path nominating
 
@@ -270,7 +244,7 @@ module _ {H P : Type 0} where
     here-at (Some l) s new emitted is based h = resolves (conflict_of s q) l s new emitted (reached s.local q l based is).1 h
 
     serves : (s new : AgentRecord H P) (emitted : Emitted) → ((c : CandidateRecord) → Has s.local c → IsBased c) → Serves mac q s emitted new → Notes s emitted new
-    serves s new emitted based h = either (is_for_other_peer s q) h (λ _ k. dropped s new emitted k) (λ _ k. here-at (local_place s.local q) s new emitted refl based k)
+    serves s new emitted based h = either (is_for_other_peer s q) (in_turn mac q s new emitted h) (λ _ k. dropped s new emitted k) (λ _ k. here-at (local_place s.local q) s new emitted refl based k)
 
   -- ---- a transition
 

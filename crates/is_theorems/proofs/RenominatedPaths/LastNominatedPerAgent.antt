@@ -1,42 +1,25 @@
 -- Renomination in executions of one agent that may share its random source. The preconditions that mutants/specifications changes are read by
 -- tactics where they are used: if one of them is weaker, that goal stays unproved.
-use Rattle.std.proofs.Common.{◌≡◌, ℕ, ◌||◌, true, false, not, List, [], ◌∷◌, ◌++◌, Option, Some, None, inl, inr, ◌⊎◌, refl, ap, sym, ◌∙◌, subst, if◌then◌else◌, Bool}
-use Rattle.std.specs.Option.{option_and_then}
-use Rattle.rand_core.specs.Stream.{Stream}
-use Rattle.is_proto.specs.Lists.{Has}
-use Rattle.is_candidate.specs.Candidates.{CandidateRecord}
-use Rattle.is_pair.specs.Multiset.{change_at, change_pair, keeps_check, is_named_by}
-use Rattle.is_pair.specs.Pairs.{PairRecord, is_nominated, is_valid}
-use Rattle.is_rules.specs.declared.emitted.Path.{Path}
-use Rattle.is_rules.specs.Agent.{AgentRecord}
-use Rattle.is_rules.specs.Answers.{is_reverse}
-use Rattle.is_theorems.specs.Asked.{IsOnlyPair, UsesAddressesOf}
-use Rattle.is_theorems.specs.AskedExecutions.{selected_along, AcceptsSuccessOn, Ends, EndsAlong, IsAnsweredAlong}
-use Rattle.is_theorems.specs.Asking.{AreNominatedOn, AcceptsNomination}
-use Rattle.is_rules.specs.Effects.{PathEffect}
-use Rattle.is_theorems.specs.Exchange.{Execution}
-use Rattle.is_rules.specs.Issuing.{via_out}
-use Rattle.is_theorems.specs.Logs.{Logged}
-use Rattle.is_rules.specs.Nominating.{eligible_numbered, followed, if_eligible, stays_nominated, nominates_at_once, numbers}
-use Rattle.is_rules.specs.Points.{IsTopSelected}
-use Rattle.is_rules.specs.Queue.{request_at}
-use Rattle.is_rules.specs.Sending.{path_of}
-use Rattle.is_rules.specs.Sound.{IsSound, GivesBased}
-use Rattle.is_rules.specs.Steps.{Call, Entry, HandleTimeout, Step}
+use Rattle.is_theorems.proofs.Common.{[], ◌++◌, ◌||◌, ◌∙◌, ◌∷◌, ◌≡◌, ◌⊎◌, AcceptsNomination, AcceptsSuccessOn, AgentRecord, ap}
+use Rattle.is_theorems.proofs.Common.{AreNominatedOn, Bool, Call, CandidateRecord, change_at, change_pair, eligible_numbered, Ends}
+use Rattle.is_theorems.proofs.Common.{EndsAlong, Entry, Execution, false, followed, GivesBased, HandleTimeout, Has, if_eligible}
+use Rattle.is_theorems.proofs.Common.{if◌then◌else◌, inl, inr, is_named_by, is_nominated, is_reverse, is_valid, IsAnsweredAlong}
+use Rattle.is_theorems.proofs.Common.{IsNewlyCreated, IsOnlyPair, IsSound, IsTopSelected, keeps_check, List, Logged, named-by, no-some}
+use Rattle.is_theorems.proofs.Common.{nominates_at_once, None, not, numbered-found, numbers, Option, option_and_then, PairRecord, Path}
+use Rattle.is_theorems.proofs.Common.{path_of, PathEffect, refl, request_at, selected_along, Some, stays_nominated, Step, Stream, subst}
+use Rattle.is_theorems.proofs.Common.{sym, true, UsesAddressesOf, via_out, ℕ}
 use Rattle.is_theorems.proofs.BasicLemmas.EqualAddresses.{both}
 use Rattle.is_theorems.proofs.PathSelection.SelectedAfterResponse.{nominated-eligible}
 use Rattle.is_theorems.proofs.PathSelection.NominatedByPeerPerAgent.{execution_on, names-from}
 use Rattle.is_theorems.proofs.PathSelection.NominatedByPeer.{back-on}
-use Rattle.is_rules.proofs.PairLists.ChosenPair.{named-by, no-some}
 use Rattle.is_theorems.proofs.CallEffects.PathAndTradeEffects.{path_theorem, trade_theorem}
 use Rattle.is_theorems.proofs.StoredPairs.StoredChecks.{Checks, checks-as, number_same}
 use Rattle.is_theorems.proofs.PathSelection.SelectedPairIsNominated.{IsNamed}
-use Rattle.is_rules.proofs.PairLists.PairsByNumber.{numbered-found}
 use Rattle.is_theorems.proofs.CallEffects.ServedRequests.{Has-mapped}
 use Rattle.is_theorems.proofs.StoredPairs.PairsThatStay.{pairs-stay}
 use Rattle.is_theorems.proofs.StoredPairs.TransactionsOverPackets.{sound-execution}
-use Rattle.is_theorems.specs.RenominatingExecutions.{AcceptsNominationLastAlong, AcceptsNominationOnlyAlong, LastAcceptedNominationsAreLast, NominatedAreLast}
-use Rattle.is_theorems.specs.Shared.{IsNewlyCreated}
+use Rattle.is_theorems.specs.RenominatingExecutions.{AcceptsNominationLastAlong, AcceptsNominationOnlyAlong, LastAcceptedNominationsAreLast}
+use Rattle.is_theorems.specs.RenominatingExecutions.{NominatedAreLast}
 use Rattle.is_theorems.proofs.RenominatedPaths.LastNominatedPair.{IsRecordedOn, Records, records-by}
 use Rattle.is_theorems.proofs.RenominatedPaths.OnePathAtBothAgents.{follows-last, path-sent, selects-followed}
 use Rattle.is_theorems.proofs.ExecutionLogs.SharedRandomSource.{sound_run}

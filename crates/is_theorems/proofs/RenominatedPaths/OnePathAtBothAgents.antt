@@ -1,44 +1,25 @@
 -- With renomination at both agents, both select one path.
-use Rattle.std.proofs.Common.{◌≡◌, ℕ, ◌&&◌, ◌||◌, Bool, true, false, not, List, [], ◌∷◌, ◌++◌, length, Option, Some, None, inl, inr, ◌⊎◌, refl, ap, sym, ◌∙◌, subst, append_assoc, if◌then◌else◌}
-use Rattle.std.specs.Prelude.{MatchOption}
-use Rattle.std.specs.Option.{option_and_then, option_or}
-use Rattle.std.proofs.lemmas.Bool.{eqb-true}
-use Rattle.rand_core.specs.Stream.{Stream}
-use Rattle.is_proto.specs.Lists.{Has}
-use Rattle.is_proto.specs.Packets.{Packet}
-use Rattle.is_candidate.specs.Candidates.{CandidateRecord}
-use Rattle.is_pair.specs.Multiset.{change_at, change_pair, is_numbered, pair_numbered, IsGreatest, is_named_by}
-use Rattle.is_pair.specs.Pairs.{PairRecord, is_nominated, is_valid}
-use Rattle.is_stun.specs.Message.{AttributesRecord, Message}
-use Rattle.is_stun.specs.Reading.{Reads}
-use Rattle.is_stun.specs.Writing.{written}
-use Rattle.is_rules.specs.declared.emitted.Path.{Path}
-use Rattle.is_rules.specs.Agent.{AgentRecord}
-use Rattle.is_theorems.specs.Asked.{IsOnlyPair, IsAnsweredIn, IsAskedOn, MayEndIn}
-use Rattle.is_rules.specs.Checking.{check_message}
-use Rattle.is_rules.specs.Issuing.{via_out}
-use Rattle.is_theorems.specs.Logs.{Logged, last_selected}
-use Rattle.is_rules.specs.Nominating.{eligible_numbered, favored, followed, if_eligible, is_eligible, remains, selection_of, stays_nominated, IsChosen, nominates_at_once, numbers, followed_by_number}
-use Rattle.is_rules.specs.Brought.{IsServing}
-use Rattle.is_rules.specs.Points.{IsNominationPoint, IsTopSelected}
-use Rattle.is_rules.specs.Queue.{request_at}
-use Rattle.is_theorems.specs.Rounds.{RunsOn}
-use Rattle.is_theorems.specs.Runs.{IsFresh, Point, Run, run_to}
-use Rattle.is_rules.specs.Sending.{path_of}
-use Rattle.is_rules.specs.Sound.{GivesBased, IsSound}
-use Rattle.is_rules.specs.Steps.{Call, HandleTimeout, Step}
+use Rattle.is_theorems.proofs.Common.{[], ◌&&◌, ◌++◌, ◌||◌, ◌∙◌, ◌∷◌, ◌≡◌, ◌⊎◌, AgentRecord, ap, append_assoc, AttributesRecord, Bool, Call}
+use Rattle.is_theorems.proofs.Common.{CandidateRecord, change_at, change_pair, check_message, eligible_numbered, eqb-true, false, favored}
+use Rattle.is_theorems.proofs.Common.{followed, followed_by_number, found-in, GivesBased, HandleTimeout, Has, if_eligible, if◌then◌else◌}
+use Rattle.is_theorems.proofs.Common.{inl, inr, is_eligible, is_named_by, is_nominated, is_numbered, is_valid, IsAnsweredIn, IsAskedOn}
+use Rattle.is_theorems.proofs.Common.{IsChosen, IsFresh, IsGreatest, IsNominationPoint, IsOnlyPair, IsServing, IsSound, IsTopSelected}
+use Rattle.is_theorems.proofs.Common.{last_selected, length, List, Logged, MatchOption, MayEndIn, Message, named-by, no-some}
+use Rattle.is_theorems.proofs.Common.{nominates_at_once, None, not, numbered-found, numbers, Option, option_and_then, option_or, Packet}
+use Rattle.is_theorems.proofs.Common.{pair_numbered, PairRecord, Path, path_of, Point, Reads, refl, remains, request_at, Run, run_to}
+use Rattle.is_theorems.proofs.Common.{RunsOn, same-some, selection_of, Some, stays_nominated, Step, Stream, subst, sym, true, via_out}
+use Rattle.is_theorems.proofs.Common.{written, ℕ}
 use Rattle.is_theorems.proofs.BasicLemmas.EqualAddresses.{both}
 use Rattle.is_theorems.proofs.PathSelection.SelectedAfterResponse.{nominated-eligible}
 use Rattle.is_theorems.proofs.PathSelection.NominatedByPeer.{answered, next, point, sound}
 use Rattle.is_theorems.proofs.CheckExchanges.UseCandidateChecks.{last_alike}
-use Rattle.is_rules.proofs.PairLists.ChosenPair.{found-in, named-by, no-some, same-some}
 use Rattle.is_theorems.proofs.CallEffects.PathAndTradeEffects.{path_theorem}
 use Rattle.is_theorems.proofs.StoredPairs.StoredChecks.{Checks, checks-as, number_same}
 use Rattle.is_theorems.proofs.ExecutionLogs.LogTheorems.{holds, runs_sound}
-use Rattle.is_rules.proofs.PairLists.PairsByNumber.{numbered-found}
 use Rattle.is_theorems.proofs.CallEffects.ServedRequests.{Has-mapped}
 use Rattle.is_theorems.proofs.StoredPairs.PairsThatStay.{pairs-stay}
-use Rattle.is_theorems.specs.Renominating.{BothSelectOnePath, FollowedAreSelected, IsAskedLast, IsToFollow, LastAskedAreSelected, NominatesNone, OnlySelectedAreNominated}
+use Rattle.is_theorems.specs.Renominating.{BothSelectOnePath, FollowedAreSelected, IsAskedLast, IsToFollow, LastAskedAreSelected}
+use Rattle.is_theorems.specs.Renominating.{NominatesNone, OnlySelectedAreNominated}
 use Rattle.is_theorems.proofs.RenominatedPaths.LastNominatedPair.{IsRecordedOn, Records, records-by}
 use Rattle.is_theorems.proofs.BasicLemmas.PairsInTurn.{sent-number, sent_at, pairs-sent}
 

@@ -1,24 +1,15 @@
 -- The effects of nomination, removal of pairs, checks and responses on pairs.
-use Rattle.std.proofs.Common.{◌≡◌, ℕ, ◌<◌, ◌&&◌, ◌||◌, Bool, true, false, not, List, [], ◌∷◌, map, length, Option, Some, None, zero, suc, get_or, ◌≤◌, inl, inr, ◌⊎◌, refl, ap, sym, ◌∙◌, subst, arith, if◌then◌else◌}
-use Rattle.std.specs.List.{list_any}
-use Rattle.std.proofs.lemmas.Bool.{eq-eqb}
-use Rattle.is_proto.specs.Lists.{Has}
-use Rattle.is_pair.specs.Checks.{Check}
-use Rattle.is_pair.specs.Due.{moved_up}
-use Rattle.is_pair.specs.Pairs.{PairRecord, is_valid, is_nominated, nominated}
-use Rattle.is_rules.specs.declared.emitted.Path.{Path}
-use Rattle.is_rules.specs.Agent.{AgentRecord}
-use Rattle.is_pair.specs.Multiset.{change_at, change_pair, is_numbered}
-use Rattle.is_rules.proofs.PairLists.RisingNumbers.{AreRising}
-use Rattle.is_rules.specs.Sending.{path_of}
-use Rattle.is_rules.specs.Nominating.{is_eligible, nominated_by_self, Nominates, followed, remains, selection_of}
-use Rattle.is_rules.specs.Timeouts.{is_expired, expired_gone, RemovesExpired}
+use Rattle.is_theorems.proofs.Common.{[], ◌&&◌, ◌<◌, ◌||◌, ◌∙◌, ◌∷◌, ◌≡◌, ◌≤◌, ◌⊎◌, AgentRecord, ap, AreRising, arith, Bool, change_at}
+use Rattle.is_theorems.proofs.Common.{change_pair, Check, chosen-able, eq-eqb, expired_gone, false, followed, get_or, gives_way, Has}
+use Rattle.is_theorems.proofs.Common.{hastened, if◌then◌else◌, inl, inr, is_eligible, is_expired, is_nominated, is_numbered, is_valid}
+use Rattle.is_theorems.proofs.Common.{length, List, list_any, map, moved_up, nominated, nominated_by_self, Nominates, None, not, Option}
+use Rattle.is_theorems.proofs.Common.{PairRecord, Path, path_left, path_of, refl, remains, RemovesExpired, selection_of, silent_gone, Some}
+use Rattle.is_theorems.proofs.Common.{subst, suc, sym, true, zero, ℕ}
 use Rattle.is_theorems.proofs.RuleEffects.UnchangedSettings.{either}
 use Rattle.is_theorems.proofs.RuleEffects.SelectedPaths.{Evaluates, evaluates_none, one_pair, some_is, none_is}
-use Rattle.is_theorems.proofs.RuleEffects.EarlierAndNewPairs.{Parts, path_in, Fit, IsConsented, IsStarted, IsNominatedIn, Persisted, Onward, here, onward, thinned, Has-filter}
-use Rattle.is_rules.proofs.PairLists.ChosenPair.{chosen-able}
+use Rattle.is_theorems.proofs.RuleEffects.EarlierAndNewPairs.{Parts, path_in, Fit, IsConsented, IsStarted, IsNominatedIn, Persisted, Onward}
+use Rattle.is_theorems.proofs.RuleEffects.EarlierAndNewPairs.{here, onward, thinned, Has-filter}
 use Rattle.is_theorems.proofs.RuleEffects.NominatedPairs.{selected_paths, SelectsPath, selects_path}
-use Rattle.is_rules.specs.Leaving.{gives_way, hastened, path_left, silent_gone}
 use Rattle.is_theorems.proofs.RuleEffects.HastenedPairs.{by-hastened, left-held, Hastens}
 
 pub Has-map : {X Y : Type 0} (f : X → Y) (xs : List X) (y : Y) → Has (map f xs) y → (x : X) × Has xs x × (f x ≡ y)

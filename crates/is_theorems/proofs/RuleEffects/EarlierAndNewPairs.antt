@@ -1,25 +1,14 @@
 -- The effect of each change on pairs: a pair existed before, or is added.
-use Rattle.std.proofs.Common.{◌≡◌, ℕ, ◌+◌, ◌<◌, ◌≤◌, Bool, true, false, not, List, [], ◌∷◌, ◌++◌, filter, length, max, is_some, Option, Some, None, inl, inr, ◌⊎◌, refl, ap, sym, ◌∙◌, subst, arith, if◌then◌else◌}
-use Rattle.std.specs.Prelude.{nat_lt}
-use Rattle.is_proto.specs.Lists.{Has}
-use Rattle.is_candidate.specs.Candidates.{CandidateRecord, base_of, candidate_at}
-use Rattle.is_pair.specs.Checks.{Check}
-use Rattle.is_pair.specs.Pairs.{PairRecord, is_valid, is_nominated, last_of, taking_over}
-use Rattle.is_pair.specs.States.{is_valid_state, is_nominated_state, state_from, nomination_from}
-use Rattle.is_pair.specs.declared.pair.states.CheckState.TheVariants.{Waiting, InProgress, Succeeded}
-use Rattle.is_pair.specs.declared.pair.states.CheckState.{CheckState}
-use Rattle.is_pair.specs.declared.pair.states.NominationState.{NominationState}
-use Rattle.is_pair.specs.declared.pair.states.NominationState.TheVariants.{None as Unnominated, Nominated, Attempt, Success}
+use Rattle.is_pair.specs.Pairs.{last_of}
+use Rattle.is_pair.specs.declared.pair.states.NominationState.TheVariants.{None as Unnominated}
+use Rattle.is_theorems.proofs.Common.{[], ◌++◌, ◌+◌, ◌<◌, ◌∙◌, ◌∷◌, ◌≡◌, ◌≤◌, ◌⊎◌, AllBelow, ap, ArePlaced, AreRising, arith, Attempt}
+use Rattle.is_theorems.proofs.Common.{base_of, Bool, candidate_at, CandidateRecord, Check, CheckState, Combination, combined_priority, Each}
+use Rattle.is_theorems.proofs.Common.{false, filter, Formed, FormsEach, Has, if◌then◌else◌, inl, InProgress, inr, is_nominated}
+use Rattle.is_theorems.proofs.Common.{is_nominated_state, is_numbered, is_redundant, is_some, is_started_state, is_valid, is_valid_state}
+use Rattle.is_theorems.proofs.Common.{IsPlaced, length, less-or, List, max, nat_lt, Nominated, nomination_from, NominationState, None, not}
+use Rattle.is_theorems.proofs.Common.{Option, pair_of, PairRecord, Path, refl, removes, RemovesInTurn, SidesRecord, Some, state_from, subst}
+use Rattle.is_theorems.proofs.Common.{Succeeded, Success, sym, taking_over, Tries, true, Waiting, without, ℕ}
 use Rattle.is_theorems.proofs.BasicLemmas.EqualAddresses.{both, same_address-sound, same_protocol-sound}
-use Rattle.is_rules.specs.declared.emitted.Path.{Path}
-use Rattle.is_pair.specs.Multiset.{is_numbered, without}
-use Rattle.is_rules.proofs.PairLists.CountedPairs.{less-or}
-use Rattle.is_rules.proofs.PairLists.RemovedInTurn.{removes, RemovesInTurn}
-use Rattle.is_rules.proofs.PairLists.RisingNumbers.{AreRising, AllBelow}
-use Rattle.is_rules.specs.Sound.{IsPlaced, ArePlaced}
-use Rattle.is_rules.specs.Forming.{SidesRecord, Formed, Combination, combined_priority, is_redundant, pair_of, Tries, FormsEach}
-use Rattle.is_rules.specs.Sound.{is_started_state}
-use Rattle.is_rules.specs.Each.{Each}
 
 -- ---- lists
 

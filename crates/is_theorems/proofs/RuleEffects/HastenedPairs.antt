@@ -1,15 +1,8 @@
 -- When a silent path is left, other pairs may become due next: nothing else of them changes, and none of those that were due before then.
-use Rattle.std.proofs.Common.{◌≡◌, ℕ, ◌+◌, ◌⊎◌, ◌&&◌, ◌||◌, Bool, true, false, min, not, List, [], ◌∷◌, map, filter, Option, Some, None, option_map, inl, inr, refl, sym, ap, ◌∙◌, subst, if◌then◌else◌}
-use Rattle.std.specs.List.{list_any}
-use Rattle.is_proto.specs.Lists.{Has}
-use Rattle.is_stun.specs.declared.timing.StunTiming.{StunTiming}
-use Rattle.is_stun.specs.declared.timing.Consent.{Consent}
-use Rattle.is_stun.specs.Timing.{consent_of}
-use Rattle.is_pair.specs.Due.{has_consent, has_early_checks, is_open, is_pair_expired, moved_up}
-use Rattle.is_pair.specs.Pairs.{PairRecord, is_lite_alive}
-use Rattle.is_rules.specs.Agent.{AgentRecord}
-use Rattle.is_rules.specs.Due.{awaits_nomination}
-use Rattle.is_rules.specs.Leaving.{gives_way, hastened, path_left}
+use Rattle.is_theorems.proofs.Common.{[], ◌&&◌, ◌+◌, ◌||◌, ◌∙◌, ◌∷◌, ◌≡◌, AgentRecord, ap, awaits_nomination, Bool, Consent, consent_of}
+use Rattle.is_theorems.proofs.Common.{false, filter, gives_way, Has, has_consent, has_early_checks, hastened, if◌then◌else◌, inl, inr}
+use Rattle.is_theorems.proofs.Common.{is_lite_alive, is_open, is_pair_expired, List, list_any, map, moved_up, None, not, Option, PairRecord}
+use Rattle.is_theorems.proofs.Common.{path_left, refl, Some, StunTiming, subst, sym, true, ℕ}
 
 -- ---- lists
 
@@ -56,14 +49,6 @@ held-before Holds controlling now p sooner = by (awaits_nomination controlling p
 -- the due time is all that may change
 pub only-due : (controlling : Bool) (now : ℕ) (p : PairRecord) → hastened controlling now p ≡ record p { due = (hastened controlling now p).due }
 only-due controlling now p = by-hastened (λ q. q ≡ record p { due = q.due }) controlling now p (λ at. refl) refl
-
--- and it is the same, or at most a nanosecond from now
-pub due-or-sooner : (controlling : Bool) (now : ℕ) (p : PairRecord)
-    → ((hastened controlling now p).due ≡ p.due) ⊎ ((hastened controlling now p).due ≡ option_map (min (due_next now)) p.due)
-due-or-sooner controlling now p = by (awaits_nomination controlling p) where
-  by : (b : Bool) → ((if b then moved_up (due_next now) p else p).due ≡ p.due) ⊎ ((if b then moved_up (due_next now) p else p).due ≡ option_map (min (due_next now)) p.due)
-  by true = inr refl
-  by false = inl refl
 
 -- nor does it matter for whether the pair is to be removed
 pub hastened-expires : (controlling : Bool) (now : ℕ) (p : PairRecord) (lite : Bool) (t : StunTiming)

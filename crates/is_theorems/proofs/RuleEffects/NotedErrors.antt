@@ -1,18 +1,8 @@
 -- An error response changes only the code that its pair keeps, and maybe the role.
-use Rattle.std.proofs.Common.{◌&&◌, ◌≡◌, ℕ, Bool, true, false, not, List, [], ◌∷◌, Option, Some, None, refl, ap, sym, ◌∙◌, subst, if◌then◌else◌}
-use Rattle.std.specs.Prelude.{map}
-use Rattle.std.specs.Option.{option_map_or}
-use Rattle.is_proto.specs.Lists.{same}
-use Rattle.is_pair.specs.Multiset.{change_at, change_pair, is_numbered}
-use Rattle.is_pair.specs.Pairs.{PairRecord, with_error}
-use Rattle.is_stun.specs.Message.{Message}
-use Rattle.is_rules.specs.Agent.{AgentRecord}
-use Rattle.is_rules.specs.Answers.{after_error, error_noted, is_role_conflict, HandlesFailure}
-use Rattle.is_rules.specs.declared.emitted.Emitted.{Emitted}
-use Rattle.is_rules.specs.declared.emitted.Path.{Path}
-use Rattle.is_rules.specs.Emitted.{nothing_emitted}
-use Rattle.is_rules.specs.Roles.{keeps_role, switched}
-use Rattle.is_rules.specs.Serving.{Drops}
+use Rattle.is_theorems.proofs.Common.{[], ◌&&◌, ◌∙◌, ◌∷◌, ◌≡◌, after_error, AgentRecord, ap, Bool, change_at, change_pair, Drops, Emitted}
+use Rattle.is_theorems.proofs.Common.{error_noted, false, HandlesFailure, if◌then◌else◌, is_numbered, is_role_conflict, keeps_role, List}
+use Rattle.is_theorems.proofs.Common.{map, Message, None, not, nothing_emitted, Option, option_map_or, PairRecord, Path, refl, same, Some}
+use Rattle.is_theorems.proofs.Common.{subst, switched, sym, true, with_error, ℕ}
 use Rattle.is_theorems.proofs.RuleEffects.UnchangedSettings.{either}
 
 -- the pair with a code

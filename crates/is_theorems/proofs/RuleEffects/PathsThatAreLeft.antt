@@ -1,21 +1,9 @@
 -- When a selected pair gives way, and that all pairs stay otherwise.
-use Rattle.std.proofs.Common.{◌≡◌, ℕ, ◌<◌, ◌≤◌, ◌&&◌, ◌||◌, Bool, true, false, not, List, [], ◌∷◌, length, map, filter, inl, inr, nat_le, Option, Some, None, refl, ap, ◌∙◌, arith, if◌then◌else◌}
-use Rattle.std.specs.Prelude.{position, reverse, unwrap_or}
-use Rattle.std.specs.List.{list_any}
-use Rattle.std.specs.Option.{option_map_or}
-use Rattle.std.proofs.lemmas.Bool.Decides.{nat_tests}
-use Rattle.std.proofs.lemmas.List.{length-reverse}
-use Rattle.std.proofs.lemmas.List.Quantifiers.{position-Some}
-use Rattle.is_proto.specs.Lists.{Has}
-use Rattle.is_stun.specs.Timing.{is_modern}
-use Rattle.is_pair.specs.declared.pair.silence.Span.{Span}
-use Rattle.is_pair.specs.Checks.{Check, is_answered, unanswered_count}
-use Rattle.is_pair.specs.Multiset.{is_named_by}
-use Rattle.is_pair.specs.Pairs.{PairRecord, is_nominated, is_valid}
-use Rattle.is_pair.specs.Silence.{silence_of}
-use Rattle.is_rules.specs.Agent.{AgentRecord}
-use Rattle.is_rules.specs.Leaving.{gives_way, hastened, is_silent_enough, may_replace, path_left, silent_gone}
-use Rattle.is_rules.specs.Nominating.{is_eligible}
+use Rattle.is_theorems.proofs.Common.{[], ◌&&◌, ◌<◌, ◌||◌, ◌∙◌, ◌∷◌, ◌≡◌, ◌≤◌, AgentRecord, ap, arith, Bool, Check, false, filter}
+use Rattle.is_theorems.proofs.Common.{gives_way, Has, hastened, if◌then◌else◌, inl, inr, is_answered, is_eligible, is_modern, is_named_by}
+use Rattle.is_theorems.proofs.Common.{is_nominated, is_silent_enough, is_valid, length, length-reverse, List, list_any, map, may_replace}
+use Rattle.is_theorems.proofs.Common.{nat_le, nat_tests, None, not, Option, option_map_or, PairRecord, path_left, position, position-Some}
+use Rattle.is_theorems.proofs.Common.{refl, reverse, silence_of, silent_gone, Some, Span, true, unanswered_count, unwrap_or, ℕ}
 use Rattle.is_theorems.proofs.RuleEffects.HastenedPairs.{none-hastened}
 
 -- ---- lists

@@ -1,12 +1,8 @@
 -- What a step selects: paths that were valid, and `selected_pair` after them.
-use Rattle.std.proofs.Common.{◌≡◌, ◌≢◌, ℕ, ◌<◌, ◌≤◌, Bool, true, List, [], ◌∷◌, Option, Some, None, inl, inr, ◌⊎◌, refl, ap, sym, ◌∙◌, subst, arith}
-use Rattle.is_proto.specs.Lists.{Has}
-use Rattle.is_pair.specs.Pairs.{PairRecord, is_valid, is_nominated}
-use Rattle.is_rules.specs.declared.emitted.Path.{Path}
-use Rattle.is_rules.proofs.PairLists.RisingNumbers.{AreRising}
-use Rattle.is_rules.specs.Emitted.{selected_in}
-use Rattle.is_rules.specs.Effects.{last_of}
-use Rattle.is_theorems.proofs.RuleEffects.EarlierAndNewPairs.{Parts, path_in, IsValidIn, IsNominatedIn, Onward, valid_before, nominated_before}
+use Rattle.is_theorems.proofs.Common.{[], ◌<◌, ◌∙◌, ◌∷◌, ◌≡◌, ◌≢◌, ◌≤◌, ◌⊎◌, ap, AreRising, arith, Bool, Has, inl, inr, is_nominated}
+use Rattle.is_theorems.proofs.Common.{is_valid, last_of, List, None, Option, PairRecord, Path, refl, selected_in, Some, subst, sym, true, ℕ}
+use Rattle.is_theorems.proofs.RuleEffects.EarlierAndNewPairs.{Parts, path_in, IsValidIn, IsNominatedIn, Onward, valid_before}
+use Rattle.is_theorems.proofs.RuleEffects.EarlierAndNewPairs.{nominated_before}
 
 no_less : {A : Type 0} (m n : ℕ) → m < n → m ≡ n → A
 no_less m n lt same = let differ : m ≢ n = omega (arith, lt) in absurd (differ same)

@@ -1,12 +1,6 @@
 -- A request that triggers a check changes only when its pair is due.
-use Rattle.std.proofs.Common.{◌≡◌, ℕ, ◌&&◌, Bool, true, false, Option, min, refl, sym, subst, if◌then◌else◌}
-use Rattle.std.specs.Prelude.{option_map}
-use Rattle.is_stun.specs.Timing.{is_modern}
-use Rattle.is_pair.specs.Pairs.{PairRecord}
-use Rattle.is_pair.specs.Due.{is_triggered, moved_up, triggered}
-use Rattle.is_rules.specs.Agent.{AgentRecord}
-use Rattle.is_rules.specs.Request.{RequestRecord}
-use Rattle.is_rules.specs.Serving.{trigger_time}
+use Rattle.is_theorems.proofs.Common.{◌&&◌, ◌≡◌, AgentRecord, Bool, false, if◌then◌else◌, is_modern, is_triggered, min, moved_up, Option}
+use Rattle.is_theorems.proofs.Common.{option_map, PairRecord, refl, RequestRecord, subst, sym, trigger_time, triggered, true, ℕ}
 
 pub triggered_is : (modern : Bool) (at : ℕ) (p : PairRecord) → (due : Option ℕ) × (triggered modern at p ≡ record p { due = due })
 triggered_is modern at p = by (modern && is_triggered p) where

@@ -1,12 +1,8 @@
 -- When a silent path is left, a pair that is not valid, or is urgent, stays as it is.
-use Rattle.std.proofs.Common.{◌≡◌, ℕ, ◌+◌, ◌&&◌, ◌||◌, Bool, true, false, not, nat_lt, refl, ap, if◌then◌else◌}
-use Rattle.is_pair.specs.Due.{is_urgent, moved_up}
-use Rattle.is_pair.specs.Pairs.{PairRecord, is_nominated, is_valid}
-use Rattle.is_pair.specs.States.{is_nominated_state, is_nominating}
-use Rattle.is_pair.specs.declared.pair.states.NominationState.{NominationState}
-use Rattle.is_pair.specs.declared.pair.states.NominationState.TheVariants.{None as Unnominated, Nominated, Attempt, Success}
-use Rattle.is_rules.specs.Due.{awaits_nomination}
-use Rattle.is_rules.specs.Leaving.{hastened}
+use Rattle.is_pair.specs.declared.pair.states.NominationState.TheVariants.{None as Unnominated}
+use Rattle.is_theorems.proofs.Common.{◌&&◌, ◌+◌, ◌||◌, ◌≡◌, ap, Attempt, awaits_nomination, Bool, false, hastened, if◌then◌else◌}
+use Rattle.is_theorems.proofs.Common.{is_nominated, is_nominated_state, is_nominating, is_urgent, is_valid, moved_up, nat_lt, Nominated}
+use Rattle.is_theorems.proofs.Common.{NominationState, not, PairRecord, refl, Success, true, ℕ}
 
 -- it awaits no nomination
 unless-awaits : (controlling : Bool) (now : ℕ) (p : PairRecord) → awaits_nomination controlling p ≡ false → hastened controlling now p ≡ p

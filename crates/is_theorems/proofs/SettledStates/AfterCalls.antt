@@ -1,25 +1,15 @@
 -- Each call of a full agent with `Modern`: what it does to the state and to the selected pair.
-use Rattle.std.proofs.Common.{◌≡◌, ℕ, ◌==◌, ◌&&◌, Bool, true, false, List, map, Some, Result, Ok, Err, inl, inr, refl, ap, sym, ◌∙◌, subst, if◌then◌else◌}
-use Rattle.rand_core.specs.Stream.{Stream}
-use Rattle.is_proto.specs.declared.error.IceError.{IceError}
-use Rattle.is_candidate.specs.Candidates.{CandidateRecord}
-use Rattle.is_pair.specs.Due.{asked}
-use Rattle.is_pair.specs.Pairs.{undue}
-use Rattle.is_rules.specs.Agent.{AgentRecord}
-use Rattle.is_rules.specs.Connecting.{is_connected}
-use Rattle.is_rules.specs.Credentials.{SetsLocal, SetsRemote}
-use Rattle.is_rules.specs.declared.emitted.Emitted.{Emitted}
-use Rattle.is_rules.specs.declared.credentials.IceCreds.{IceCreds}
-use Rattle.is_rules.specs.declared.event.IceConnectionState.TheVariants.{New}
-use Rattle.is_rules.specs.Discarding.{Invalidates}
-use Rattle.is_rules.specs.Effects.{last_of}
-use Rattle.is_rules.specs.Emitted.{nothing_emitted}
-use Rattle.is_rules.specs.Local.{AddsLocal}
-use Rattle.is_rules.specs.Remote.{AddsRemote}
-use Rattle.is_rules.specs.Restarting.{emptied, Recreates, Restarts}
-use Rattle.is_rules.specs.Settings.{numbers_skipped, controlling_set, SetsMtu, with_lite_timeout, with_retransmits, with_rtos, with_consent, with_profile}
-use Rattle.is_rules.specs.States.{same_state}
-use Rattle.is_rules.specs.Steps.{Call, SetMtu, SetControlTieBreaker, SetMaxCandidatePairs, SetMaxDiscovered, SetIceLite, SetRenomination, SetConsent, SetProfile, SetTimingAdvance, SetInitialStunRto, SetMaxStunRto, SetMaxStunRetransmits, SetLiteTimeout, SetLocalPreference, SetControlling, SetLocalCredentials, SetRemoteCredentials, SkipPairIds, AddLocalCandidate, AddRemoteCandidate, InvalidateCandidate, RestartIce, RecreateCandidatePairs, ReceivePacket, HandleTimeout, PollTransmit, PollTimeout, PollEvent, Flag, added, answer_by, done, Entry, Step, Becomes, MayDo}
+use Rattle.is_theorems.proofs.Common.{◌&&◌, ◌==◌, ◌∙◌, ◌≡◌, added, AddLocalCandidate, AddRemoteCandidate, AddsLocal, AddsRemote}
+use Rattle.is_theorems.proofs.Common.{AgentRecord, answer_by, ap, scheduled, Becomes, Bool, Call, CandidateRecord, controlling_set, done}
+use Rattle.is_theorems.proofs.Common.{Emitted, emptied, Entry, Err, false, Flag, HandleTimeout, IceCreds, IceError, if◌then◌else◌, inl, inr}
+use Rattle.is_theorems.proofs.Common.{InvalidateCandidate, Invalidates, is_connected, last_of, List, map, MayDo, New, nothing_emitted}
+use Rattle.is_theorems.proofs.Common.{numbers_skipped, Ok, PollEvent, PollTimeout, PollTransmit, ReceivePacket, RecreateCandidatePairs}
+use Rattle.is_theorems.proofs.Common.{Recreates, refl, RestartIce, Restarts, Result, same_state, SetConsent, SetControlling}
+use Rattle.is_theorems.proofs.Common.{SetControlTieBreaker, SetIceLite, SetInitialStunRto, SetLiteTimeout, SetLocalCredentials}
+use Rattle.is_theorems.proofs.Common.{SetLocalPreference, SetMaxCandidatePairs, SetMaxDiscovered, SetMaxStunRetransmits, SetMaxStunRto}
+use Rattle.is_theorems.proofs.Common.{SetMtu, SetProfile, SetRemoteCredentials, SetRenomination, SetsLocal, SetsMtu, SetsRemote}
+use Rattle.is_theorems.proofs.Common.{SetTimingAdvance, SkipPairIds, Some, Step, Stream, subst, sym, true, undue, with_consent}
+use Rattle.is_theorems.proofs.Common.{with_lite_timeout, with_profile, with_retransmits, with_rtos, ℕ}
 use Rattle.is_theorems.proofs.CallEffects.AddedCandidates.{by_waking}
 use Rattle.is_theorems.proofs.CallEffects.FailedCallsAndNewAgents.{mtu_kept, local_kept, remote_kept, restart_kept, recreation_kept}
 use Rattle.is_theorems.proofs.ConnectedConsent.ConnectedPairs.{HasNominated}
@@ -27,7 +17,7 @@ use Rattle.is_theorems.proofs.RuleEffects.UnchangedSettings.{either}
 use Rattle.is_theorems.proofs.SettledStates.AfterCandidates.{adds-local, invalidates, selecting, signals}
 use Rattle.is_theorems.proofs.SettledStates.AfterTimeouts.{received, timed}
 use Rattle.is_theorems.proofs.SettledStates.LivePairs.{forms-back, map-back, no-live, unless-back}
-use Rattle.is_theorems.proofs.SettledStates.Outcomes.{MayGoOn, Outcome, Settles, Stays, unasked-none}
+use Rattle.is_theorems.proofs.SettledStates.Outcomes.{MayGoOn, Outcome, IsPlaceAtLimit, Stays, unasked-none}
 use Rattle.is_theorems.proofs.SettledStates.SelectedPairs.{HasSelected, map-selected, Selects}
 
 module _ {H P : Type 0} (mac : H → List ℕ → List ℕ → List ℕ) (answers : P → CandidateRecord → ℕ → ℕ → Type 0) where
@@ -56,7 +46,7 @@ module _ {H P : Type 0} (mac : H → List ℕ → List ℕ → List ℕ) (answer
     may-do Does goes failed (Err error, is, h, drawn) = kept (ap (λ (x : Entry). x.emitted) is) (failed error h)
 
     restarts : (creds : IceCreds) (keep : Bool) → Restarts old creds keep (Ok _) new → Outcome old e.emitted new
-    restarts creds keep (fits, made) = inr (subst (λ (a : AgentRecord H P). Settles old a) (sym made) (record {
+    restarts creds keep (fits, made) = inr (subst (λ (a : AgentRecord H P). IsPlaceAtLimit old a) (sym made) (record {
       begun = refl;
       backed = λ connected. no-live connected;
       connects = λ _ live. absurd live.1;
@@ -115,8 +105,8 @@ module _ {H P : Type 0} (mac : H → List ℕ → List ℕ → List ℕ) (answer
         sets (record old { packets = new.packets }) refl (λ live. live) (λ was. was) (ap (λ (x : Entry). x.emitted) is) made
     steps PollTimeout full may (deadline, is, h, drawn) = by_waking old new deadline h
         (λ made. kept (ap (λ (x : Entry). x.emitted) is) made)
-        (λ at made. sets (record old { pairs = map (asked at old.timing) old.pairs }) refl
-        (λ live. map-back (asked at old.timing) old.pairs (λ p _ is. is) live)
-        (λ was. map-selected old.selected_pair (asked at old.timing) old.pairs (λ p. refl) was) (ap (λ (x : Entry). x.emitted) is) made)
+        (λ at made. sets (record old { pairs = map (scheduled at old.timing) old.pairs }) refl
+        (λ live. map-back (scheduled at old.timing) old.pairs (λ p _ is. is) live)
+        (λ was. map-selected old.selected_pair (scheduled at old.timing) old.pairs (λ p. refl) was) (ap (λ (x : Entry). x.emitted) is) made)
     steps PollEvent full may (given, is, (polled, made), drawn) =
         sets (record old { events = new.events }) refl (λ live. live) (λ was. was) (ap (λ (x : Entry). x.emitted) is) made

@@ -1,28 +1,18 @@
 -- A candidate is added or invalidated: if the selected pair is removed, a path is selected and the state is evaluated.
-use Rattle.std.proofs.Common.{◌≡◌, ℕ, ◌&&◌, Bool, true, false, not, List, Option, Some, None, unwrap_or, Result, Ok, Err, inl, inr, refl, ap, sym, ◌∙◌, subst}
-use Rattle.rand_core.specs.Stream.{Stream}
-use Rattle.is_proto.specs.declared.error.IceError.{IceError}
-use Rattle.is_candidate.specs.Candidates.{CandidateRecord}
-use Rattle.is_rules.specs.Agent.{AgentRecord}
-use Rattle.is_rules.specs.declared.emitted.Emitted.{Emitted}
-use Rattle.is_rules.specs.declared.emitted.Path.{Path}
-use Rattle.is_rules.specs.declared.event.IceConnectionState.TheVariants.{New}
-use Rattle.is_rules.specs.Discarding.{Invalidates, InvalidatesAt, is_local_at, is_remote_at, local_discarded, local_to_discard, remote_discarded, remote_to_discard}
-use Rattle.is_rules.specs.Effects.{last_of}
-use Rattle.is_rules.specs.Emitted.{selected_only}
-use Rattle.is_rules.specs.Forming.{Combination, FormsAll}
-use Rattle.is_rules.specs.Local.{AddsLocal, appended, enabled_again}
-use Rattle.is_rules.specs.Remote.{AddsRemote, as_remote, with_remote}
-use Rattle.is_rules.specs.Settling.{has_selected, loses_selected, Reselects, settles}
-use Rattle.is_rules.specs.States.{evaluated, same_state}
-use Rattle.is_rules.specs.Steps.{Answer, Entry, MaySelect}
+use Rattle.is_theorems.proofs.Common.{◌&&◌, ◌∙◌, ◌≡◌, AddsLocal, AddsRemote, AgentRecord, Answer, ap, appended, as_remote, Bool}
+use Rattle.is_theorems.proofs.Common.{CandidateRecord, Combination, Emitted, enabled_again, Entry, Err, evaluated, false, FormsAll}
+use Rattle.is_theorems.proofs.Common.{has_selected, IceError, inl, inr, Invalidates, InvalidatesAt, is_local_at, is_remote_at, last_of}
+use Rattle.is_theorems.proofs.Common.{List, local_discarded, local_to_discard, loses_selected, MaySelect, New, None, not, Ok, Option, Path}
+use Rattle.is_theorems.proofs.Common.{refl, remote_discarded, remote_to_discard, Reselects, Result, same_state, selected_only, updates_late}
+use Rattle.is_theorems.proofs.Common.{Some, Stream, subst, sym, true, unwrap_or, with_remote, ℕ}
 use Rattle.is_theorems.proofs.CallEffects.AddedCandidates.{by_adding_local, by_adding_remote}
 use Rattle.is_theorems.proofs.CallEffects.FailedCallsAndNewAgents.{enrolment_kept, storing_kept}
 use Rattle.is_theorems.proofs.ConnectedConsent.ConnectedPairs.{evaluated-backed, HasNominated}
 use Rattle.is_theorems.proofs.RuleEffects.UnchangedSettings.{either}
 use Rattle.is_theorems.proofs.SettledStates.LivePairs.{filter-back, forms-back, no-live}
-use Rattle.is_theorems.proofs.SettledStates.Outcomes.{Outcome, Settles, settles-begun, Stays, unasked-none}
-use Rattle.is_theorems.proofs.SettledStates.SelectedPairs.{begun-evaluated, evaluated-connects, is-selected, nominates-selects, nominates-state, Selects, was-selected}
+use Rattle.is_theorems.proofs.SettledStates.Outcomes.{Outcome, IsPlaceAtLimit, settles-begun, Stays, unasked-none}
+use Rattle.is_theorems.proofs.SettledStates.SelectedPairs.{begun-evaluated, evaluated-connects, is-selected, nominates-selects}
+use Rattle.is_theorems.proofs.SettledStates.SelectedPairs.{nominates-state, Selects, was-selected}
 
 module _ {H P : Type 0} where
   -- the state and the selected number stay, and only a pair that replaces one is valid and nominated
@@ -77,7 +67,7 @@ module _ {H P : Type 0} where
 
   module _ (old mid new : AgentRecord H P) (path : Option Path) (k : Grows old mid) where
     -- the selected pair is not removed
-    stays-selected : loses_selected old mid ≡ false → settles old ≡ true → has_selected old ≡ true → has_selected mid ≡ true
+    stays-selected : loses_selected old mid ≡ false → updates_late old ≡ true → has_selected old ≡ true → has_selected mid ≡ true
     stays-selected none on was =
         by (has_selected mid) (sym (ap (λ b. b && has_selected old && not (has_selected mid)) on ∙ ap (λ b. b && not (has_selected mid)) was) ∙ none) where
           by : (b : Bool) → not b ≡ false → b ≡ true
@@ -86,7 +76,7 @@ module _ {H P : Type 0} where
 
     reselects : Reselects (loses_selected old mid) mid path new → Outcome old (selected_only path) new
     reselects h = either (loses_selected old mid) h
-        (λ _ r. inr (subst (λ (a : AgentRecord H P). Settles old a) (sym r.2)
+        (λ _ r. inr (subst (λ (a : AgentRecord H P). IsPlaceAtLimit old a) (sym r.2)
         (again r.0 (nominates-state mid r.0 path r.1) (nominates-selects mid r.0 path r.1))))
         (λ none r. inl (subst (λ (a : AgentRecord H P). Stays old (selected_only path) a) (sym r.1) (record {
           state = k.state;
@@ -99,7 +89,7 @@ module _ {H P : Type 0} where
           at : ℕ
           at = unwrap_or mid.last_time 0
 
-          again : (named : AgentRecord H P) → named.state ≡ mid.state → (HasNominated named.pairs → Selects named) → Settles old (evaluated at named)
+          again : (named : AgentRecord H P) → named.state ≡ mid.state → (HasNominated named.pairs → Selects named) → IsPlaceAtLimit old (evaluated at named)
           again named state selects = record {
             begun = begun-evaluated at named;
             backed = evaluated-backed at named;

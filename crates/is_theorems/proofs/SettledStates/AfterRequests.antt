@@ -1,34 +1,17 @@
 -- A request that is served: if it selects a path, the state is evaluated with `Modern`.
-use Rattle.std.proofs.Common.{◌≡◌, ℕ, ◌&&◌, Bool, true, false, not, List, Option, Some, None, is_some, inl, inr, refl, ap, sym, ◌∙◌, subst, if◌then◌else◌}
-use Rattle.std.specs.Prelude.{MatchOption}
-use Rattle.is_proto.specs.Lists.{Has}
-use Rattle.is_candidate.specs.Candidates.{candidate_at}
-use Rattle.is_pair.specs.Multiset.{change_at, is_numbered, is_valid_at, passes_at}
-use Rattle.is_pair.specs.Pairs.{PairRecord, is_nominated, is_valid, with_request}
 use Rattle.is_stun.specs.declared.header.Class.TheVariants as class
-use Rattle.is_rules.specs.Connecting.{is_connected}
-use Rattle.is_rules.specs.declared.event.IceConnectionState.TheVariants.{New}
-use Rattle.is_rules.specs.declared.credentials.IceCreds.{IceCreds}
-use Rattle.is_rules.specs.declared.emitted.Emitted.{Emitted}
-use Rattle.is_rules.specs.declared.emitted.Path.{Path}
-use Rattle.is_rules.specs.declared.places.RemotePlace.{RemotePlace}
-use Rattle.is_rules.specs.declared.places.RemotePlace.TheVariants.{Known, Barred, Unknown, Vacant, Full}
-use Rattle.is_rules.specs.declared.roles.Conflict.{Conflict}
-use Rattle.is_rules.specs.declared.roles.Conflict.TheVariants.{Absent, Send487, SwitchRole}
-use Rattle.is_rules.specs.Agent.{AgentRecord}
-use Rattle.is_rules.specs.Effects.{last_of}
-use Rattle.is_rules.specs.Emitted.{selected_in}
-use Rattle.is_rules.specs.Forming.{formed, with_pair}
-use Rattle.is_rules.specs.Nominating.{Nominates, numbers}
-use Rattle.is_rules.specs.Places.{local_place}
-use Rattle.is_rules.specs.Request.{RequestRecord}
-use Rattle.is_rules.specs.Roles.{conflict_of, switched, switched_sides, with_priority_in}
-use Rattle.is_rules.specs.Serving.{after_request, AddsUnknownSender, as_taken, CountsAndServes, Drops, FindsOrAddsPair, is_misled, is_for_other_peer, nominated_by_peer, pair_served, Queues, RecordsAndResponds, replied, request_counted, ResolvesRoleConflict, ResolvesRoleConflictBy, selects_at_requests, served, Serves, trigger_time, with_sender, with_sender_at}
-use Rattle.is_rules.specs.Sending.{path_between}
-use Rattle.is_rules.specs.Settling.{settled, settles, state_at}
-use Rattle.is_rules.specs.States.{is_nominated_and_valid, same_state}
+use Rattle.is_theorems.proofs.Common.{◌&&◌, ◌∙◌, ◌≡◌, Absent, AddsUnknownSender, after_request, AgentRecord, ap, as_taken, Barred, Bool}
+use Rattle.is_theorems.proofs.Common.{candidate_at, change_at, Conflict, conflict_of, CountsAndServes, Drops, Emitted, false}
+use Rattle.is_theorems.proofs.Common.{FindsOrAddsPair, formed, Full, Has, IceCreds, if◌then◌else◌, in_turn, inl, inr, is_connected}
+use Rattle.is_theorems.proofs.Common.{is_for_other_peer, is_misled, is_nominated, is_nominated_and_valid, is_numbered, is_some, is_valid}
+use Rattle.is_theorems.proofs.Common.{is_valid_at, Known, last_of, List, local_place, MatchOption, New, nominated_by_peer, Nominates, None}
+use Rattle.is_theorems.proofs.Common.{not, numbers, Option, pair_served, PairRecord, passes_at, Path, path_between, Queues}
+use Rattle.is_theorems.proofs.Common.{RecordsAndResponds, refl, RemotePlace, replied, request_counted, RequestRecord, ResolvesRoleConflict}
+use Rattle.is_theorems.proofs.Common.{ResolvesRoleConflictBy, same_state, selected_in, selects_at_requests, Send487, served, Serves}
+use Rattle.is_theorems.proofs.Common.{state_updated, updates_late, Some, state_at, subst, switched, switched_sides, SwitchRole, sym, trigger_time}
+use Rattle.is_theorems.proofs.Common.{true, Unknown, Vacant, with_pair, with_priority_in, with_request, with_sender, with_sender_at, ℕ}
 use Rattle.is_theorems.proofs.BasicLemmas.EqualAddresses.{both}
-use Rattle.is_theorems.proofs.BasicLemmas.GreatestAndLeastPairs.{has-front}
+use Rattle.is_theorems.proofs.BasicLemmas.MembersOfLists.{has-front}
 use Rattle.is_theorems.proofs.BasicLemmas.ServedPairs.{numbered-by}
 use Rattle.is_theorems.proofs.BasicLemmas.UsernamesAndFirstMatches.{any_has}
 use Rattle.is_theorems.proofs.ConnectedConsent.ConnectedPairs.{evaluated-backed, HasNominated, settles-named}
@@ -37,8 +20,10 @@ use Rattle.is_theorems.proofs.RuleEffects.TriggeredPairs.{by_trigger, triggered_
 use Rattle.is_theorems.proofs.RuleEffects.UnchangedSettings.{either}
 use Rattle.is_theorems.proofs.StoredPairs.NumbersThatStay.{request-number}
 use Rattle.is_theorems.proofs.SettledStates.LivePairs.{map-back, no-live, push-back}
-use Rattle.is_theorems.proofs.SettledStates.Outcomes.{after-preparing, at-rest, HasRules, IsUnasked, nothing-done, Outcome, Prepares, prepared, settles-begun, Stays, unasked-as}
-use Rattle.is_theorems.proofs.SettledStates.SelectedPairs.{at-number, begun-evaluated, evaluated-connects, map-selected, nominates-keeps, nominates-selects, nominates-state, Selects}
+use Rattle.is_theorems.proofs.SettledStates.Outcomes.{after-preparing, at-rest, HasRules, IsUnasked, nothing-done, Outcome, Prepares}
+use Rattle.is_theorems.proofs.SettledStates.Outcomes.{prepared, settles-begun, Stays, unasked-as}
+use Rattle.is_theorems.proofs.SettledStates.SelectedPairs.{at-number, begun-evaluated, evaluated-connects, map-selected, nominates-keeps}
+use Rattle.is_theorems.proofs.SettledStates.SelectedPairs.{nominates-selects, nominates-state, Selects}
 
 -- a full agent's pair is valid after a request only if it was
 served-valid : (c l : Bool) (q : RequestRecord) (p : PairRecord) → l ≡ false → is_valid (served c l q p) ≡ is_valid p
@@ -85,7 +70,7 @@ module _ {H P : Type 0} where
         subst (λ (a : AgentRecord H P). Outcome s emitted a) (sym made)
         (either (selects_at_requests s && is_valid_at number s.pairs) nominating (λ _ k. evaluates path refl k) (λ off k. leaves off k)) where
           after : AgentRecord H P
-          after = replied mac q (path_between s l r) (settled (is_some path) (trigger_time q s) mid)
+          after = replied mac q (path_between s l r) (state_updated (is_some path) (trigger_time q s) mid)
 
           silent : path ≡ None → last_of emitted.selected_paths ≡ None
           silent none = ap (λ (x : Emitted). last_of x.selected_paths) is ∙ ap (λ o. last_of (selected_in o None)) none
@@ -95,8 +80,8 @@ module _ {H P : Type 0} where
 
           leaves : (selects_at_requests s && is_valid_at number s.pairs) ≡ false → (path ≡ None) × (mid ≡ y l r number s full) → Outcome s emitted after
           leaves off (none, same) =
-              inl (subst (λ (o : Option Path). Stays s emitted (replied mac q (path_between s l r) (settled (is_some o) (trigger_time q s) mid))) (sym none)
-              (subst (λ (a : AgentRecord H P). Stays s emitted (replied mac q (path_between s l r) (settled false (trigger_time q s) a))) (sym same) (record {
+              inl (subst (λ (o : Option Path). Stays s emitted (replied mac q (path_between s l r) (state_updated (is_some o) (trigger_time q s) mid))) (sym none)
+              (subst (λ (a : AgentRecord H P). Stays s emitted (replied mac q (path_between s l r) (state_updated false (trigger_time q s) a))) (sym same) (record {
                 state = refl;
                 unasked = unasked;
                 silent = λ _. silent none;
@@ -106,7 +91,7 @@ module _ {H P : Type 0} where
 
           evaluates : (o : Option Path) → path ≡ o → Nominates (y l r number s full) path mid → Outcome s emitted after
           evaluates None none k = inl (subst
-              (λ (o : Option Path). Stays s emitted (replied mac q (path_between s l r) (settled (is_some o) (trigger_time q s) mid))) (sym none) (record {
+              (λ (o : Option Path). Stays s emitted (replied mac q (path_between s l r) (state_updated (is_some o) (trigger_time q s) mid))) (sym none) (record {
                 state = nominates-state (y l r number s full) mid path k;
                 unasked = unasked;
                 silent = λ _. silent none;
@@ -114,15 +99,15 @@ module _ {H P : Type 0} where
                 keeps = λ _ was. nominates-keeps (y l r number s full) mid path k (served-keeps l r number s full was);
               }))
           evaluates (Some one) some k =
-              subst (λ (o : Option Path). Outcome s emitted (replied mac q (path_between s l r) (settled (is_some o) (trigger_time q s) mid))) (sym some)
-              (by (settles s) refl) where
-                on : settles mid ≡ settles s
+              subst (λ (o : Option Path). Outcome s emitted (replied mac q (path_between s l r) (state_updated (is_some o) (trigger_time q s) mid))) (sym some)
+              (by (updates_late s) refl) where
+                on : updates_late mid ≡ updates_late s
                 on = settles-named (y l r number s full) mid path k
 
                 selected : AgentRecord H P
-                selected = replied mac q (path_between s l r) (settled true (trigger_time q s) mid)
+                selected = replied mac q (path_between s l r) (state_updated true (trigger_time q s) mid)
 
-                by : (b : Bool) → settles s ≡ b → Outcome s emitted selected
+                by : (b : Bool) → updates_late s ≡ b → Outcome s emitted selected
                 by true rule =
                     let state : selected.state ≡ state_at (trigger_time q s) mid =
                     ap (λ b. if b then state_at (trigger_time q s) mid else mid.state) (on ∙ rule) in
@@ -198,7 +183,7 @@ module _ {H P : Type 0} where
     here (Some l) s new emitted full h = resolves-by (conflict_of s q) l s new emitted full h
 
     pub serves : (s new : AgentRecord H P) (emitted : Emitted) → s.lite ≡ false → Serves mac q s emitted new → Outcome s emitted new
-    serves s new emitted full h = either (is_for_other_peer s q) h (λ _ k. dropped s new emitted k) (λ _ k. here (local_place s.local q) s new emitted full k)
+    serves s new emitted full h = either (is_for_other_peer s q) (in_turn mac q s new emitted h) (λ _ k. dropped s new emitted k) (λ _ k. here (local_place s.local q) s new emitted full k)
 
     pub requested : (remote : Option IceCreds) (s new : AgentRecord H P) (emitted : Emitted) → s.lite ≡ false
         → MatchOption remote (Queues q s emitted new) (λ _. Serves mac q s emitted new) → Outcome s emitted new

@@ -1,49 +1,25 @@
 -- Responses and `handle_timeout` calls: the state is evaluated after nomination.
-use Rattle.std.proofs.Common.{◌≡◌, ℕ, ◌&&◌, Bool, true, false, not, List, map, Option, Some, None, Result, Ok, Err, inl, inr, refl, ap, sym, ◌∙◌, subst, if◌then◌else◌}
-use Rattle.std.specs.Prelude.{MatchOption}
-use Rattle.std.specs.List.{list_any}
-use Rattle.rand_core.specs.Stream.{Stream}
-use Rattle.is_proto.specs.declared.error.IceError.{IceError}
-use Rattle.is_proto.specs.Lists.{Has}
-use Rattle.is_candidate.specs.Candidates.{CandidateRecord}
-use Rattle.is_pair.specs.Due.{asked}
-use Rattle.is_pair.specs.Multiset.{change_at, is_numbered}
-use Rattle.is_pair.specs.Pairs.{heard, PairRecord}
-use Rattle.is_stun.specs.declared.header.Class.{Class}
 use Rattle.is_stun.specs.declared.header.Class.TheVariants as class
-use Rattle.is_stun.specs.Message.{Message}
-use Rattle.is_stun.specs.Timing.{is_modern}
-use Rattle.is_rules.specs.Accepting.{discovered_emitted, HandlesPacket, Takes}
-use Rattle.is_rules.specs.Agent.{AgentRecord}
-use Rattle.is_rules.specs.Answers.{HandlesFailure, HandlesSuccess}
-use Rattle.is_rules.specs.Checking.{all_asked, check_sent, ChecksTop, MayCheck}
-use Rattle.is_rules.specs.Connecting.{is_connected}
-use Rattle.is_rules.specs.declared.credentials.IceCreds.{IceCreds}
-use Rattle.is_rules.specs.declared.emitted.Emitted.{Emitted}
-use Rattle.is_rules.specs.declared.emitted.Issued.{Issued}
-use Rattle.is_rules.specs.declared.emitted.Path.{Path}
-use Rattle.is_rules.specs.declared.event.IceConnectionState.{IceConnectionState}
-use Rattle.is_rules.specs.declared.event.IceConnectionState.TheVariants.{New, Checking}
-use Rattle.is_rules.specs.Nominating.{Nominates, nominates_at_once}
-use Rattle.is_rules.specs.Queue.{first_taken, request_at}
-use Rattle.is_rules.specs.Request.{RequestRecord, request_in}
-use Rattle.is_rules.specs.Roles.{switched}
-use Rattle.is_rules.specs.Serving.{Serves}
-use Rattle.is_rules.specs.Settling.{settles, state_at}
-use Rattle.is_rules.specs.States.{has_possible, has_nominated, next_state, same_state}
-use Rattle.is_rules.specs.Steps.{Entry, Receives}
-use Rattle.is_rules.specs.Timeouts.{at_request, at_timeout, expired_gone, is_expired, MaintainsPairs, RemovesExpired, timeout_begun, TimesOut}
+use Rattle.is_theorems.proofs.Common.{◌&&◌, ◌∙◌, ◌≡◌, AgentRecord, all_scheduled, ap, scheduled, at_request, at_timeout, Bool, CandidateRecord}
+use Rattle.is_theorems.proofs.Common.{change_at, check_sent, Checking, ChecksTop, Class, discovered_emitted, Emitted, Entry, Err}
+use Rattle.is_theorems.proofs.Common.{expired_gone, false, first_taken, HandlesFailure, HandlesPacket, HandlesSuccess, Has, has_nominated}
+use Rattle.is_theorems.proofs.Common.{has_possible, heard, IceConnectionState, IceCreds, IceError, if◌then◌else◌, inl, inr, is_connected}
+use Rattle.is_theorems.proofs.Common.{is_expired, is_modern, is_numbered, Issued, List, list_any, MaintainsPairs, map, MatchOption}
+use Rattle.is_theorems.proofs.Common.{MayCheck, Message, New, next_state, Nominates, nominates_at_once, None, not, nothing_emitted, Ok}
+use Rattle.is_theorems.proofs.Common.{Option, PairRecord, Path, path_left, Receives, refl, RemovesExpired, request_at, request_in}
+use Rattle.is_theorems.proofs.Common.{RequestRecord, Result, same_state, Serves, updates_late, Some, state_at, Stream, subst, switched, sym}
+use Rattle.is_theorems.proofs.Common.{Takes, timeout_begun, TimesOut, true, ℕ}
 use Rattle.is_theorems.proofs.BasicLemmas.PairsInTurn.{sent_at, sent-pairs}
 use Rattle.is_theorems.proofs.ConnectedConsent.ConnectedPairs.{evaluated-backed, HasNominated, maintained-backed, settles-named}
 use Rattle.is_theorems.proofs.PathSelection.NominationPoints.{Alike, alike_if, heard_alike, sent-alike}
 use Rattle.is_theorems.proofs.RuleEffects.UnchangedSettings.{either}
 use Rattle.is_theorems.proofs.SettledStates.AfterRequests.{requested, serves, switches}
 use Rattle.is_theorems.proofs.SettledStates.LivePairs.{map-back, no-live}
-use Rattle.is_theorems.proofs.SettledStates.Outcomes.{after-preparing, at-rest, HasRules, MayGoOn, new-ruled, new-unsettled, nothing-done, Outcome, Prepares, Settles, settles-begun}
-use Rattle.is_theorems.proofs.SettledStates.SelectedPairs.{begun-evaluated, begun-next, evaluated-connects, map-selected, nominates-selects, nominates-state, Selects}
+use Rattle.is_theorems.proofs.SettledStates.Outcomes.{after-preparing, at-rest, HasRules, MayGoOn, new-ruled, new-unsettled, nothing-done}
+use Rattle.is_theorems.proofs.SettledStates.Outcomes.{Outcome, Prepares, IsPlaceAtLimit, settles-begun}
+use Rattle.is_theorems.proofs.SettledStates.SelectedPairs.{begun-evaluated, begun-next, evaluated-connects, map-selected, nominates-selects}
+use Rattle.is_theorems.proofs.SettledStates.SelectedPairs.{nominates-state, Selects}
 use Rattle.is_theorems.proofs.RuleEffects.NotedErrors.{coded, recoded, by_failure}
-use Rattle.is_rules.specs.Emitted.{nothing_emitted}
-use Rattle.is_rules.specs.Leaving.{path_left}
 
 module _ {H P : Type 0} where
   -- ---- responses
@@ -52,7 +28,7 @@ module _ {H P : Type 0} where
       → Outcome old emitted new
   success now old new via m emitted (recorded, (i, p, after, found, keeps, took, made), (path, mid, nominates, is, concluded)) =
       let state : mid.state ≡ old.state = nominates-state recorded mid path nominates ∙ ap (λ (a : AgentRecord H P). a.state) made in
-      inr (subst (λ (a : AgentRecord H P). Settles old a) (sym concluded) (record {
+      inr (subst (λ (a : AgentRecord H P). IsPlaceAtLimit old a) (sym concluded) (record {
         begun = begun-evaluated now mid;
         backed = evaluated-backed now mid;
         connects = λ rules live. evaluated-connects now mid (ap (λ z. same_state z New) state ∙ settles-begun old rules.0) live;
@@ -131,19 +107,19 @@ module _ {H P : Type 0} where
         (λ _ k. subst (λ (a : AgentRecord H P). Leaves old a) (sym k.1)
         (changes old _ (heard now) (λ p. heard_alike false now p.last_request p) refl refl refl))
         (λ _ k. next k.0 k.2) where
-          asks : Leaves old (all_asked now old)
-          asks = changes old (all_asked now old) (asked now old.timing)
+          asks : Leaves old (all_scheduled now old)
+          asks = changes old (all_scheduled now old) (scheduled now old.timing)
               (λ p. record { number = refl; priority = refl; greatest = refl; eligible = refl }) refl refl refl
 
-          next : (due : Option PairRecord) → ChecksTop mac now peer due (all_asked now old) s issued new t → Leaves old new
+          next : (due : Option PairRecord) → ChecksTop mac now peer due (all_scheduled now old) s issued new t → Leaves old new
           next None (is, made, drawn) = subst (λ (a : AgentRecord H P). Leaves old a) (sym made) asks
           next (Some p) (id, drawn, values, is, made) =
-              let begins : Bool = nominates_at_once (all_asked now old) in
+              let begins : Bool = nominates_at_once (all_scheduled now old) in
               let change : PairRecord → PairRecord = sent_at begins now old.timing old.controlling id in
               subst (λ (a : AgentRecord H P). Leaves old a) (sym made)
-              (let k = changes (all_asked now old) (check_sent mac now peer p id (all_asked now old)) (change_at p.number change)
+              (let k = changes (all_scheduled now old) (check_sent mac now peer p id (all_scheduled now old)) (change_at p.number change)
               (λ q. alike_if (is_numbered p.number q) false q (change q) (sent-alike begins false now old.timing old.controlling id q)) refl refl
-              (sent-pairs begins p.number now old.timing old.controlling id (map (asked now old.timing) old.pairs)) in
+              (sent-pairs begins p.number now old.timing old.controlling id (map (scheduled now old.timing) old.pairs)) in
               record { state = k.state; back = λ live. asks.back (k.back live); keeps = λ was. k.keeps (asks.keeps was) })
 
     module _ (now : ℕ) (old : AgentRecord H P) where
@@ -151,12 +127,12 @@ module _ {H P : Type 0} where
       base = at_timeout now (timeout_begun now old)
 
       -- the state when the call starts
-      state-is : (b : Bool) → settles old ≡ b → base.state ≡ (if b then old.state else state_at now old)
+      state-is : (b : Bool) → updates_late old ≡ b → base.state ≡ (if b then old.state else state_at now old)
       state-is b is = ap (λ (c : Bool). if c then old.state else state_at now old) is
 
       base-begun : same_state base.state New ≡ false
-      base-begun = by (settles old) refl where
-        by : (b : Bool) → settles old ≡ b → same_state base.state New ≡ false
+      base-begun = by (updates_late old) refl where
+        by : (b : Bool) → updates_late old ≡ b → same_state base.state New ≡ false
         by true is = ap (λ z. same_state z New) (state-is true is) ∙ settles-begun old is
         by false is = ap (λ z. same_state z New) (state-is false is) ∙ begun-next old.state (has_nominated old) (has_possible now old) old.lite
 
@@ -172,7 +148,7 @@ module _ {H P : Type 0} where
         kept-begun : same_state kept.state New ≡ false
         kept-begun = either (list_any (is_expired now named) named.pairs) giving
             (λ _ k. subst (λ (a : AgentRecord H P). same_state a.state New ≡ false) (sym k.2) (begun-evaluated now k.0))
-            (λ _ k. subst (λ (a : AgentRecord H P). same_state a.state New ≡ false) (sym k.1) (settled-begun (settles named)))
+            (λ _ k. subst (λ (a : AgentRecord H P). same_state a.state New ≡ false) (sym k.1) (settled-begun (updates_late named)))
 
         kept-selects : HasNominated kept.pairs → Selects kept
         kept-selects = either (list_any (is_expired now named) named.pairs) giving
@@ -185,11 +161,11 @@ module _ {H P : Type 0} where
             (evaluated-connects now k.0 (ap (λ z. same_state z New) (nominates-state (expired_gone now named) k.0 second k.1) ∙ named-begun)))
             (λ _ k. subst (λ (a : AgentRecord H P). HasNominated a.pairs → is_connected a.state ≡ true) (sym k.1) (λ live.
             ap (λ (b : Bool). is_connected (if b then state_at now named else named.state)) on ∙ evaluated-connects now named named-begun live)) where
-              on : settles named ≡ true
+              on : updates_late named ≡ true
               on = settles-named (path_left now base) named first nominating
                   ∙ (ap (λ (state : IceConnectionState). is_modern old.timing && not (same_state state New)) (state-is true rules.0) ∙ rules.0)
 
-      maintains : (new : AgentRecord H P) (s t : Stream) (emitted : Emitted) → MaintainsPairs mac now (timeout_begun now old) s emitted new t → Settles old new
+      maintains : (new : AgentRecord H P) (s t : Stream) (emitted : Emitted) → MaintainsPairs mac now (timeout_begun now old) s emitted new t → IsPlaceAtLimit old new
       maintains new s t emitted (first, second, issued, named, kept, nominating, giving, checking, is) =
           let k = checks now kept.remote_creds kept new s t issued checking in
           record {
@@ -210,7 +186,7 @@ module _ {H P : Type 0} where
         checking : taken.state ≡ Checking
         checking = state-is false (new-unsettled old is) ∙ ap (λ z. next_state z (has_nominated old) (has_possible now old) old.lite) is
 
-        at-new : Outcome taken emitted new → Settles old new
+        at-new : Outcome taken emitted new → IsPlaceAtLimit old new
         at-new (inl k) = record {
           begun = ap (λ z. same_state z New) (k.state ∙ checking);
           backed = λ connected. no-live (sym (ap (λ z. is_connected z) (k.state ∙ checking)) ∙ connected);

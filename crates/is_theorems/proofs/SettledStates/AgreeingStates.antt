@@ -1,30 +1,12 @@
 -- With the profile `Modern`, an agent that is never lite is connected if and only if the path that it selected last is that of a pair that is valid
 -- and nominated.
-use Rattle.std.proofs.Common.{◌≡◌, ℕ, true, false, List, [], ◌∷◌, Option, Some, None, inl, inr, ◌⊎◌, refl, ap, sym, ◌∙◌, subst, if◌then◌else◌}
-use Rattle.std.specs.Option.{option_or}
-use Rattle.is_proto.specs.Lists.{Has}
-use Rattle.is_candidate.specs.Candidates.{CandidateRecord}
-use Rattle.is_pair.specs.Checks.{Check}
-use Rattle.is_pair.specs.Pairs.{is_nominated, is_valid, PairRecord}
 use Rattle.is_stun.specs.declared.header.Class.TheVariants as class
-use Rattle.is_stun.specs.Timing.{is_modern}
-use Rattle.is_rules.specs.Agent.{AgentRecord}
-use Rattle.is_rules.specs.Brought.{IsAnswered, IsKept, IsValidOn}
-use Rattle.is_rules.specs.Connecting.{is_connected}
-use Rattle.is_rules.specs.declared.emitted.Path.{Path}
-use Rattle.is_rules.specs.declared.event.IceConnectionState.{IceConnectionState}
-use Rattle.is_rules.specs.declared.event.IceConnectionState.TheVariants.{New}
-use Rattle.is_rules.specs.Effects.{clears, last_of, lite_set_by, PathEffect}
-use Rattle.is_rules.specs.Emitted.{issued_as}
-use Rattle.is_rules.specs.Sending.{path_of}
-use Rattle.is_rules.specs.Sound.{IsSound}
-use Rattle.is_rules.specs.States.{is_nominated_and_valid, same_state}
-use Rattle.is_rules.specs.Steps.{Call, Entry}
-use Rattle.is_theorems.specs.AskedExecutions.{selected_along}
-use Rattle.is_theorems.specs.ConsentExecutions.{AreNeverLite}
-use Rattle.is_theorems.specs.Exchange.{Execution}
-use Rattle.is_theorems.specs.Runs.{IsFresh}
 use Rattle.is_theorems.specs.Settled.{IsModernAlong, StatesAgree}
+use Rattle.is_theorems.proofs.Common.{[], ◌∙◌, ◌∷◌, ◌≡◌, ◌⊎◌, AgentRecord, ap, AreNeverLite, Call, CandidateRecord, Check, clears, Entry}
+use Rattle.is_theorems.proofs.Common.{Execution, false, Has, IceConnectionState, if◌then◌else◌, inl, inr, is_connected, is_modern}
+use Rattle.is_theorems.proofs.Common.{is_nominated, is_nominated_and_valid, is_valid, IsAnswered, IsFresh, IsKept, IsSound, issued_as}
+use Rattle.is_theorems.proofs.Common.{IsValidOn, last_of, List, lite_set_by, New, None, Option, option_or, PairRecord, Path, path_of}
+use Rattle.is_theorems.proofs.Common.{PathEffect, refl, same_state, selected_along, Some, subst, sym, true, ℕ}
 use Rattle.is_theorems.proofs.BasicLemmas.EqualAddresses.{both}
 use Rattle.is_theorems.proofs.CallEffects.FailedCallsAndNewAgents.{fresh_sound}
 use Rattle.is_theorems.proofs.CallEffects.PathAndTradeEffects.{path_theorem}
@@ -32,7 +14,7 @@ use Rattle.is_theorems.proofs.ConnectedConsent.ConnectedPairs.{HasNominated, IsB
 use Rattle.is_theorems.proofs.PathSelection.SelectedPairIsNominated.{IsNamed, names-next, was-named}
 use Rattle.is_theorems.proofs.SettledStates.AfterCalls.{steps}
 use Rattle.is_theorems.proofs.SettledStates.LivePairs.{live-by, no-live}
-use Rattle.is_theorems.proofs.SettledStates.Outcomes.{HasRules, may-go-on, MayGoOn, new-ruled, Outcome, Settles, Stays}
+use Rattle.is_theorems.proofs.SettledStates.Outcomes.{HasRules, may-go-on, MayGoOn, new-ruled, Outcome, IsPlaceAtLimit, Stays}
 use Rattle.is_theorems.proofs.SettledStates.SelectedPairs.{Selects}
 
 begun-new : {A : Type 0} (state : IceConnectionState) → same_state state New ≡ false → state ≡ New → A
@@ -103,7 +85,7 @@ module _ {H P : Type 0} where
       -- ---- in the session
 
       module _ (path : Option Path) (sound : IsSound old) (named : IsNamed path old) (rules : HasRules old) where
-        settled : Settles old new → Agrees new
+        settled : IsPlaceAtLimit old new → Agrees new
         settled k = record {
           backed = k.backed;
           connects = k.connects rules;

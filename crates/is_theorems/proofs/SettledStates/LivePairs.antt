@@ -1,18 +1,11 @@
 -- Pairs that are valid and nominated: what changes and additions of pairs make such a pair.
-use Rattle.std.proofs.Common.{◌≡◌, ℕ, ◌&&◌, Bool, true, false, not, List, [], ◌∷◌, ◌++◌, map, filter, nat_lt, Some, None, inl, inr, ap, sym, ◌∙◌, subst, if◌then◌else◌}
-use Rattle.is_proto.specs.Lists.{Has}
-use Rattle.is_pair.specs.declared.pair.states.CheckState.{CheckState}
-use Rattle.is_pair.specs.declared.pair.states.CheckState.TheVariants.{Waiting, InProgress, Succeeded}
-use Rattle.is_pair.specs.declared.pair.states.NominationState.{NominationState}
-use Rattle.is_pair.specs.declared.pair.states.NominationState.TheVariants.{None as Unnominated, Nominated, Attempt, Success}
-use Rattle.is_pair.specs.Multiset.{is_numbered, without}
-use Rattle.is_pair.specs.Pairs.{PairRecord, is_nominated, is_valid, taking_over, undue}
-use Rattle.is_pair.specs.States.{is_nominated_state, is_valid_state, nomination_from, state_from}
-use Rattle.is_rules.specs.Agent.{AgentRecord}
-use Rattle.is_rules.specs.Each.{Each}
-use Rattle.is_rules.specs.Forming.{Combination, combined_priority, Formed, FormsAll, pair_of, SidesRecord, sides_of, Tries}
-use Rattle.is_rules.specs.States.{is_nominated_and_valid}
-use Rattle.is_rules.proofs.PairLists.RemovedInTurn.{removes, RemovesInTurn}
+use Rattle.is_pair.specs.declared.pair.states.NominationState.TheVariants.{None as Unnominated}
+use Rattle.is_theorems.proofs.Common.{[], ◌&&◌, ◌++◌, ◌∙◌, ◌∷◌, ◌≡◌, AgentRecord, ap, Attempt, Bool, CheckState, Combination}
+use Rattle.is_theorems.proofs.Common.{combined_priority, Each, false, filter, Formed, FormsAll, Has, if◌then◌else◌, inl, InProgress, inr}
+use Rattle.is_theorems.proofs.Common.{is_nominated, is_nominated_and_valid, is_nominated_state, is_numbered, is_valid, is_valid_state, List}
+use Rattle.is_theorems.proofs.Common.{map, nat_lt, Nominated, nomination_from, NominationState, None, not, pair_of, PairRecord, removes}
+use Rattle.is_theorems.proofs.Common.{RemovesInTurn, sides_of, SidesRecord, Some, state_from, subst, Succeeded, Success, sym, taking_over}
+use Rattle.is_theorems.proofs.Common.{Tries, true, undue, Waiting, without, ℕ}
 use Rattle.is_theorems.proofs.BasicLemmas.EqualAddresses.{both}
 use Rattle.is_theorems.proofs.ConnectedConsent.ConnectedPairs.{HasNominated}
 use Rattle.is_theorems.proofs.RuleEffects.ChangedPairs.{Has-map}

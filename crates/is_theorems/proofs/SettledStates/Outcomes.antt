@@ -1,19 +1,8 @@
 -- What a call does to the state and to the selected pair: it leaves both, or nomination and then the state are evaluated.
-use Rattle.std.proofs.Common.{◌≡◌, ℕ, ◌&&◌, Bool, true, false, not, List, Some, None, inl, inr, ◌⊎◌, refl, ap, sym, ◌∙◌, subst}
-use Rattle.is_stun.specs.declared.header.Class.{Class}
 use Rattle.is_stun.specs.declared.header.Class.TheVariants as class
-use Rattle.is_stun.specs.Timing.{is_modern}
-use Rattle.is_rules.specs.Agent.{AgentRecord}
-use Rattle.is_rules.specs.Connecting.{is_connected}
-use Rattle.is_rules.specs.declared.emitted.Emitted.{Emitted}
-use Rattle.is_rules.specs.declared.emitted.Issued.{Issued}
-use Rattle.is_rules.specs.declared.emitted.Path.{Path}
-use Rattle.is_rules.specs.declared.event.IceConnectionState.{IceConnectionState}
-use Rattle.is_rules.specs.declared.event.IceConnectionState.TheVariants.{New}
-use Rattle.is_rules.specs.Effects.{last_of}
-use Rattle.is_rules.specs.Emitted.{issued_as, nothing_emitted}
-use Rattle.is_rules.specs.Settling.{settles}
-use Rattle.is_rules.specs.States.{same_state}
+use Rattle.is_theorems.proofs.Common.{◌&&◌, ◌∙◌, ◌≡◌, ◌⊎◌, AgentRecord, ap, Bool, Class, Emitted, false, IceConnectionState, inl, inr}
+use Rattle.is_theorems.proofs.Common.{is_connected, is_modern, Issued, issued_as, last_of, List, New, None, not, nothing_emitted, Path}
+use Rattle.is_theorems.proofs.Common.{refl, same_state, updates_late, Some, subst, sym, true, ℕ}
 use Rattle.is_theorems.proofs.ConnectedConsent.ConnectedPairs.{HasNominated, IsBacked}
 use Rattle.is_theorems.proofs.RuleEffects.SelectedPaths.{none_is, some_is}
 use Rattle.is_theorems.proofs.SettledStates.LivePairs.{no-live}
@@ -38,27 +27,27 @@ unsettled false = refl
 module _ {H P : Type 0} where
   -- the session has begun, and the profile is `Modern`
   abbrev pub HasRules : AgentRecord H P → Type 0
-  HasRules a = (settles a ≡ true) × (is_modern a.timing ≡ true)
+  HasRules a = (updates_late a ≡ true) × (is_modern a.timing ≡ true)
 
   -- or it has not begun
   abbrev pub MayGoOn : AgentRecord H P → Type 0
   MayGoOn a = (a.state ≡ New) ⊎ HasRules a
 
-  pub new-unsettled : (a : AgentRecord H P) → a.state ≡ New → settles a ≡ false
+  pub new-unsettled : (a : AgentRecord H P) → a.state ≡ New → updates_late a ≡ false
   new-unsettled a is =
       ap (λ (state : IceConnectionState). is_modern a.timing && not (same_state state New)) is ∙ unsettled (is_modern a.timing)
 
   pub new-ruled : {A : Type 0} (a : AgentRecord H P) → a.state ≡ New → HasRules a → A
   new-ruled a is rules = no-live (sym (new-unsettled a is) ∙ rules.0)
 
-  pub settles-begun : (a : AgentRecord H P) → settles a ≡ true → same_state a.state New ≡ false
+  pub settles-begun : (a : AgentRecord H P) → updates_late a ≡ true → same_state a.state New ≡ false
   settles-begun a on = by (is_modern a.timing) (same_state a.state New) on where
     by : (rule new : Bool) → rule && not new ≡ true → new ≡ false
     by true true h = no-live h
     by true false h = refl
     by false new h = no-live h
 
-  pub settles-as : (a b : AgentRecord H P) → b.state ≡ a.state → is_modern b.timing ≡ is_modern a.timing → settles b ≡ settles a
+  pub settles-as : (a b : AgentRecord H P) → b.state ≡ a.state → is_modern b.timing ≡ is_modern a.timing → updates_late b ≡ updates_late a
   settles-as a b state rules =
       ap (λ (s : IceConnectionState). is_modern b.timing && not (same_state s New)) state
       ∙ ap (λ (r : Bool). r && not (same_state a.state New)) rules
@@ -84,14 +73,14 @@ module _ {H P : Type 0} where
     pub keeps : HasRules old → Selects old → Selects new
 
   -- The state is evaluated. With `Modern` nomination was before it.
-  pub record Settles (old new : AgentRecord H P) : Type 0 where
+  pub record IsPlaceAtLimit (old new : AgentRecord H P) : Type 0 where
     pub begun : same_state new.state New ≡ false
     pub backed : IsBacked new
     pub connects : HasRules old → HasNominated new.pairs → is_connected new.state ≡ true
     pub selects : HasRules old → HasNominated new.pairs → Selects new
 
   abbrev pub Outcome : AgentRecord H P → Emitted → AgentRecord H P → Type 0
-  Outcome old emitted new = Stays old emitted new ⊎ Settles old new
+  Outcome old emitted new = Stays old emitted new ⊎ IsPlaceAtLimit old new
 
   -- a change before, which leaves the state
   pub record Prepares (old mid : AgentRecord H P) : Type 0 where

@@ -1,18 +1,11 @@
 -- The pair that was selected last: after nomination it exists if a pair is valid and nominated. And the state as it is evaluated then.
-use Rattle.std.proofs.Common.{◌≡◌, ℕ, ◌&&◌, ◌||◌, Bool, true, false, not, List, [], ◌∷◌, map, cond, Option, Some, None, is_some, inl, inr, refl, ap, sym, ◌∙◌, subst, if◌then◌else◌}
-use Rattle.std.specs.Prelude.{find}
-use Rattle.std.proofs.lemmas.Bool.{eqb-true, eq-eqb}
-use Rattle.is_proto.specs.Lists.{Has}
-use Rattle.is_pair.specs.Multiset.{change_at, is_numbered, pair_numbered}
-use Rattle.is_pair.specs.Pairs.{PairRecord, is_nominated, is_valid}
-use Rattle.is_rules.specs.Agent.{AgentRecord}
-use Rattle.is_rules.specs.Connecting.{is_connected}
-use Rattle.is_rules.specs.declared.emitted.Path.{Path}
-use Rattle.is_rules.specs.declared.event.IceConnectionState.{IceConnectionState}
-use Rattle.is_rules.specs.declared.event.IceConnectionState.TheVariants.{New, Checking, Connected, Completed, Disconnected}
-use Rattle.is_rules.specs.Nominating.{followed, is_eligible, nominated_by_self, nominated_emitted, Nominates, pair_selected, remains, selection_of, with_selection}
-use Rattle.is_rules.specs.States.{evaluated, has_nominated, has_possible, is_nominated_and_valid, next_state, same_state}
-use Rattle.is_rules.proofs.PairLists.ChosenPair.{chosen-able, chosen-none, found-in, named-by, none_pass}
+use Rattle.is_theorems.proofs.Common.{[], ◌&&◌, ◌||◌, ◌∙◌, ◌∷◌, ◌≡◌, AgentRecord, ap, Bool, change_at, Checking, chosen-able, chosen-none}
+use Rattle.is_theorems.proofs.Common.{Completed, cond, Connected, Disconnected, eq-eqb, eqb-true, evaluated, false, find, followed}
+use Rattle.is_theorems.proofs.Common.{found-in, Has, has_nominated, has_possible, IceConnectionState, if◌then◌else◌, inl, inr, is_connected}
+use Rattle.is_theorems.proofs.Common.{is_eligible, is_nominated, is_nominated_and_valid, is_numbered, is_some, is_valid, List, map}
+use Rattle.is_theorems.proofs.Common.{named-by, New, next_state, nominated_by_self, nominated_emitted, Nominates, None, none_pass, not}
+use Rattle.is_theorems.proofs.Common.{Option, pair_numbered, pair_selected, PairRecord, Path, refl, remains, same_state, selection_of, Some}
+use Rattle.is_theorems.proofs.Common.{subst, sym, true, with_selection, ℕ}
 use Rattle.is_theorems.proofs.BasicLemmas.EqualAddresses.{both}
 use Rattle.is_theorems.proofs.BasicLemmas.UsernamesAndFirstMatches.{any_has}
 use Rattle.is_theorems.proofs.CallEffects.ServedRequests.{Has-mapped}

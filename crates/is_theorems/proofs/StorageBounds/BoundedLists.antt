@@ -1,12 +1,7 @@
 -- Lists that a limit bounds, and how many candidates of a list pass a test.
-use Rattle.std.proofs.Common.{◌≡◌, ℕ, zero, suc, ◌+◌, ◌<◌, ◌≤◌, Bool, true, false, not, List, [], ◌∷◌, ◌++◌, length, map, count_by, Option, refl, ap, ◌∙◌, arith, cond}
-use Rattle.std.specs.Prelude.{slice_set}
-use Rattle.std.proofs.lemmas.List.{length-append}
-use Rattle.std.proofs.lemmas.List.Sums.{sum_by-cons}
-use Rattle.is_candidate.specs.Candidates.{CandidateRecord, candidate_at}
-use Rattle.is_rules.specs.declared.accepting.Source.{Source}
-use Rattle.is_theorems.specs.Bounds.{is_signaled}
-use Rattle.is_rules.specs.Limit.{is_mapped}
+use Rattle.is_theorems.proofs.Common.{[], ◌++◌, ◌+◌, ◌<◌, ◌∙◌, ◌∷◌, ◌≡◌, ◌≤◌, ap, arith, Bool, candidate_at, CandidateRecord, cond}
+use Rattle.is_theorems.proofs.Common.{count_by, false, is_mapped, is_signaled, length, length-append, List, map, not, Option, refl}
+use Rattle.is_theorems.proofs.Common.{slice_set, Source, suc, sum_by-cons, true, zero, ℕ}
 use Rattle.is_theorems.proofs.BasicLemmas.VacantIndices.{length-put}
 
 -- ---- lists

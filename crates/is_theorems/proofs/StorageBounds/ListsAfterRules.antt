@@ -1,43 +1,23 @@
 -- How requests, packets and timeouts change the lists that a limit bounds.
-use Rattle.std.proofs.Common.{◌≡◌, ℕ, ◌-◌, ◌<◌, ◌≤◌, ◌&&◌, Bool, true, false, not, List, [], ◌∷◌, ◌++◌, length, Option, Some, None, Result, Ok, Err, inl, inr, refl, sym, subst, ap, ◌∙◌, arith, if◌then◌else◌}
-use Rattle.std.specs.Prelude.{MatchOption}
-use Rattle.std.specs.declared.net.socket_addr.SocketAddr.{SocketAddr}
-use Rattle.std.proofs.lemmas.Bool.{ltb-true}
-use Rattle.std.proofs.lemmas.List.{length-drop}
-use Rattle.rand_core.specs.Stream.{Stream}
-use Rattle.is_proto.specs.declared.error.IceError.{IceError}
-use Rattle.is_candidate.specs.Candidates.{CandidateRecord, candidate_at}
-use Rattle.is_candidate.specs.Equality.{is_temporary}
-use Rattle.is_pair.specs.Multiset.{is_valid_at}
-use Rattle.is_pair.specs.Pairs.{PairRecord}
-use Rattle.is_stun.specs.declared.header.Class.{Class}
 use Rattle.is_stun.specs.declared.header.Class.TheVariants as class
-use Rattle.is_stun.specs.Message.{Message}
-use Rattle.is_rules.specs.declared.accepting.Source.{Source}
-use Rattle.is_rules.specs.declared.credentials.IceCreds.{IceCreds}
-use Rattle.is_rules.specs.declared.emitted.Emitted.{Emitted}
-use Rattle.is_rules.specs.declared.emitted.Path.{Path}
-use Rattle.is_rules.specs.declared.places.RemotePlace.{RemotePlace}
-use Rattle.is_rules.specs.declared.places.RemotePlace.TheVariants.{Known, Barred, Unknown, Vacant, Full}
-use Rattle.is_rules.specs.declared.roles.Conflict.{Conflict}
-use Rattle.is_rules.specs.declared.roles.Conflict.TheVariants.{Absent, Send487, SwitchRole}
-use Rattle.is_rules.specs.Accepting.{Takes, HandlesPacket, discovered_emitted, is_passed_over}
-use Rattle.is_rules.specs.Agent.{AgentRecord}
-use Rattle.is_rules.specs.Answers.{is_known_address, is_left_out, mapped_candidate, mapped_added, success_counted}
-use Rattle.is_theorems.specs.Bounds.{is_signaled, IsWithin}
-use Rattle.is_rules.specs.Forming.{formed, with_pair}
-use Rattle.is_rules.specs.Limit.{discovered_count, has_local_room, has_room, is_mapped, mapped_count, newest, IsPlaceOf, IsSenderPlace}
-use Rattle.is_rules.specs.Places.{local_place}
-use Rattle.is_rules.specs.Queue.{first_taken, request_at}
-use Rattle.is_rules.specs.Request.{RequestRecord, request_in}
-use Rattle.is_rules.specs.Roles.{conflict_of, switched}
-use Rattle.is_rules.specs.Serving.{selects_at_requests, is_misled, is_for_other_peer, pair_served, request_counted, sender_candidate, with_sender, with_sender_at, Drops, Queues, RecordsAndResponds, FindsOrAddsPair, AddsUnknownSender, CountsAndServes, ResolvesRoleConflictBy, ResolvesRoleConflict, Serves}
-use Rattle.is_rules.specs.Steps.{Entry, Receives}
-use Rattle.is_rules.specs.Timeouts.{at_request, MaintainsPairs, TimesOut, timeout_begun}
+use Rattle.is_theorems.proofs.Common.{[], ◌&&◌, ◌++◌, ◌-◌, ◌<◌, ◌∙◌, ◌∷◌, ◌≡◌, ◌≤◌, Absent, AddsUnknownSender, AgentRecord, ap, arith}
+use Rattle.is_theorems.proofs.Common.{at_request, Barred, Bool, candidate_at, CandidateRecord, Class, Conflict, conflict_of}
+use Rattle.is_theorems.proofs.Common.{CountsAndServes, discovered_count, discovered_emitted, Drops, Emitted, Entry, Err, false}
+use Rattle.is_theorems.proofs.Common.{FindsOrAddsPair, first_taken, formed, Full, HandlesPacket, has_local_room, has_room, IceCreds}
+use Rattle.is_theorems.proofs.Common.{IceError, if◌then◌else◌, in_turn, inl, inr, is_for_other_peer, is_known_address, is_left_out}
+use Rattle.is_theorems.proofs.Common.{is_mapped, is_misled, is_passed_over, is_signaled, is_temporary, is_valid_at, IsPlaceOf}
+use Rattle.is_theorems.proofs.Common.{IsSenderPlace, IsWithin, Known, length, length-drop, List, local_place, ltb-true, MaintainsPairs}
+use Rattle.is_theorems.proofs.Common.{mapped_added, mapped_candidate, mapped_count, MatchOption, Message, newest, None, not, Ok, Option}
+use Rattle.is_theorems.proofs.Common.{pair_served, PairRecord, Path, Queues, Receives, RecordsAndResponds, refl, RemotePlace, request_at}
+use Rattle.is_theorems.proofs.Common.{request_counted, request_in, RequestRecord, ResolvesRoleConflict, ResolvesRoleConflictBy, Result}
+use Rattle.is_theorems.proofs.Common.{selects_at_requests, Send487, sender_candidate, Serves, SocketAddr, Some, Source, Stream, subst}
+use Rattle.is_theorems.proofs.Common.{success_counted, switched, SwitchRole, sym, Takes, timeout_begun, TimesOut, true, Unknown, Vacant}
+use Rattle.is_theorems.proofs.Common.{with_pair, with_sender, with_sender_at, ℕ}
 use Rattle.is_theorems.proofs.RuleEffects.UnchangedSettings.{either}
 use Rattle.is_theorems.proofs.BasicLemmas.UsernamesAndFirstMatches.{neither}
 use Rattle.is_theorems.proofs.StorageBounds.BoundedLists.{Lists, Within, fits-brought, fits-put, is_own}
-use Rattle.is_theorems.proofs.StorageBounds.UnchangedLists.{lists_of, Same, same, where_same, maintains_pairs_same, success_same, failure_same}
+use Rattle.is_theorems.proofs.StorageBounds.UnchangedLists.{lists_of, Same, same, where_same, maintains_pairs_same, success_same}
+use Rattle.is_theorems.proofs.StorageBounds.UnchangedLists.{failure_same}
 
 not-false : (b : Bool) → not b ≡ false → b ≡ true
 not-false true h = refl
@@ -132,7 +112,7 @@ module _ {H P : Type 0} where
       here (Some l) s new emitted h = resolves_by (conflict_of s q) l s new emitted h
 
       serves : (s new : AgentRecord H P) (emitted : Emitted) → Serves mac q s emitted new → Served s new
-      serves s new emitted h = either (is_for_other_peer s q) h (λ _ k. served_same s new (same s new k.1)) (λ _ k. here (local_place s.local q) s new emitted k)
+      serves s new emitted h = either (is_for_other_peer s q) (in_turn mac q s new emitted h) (λ _ k. served_same s new (same s new k.1)) (λ _ k. here (local_place s.local q) s new emitted k)
 
       requested : (remote : Option IceCreds) (s new : AgentRecord H P) (emitted : Emitted) → MatchOption remote (Queues q s emitted new) (λ _. Serves mac q s emitted new) → Served s new
       requested None s new emitted h = served_same s new (ap (λ (a : AgentRecord H P). lists_of a) h.1)

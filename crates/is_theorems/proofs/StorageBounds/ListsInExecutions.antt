@@ -1,30 +1,24 @@
 -- How calls and executions change the lists that a limit bounds.
-use Rattle.std.proofs.Common.{◌≡◌, ℕ, ◌+◌, ◌≤◌, ◌==◌, Bool, true, false, List, [], ◌∷◌, length, Option, Some, None, Result, Ok, Err, refl, sym, subst, ap, ◌∙◌, arith, cond}
-use Rattle.std.proofs.lemmas.List.Sums.{sum_by-cons}
-use Rattle.rand_core.specs.Stream.{Stream}
-use Rattle.is_proto.specs.declared.error.IceError.{IceError}
-use Rattle.is_candidate.specs.Candidates.{CandidateRecord, candidate_at}
-use Rattle.is_rules.specs.declared.accepting.Source.{Source}
-use Rattle.is_rules.specs.declared.credentials.IceCreds.{IceCreds}
-use Rattle.is_rules.specs.declared.emitted.Path.{Path}
-use Rattle.is_rules.specs.Agent.{AgentRecord}
-use Rattle.is_theorems.specs.Bounds.{gathered_count, is_gathered, may_serve, is_signal, signal_count, is_signaled, IsLimited, IsWithin, LimitsBound}
-use Rattle.is_rules.specs.Discarding.{discarded, local_discarded, local_to_discard, remote_to_discard, remote_discarded, InvalidatesAt}
-use Rattle.is_rules.specs.Forming.{Combination, FormsAll}
-use Rattle.is_rules.specs.Local.{appended, enabled, enabled_again, AddsLocal}
-use Rattle.is_theorems.specs.Logs.{Logged}
-use Rattle.is_rules.specs.Remote.{AddsRemote, as_remote, with_remote}
-use Rattle.is_rules.specs.Restarting.{Restarts, Recreates, emptied, kept_local, restarted, with_ufrag}
-use Rattle.is_rules.specs.Credentials.{SetsLocal, SetsRemote}
-use Rattle.is_rules.specs.Settings.{SetsMtu}
-use Rattle.is_rules.specs.Settling.{loses_selected, Reselects}
-use Rattle.is_theorems.specs.Runs.{IsFresh, Run, run_to}
-use Rattle.is_rules.specs.Steps.{Call, SetMtu, SetControlTieBreaker, SetMaxCandidatePairs, SetMaxDiscovered, SetIceLite, SetRenomination, SetConsent, SetProfile, SetTimingAdvance, SetInitialStunRto, SetMaxStunRto, SetMaxStunRetransmits, SetLiteTimeout, SetLocalPreference, SetControlling, SetLocalCredentials, SetRemoteCredentials, SkipPairIds, AddLocalCandidate, AddRemoteCandidate, InvalidateCandidate, RestartIce, RecreateCandidatePairs, ReceivePacket, HandleTimeout, PollTransmit, PollTimeout, PollEvent, Entry, Step, MayDo}
+use Rattle.is_theorems.proofs.Common.{[], ◌+◌, ◌==◌, ◌∙◌, ◌∷◌, ◌≡◌, ◌≤◌, AddLocalCandidate, AddRemoteCandidate, AddsLocal, AddsRemote}
+use Rattle.is_theorems.proofs.Common.{AgentRecord, ap, appended, arith, as_remote, Bool, Call, candidate_at, CandidateRecord, Combination}
+use Rattle.is_theorems.proofs.Common.{cond, discarded, emptied, enabled, enabled_again, Entry, Err, false, FormsAll, gathered_count}
+use Rattle.is_theorems.proofs.Common.{HandleTimeout, IceCreds, IceError, InvalidateCandidate, InvalidatesAt, is_gathered, is_signal}
+use Rattle.is_theorems.proofs.Common.{is_signaled, IsFresh, IsLimited, IsWithin, kept_local, length, LimitsBound, List, local_discarded}
+use Rattle.is_theorems.proofs.Common.{local_to_discard, Logged, loses_selected, may_serve, MayDo, None, Ok, Option, Path, PollEvent}
+use Rattle.is_theorems.proofs.Common.{PollTimeout, PollTransmit, ReceivePacket, RecreateCandidatePairs, Recreates, refl, remote_discarded}
+use Rattle.is_theorems.proofs.Common.{remote_to_discard, Reselects, restarted, RestartIce, Restarts, Result, Run, run_to, SetConsent}
+use Rattle.is_theorems.proofs.Common.{SetControlling, SetControlTieBreaker, SetIceLite, SetInitialStunRto, SetLiteTimeout}
+use Rattle.is_theorems.proofs.Common.{SetLocalCredentials, SetLocalPreference, SetMaxCandidatePairs, SetMaxDiscovered}
+use Rattle.is_theorems.proofs.Common.{SetMaxStunRetransmits, SetMaxStunRto, SetMtu, SetProfile, SetRemoteCredentials, SetRenomination}
+use Rattle.is_theorems.proofs.Common.{SetsLocal, SetsMtu, SetsRemote, SetTimingAdvance, signal_count, SkipPairIds, Some, Source, Step}
+use Rattle.is_theorems.proofs.Common.{Stream, subst, sum_by-cons, sym, true, with_remote, with_ufrag, ℕ}
 use Rattle.is_theorems.proofs.CallEffects.AddedCandidates.{by_adding_local, by_adding_remote, by_waking}
 use Rattle.is_theorems.proofs.RuleEffects.UnchangedSettings.{either}
-use Rattle.is_theorems.proofs.CallEffects.FailedCallsAndNewAgents.{mtu_kept, local_kept, remote_kept, restart_kept, recreation_kept, enrolment_kept, storing_kept}
+use Rattle.is_theorems.proofs.CallEffects.FailedCallsAndNewAgents.{mtu_kept, local_kept, remote_kept, restart_kept, recreation_kept}
+use Rattle.is_theorems.proofs.CallEffects.FailedCallsAndNewAgents.{enrolment_kept, storing_kept}
 use Rattle.is_theorems.proofs.ExecutionLogs.PointsOfSegments.{deeper, later_point}
-use Rattle.is_theorems.proofs.StorageBounds.BoundedLists.{Fits, Lists, Within, fits-added, fits-changed, fits-mapped, fits-more, fits-none, fits-replaced, is_own}
+use Rattle.is_theorems.proofs.StorageBounds.BoundedLists.{Fits, Lists, Within, fits-added, fits-changed, fits-mapped, fits-more, fits-none}
+use Rattle.is_theorems.proofs.StorageBounds.BoundedLists.{fits-replaced, is_own}
 use Rattle.is_theorems.proofs.StorageBounds.UnchangedLists.{lists_of, Same, same, forms_same, reselects_same}
 use Rattle.is_theorems.proofs.StorageBounds.ListsAfterRules.{Stays, by_same, received, timed}
 

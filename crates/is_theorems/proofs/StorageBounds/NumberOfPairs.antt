@@ -1,12 +1,7 @@
 -- With limits on pairs and on what packets bring, how many pairs there are.
-use Rattle.std.proofs.Common.{ℕ, ◌+◌, ◌*◌, ◌≤◌, List, ◌∷◌, length, count_by, arith}
-use Rattle.std.proofs.Math.Nat.{mul-le-mul}
-use Rattle.rand_core.specs.Stream.{Stream}
-use Rattle.is_candidate.specs.Candidates.{CandidateRecord}
-use Rattle.is_rules.specs.Agent.{AgentRecord}
-use Rattle.is_theorems.specs.Bounds.{gathered_count, pair_bound, signal_count, BoundsPairs, FormsFew, IsLimited}
-use Rattle.is_theorems.specs.Logs.{Logged}
-use Rattle.is_theorems.specs.Runs.{IsFresh, Run, run_to}
+use Rattle.is_theorems.proofs.Common.{◌*◌, ◌+◌, ◌∷◌, ◌≤◌, AgentRecord, arith, BoundsPairs, CandidateRecord, count_by, FormsFew}
+use Rattle.is_theorems.proofs.Common.{gathered_count, IsFresh, IsLimited, length, List, Logged, mul-le-mul, pair_bound, Run, run_to}
+use Rattle.is_theorems.proofs.Common.{signal_count, Stream, ℕ}
 use Rattle.is_theorems.proofs.StorageBounds.ListsInExecutions.{within_run}
 use Rattle.is_theorems.proofs.StorageBounds.BoundedLists.{is_own}
 use Rattle.is_theorems.proofs.StorageBounds.PairsByCellInExecutions.{few_pairs}

@@ -1,14 +1,9 @@
 -- The cells of pairs: the indices of their two candidates. A list has at most one pair for each cell whose local index passes a test,
 -- apart from repeated cells.
-use Rattle.std.proofs.Common.{◌≡◌, ℕ, zero, suc, ◌+◌, ◌*◌, ◌<◌, ◌≤◌, ◌==◌, ◌&&◌, ◌||◌, Bool, true, false, not, List, [], ◌∷◌, ◌++◌, length, map, filter, nat_lt, Some, inl, inr, refl, sym, subst, ap, ◌∙◌, arith, cond, if◌then◌else◌}
-use Rattle.std.specs.Prelude.{slice_get, slice_set}
-use Rattle.std.specs.List.{list_any}
-use Rattle.std.proofs.Math.Nat.{add-mul, suc-mul}
-use Rattle.std.proofs.lemmas.Bool.{eqb-true, eq-eqb, ltb-true, ltb-false}
-use Rattle.std.proofs.lemmas.List.{length-map}
-use Rattle.is_proto.specs.Lists.{Has}
-use Rattle.is_pair.specs.Pairs.{PairRecord}
-use Rattle.is_rules.specs.Forming.{Combination}
+use Rattle.is_theorems.proofs.Common.{[], ◌&&◌, ◌*◌, ◌++◌, ◌+◌, ◌<◌, ◌==◌, ◌||◌, ◌∙◌, ◌∷◌, ◌≡◌, ◌≤◌, add-mul, ap, arith, Bool, Combination}
+use Rattle.is_theorems.proofs.Common.{cond, eq-eqb, eqb-true, false, filter, Has, if◌then◌else◌, inl, inr, length, length-map, List}
+use Rattle.is_theorems.proofs.Common.{list_any, ltb-false, ltb-true, map, nat_lt, not, PairRecord, refl, slice_get, slice_set, Some, subst}
+use Rattle.is_theorems.proofs.Common.{suc, suc-mul, sym, true, zero, ℕ}
 use Rattle.is_theorems.proofs.BasicLemmas.EqualAddresses.{both}
 use Rattle.is_theorems.proofs.RuleEffects.ChangedPairs.{Has-map}
 use Rattle.is_theorems.proofs.BasicLemmas.UsernamesAndFirstMatches.{neither}

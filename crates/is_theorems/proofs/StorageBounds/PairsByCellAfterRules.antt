@@ -1,63 +1,40 @@
 -- Which rules leave no more pairs at local candidates of responses, or of repeated cells, than there were: all but forming, after which
 -- the limit on pairs holds.
-use Rattle.std.proofs.Common.{◌≡◌, ℕ, ◌≤◌, ◌<◌, ◌==◌, ◌&&◌, ◌||◌, Bool, true, false, not, List, [], ◌∷◌, ◌++◌, length, map, position, Option, Some, None, Result, Ok, Err, inl, inr, refl, sym, subst, ap, ◌∙◌, arith, if◌then◌else◌}
-use Rattle.std.specs.Prelude.{MatchOption, slice_set}
-use Rattle.std.specs.List.{list_any}
-use Rattle.std.specs.Option.{option_or}
-use Rattle.std.specs.declared.net.socket_addr.SocketAddr.{SocketAddr}
-use Rattle.rand_core.specs.Stream.{Stream}
-use Rattle.is_proto.specs.declared.error.IceError.{IceError}
-use Rattle.is_proto.specs.Lists.{Has}
-use Rattle.is_candidate.specs.declared.candidate.kind.CandidateKind.{CandidateKind}
-use Rattle.is_candidate.specs.declared.candidate.kind.CandidateKind.TheVariants.{Host, PeerReflexive, ServerReflexive, Relayed}
-use Rattle.is_candidate.specs.Candidates.{CandidateRecord, candidate_at}
-use Rattle.is_candidate.specs.Kinds.{is_direct, same_kind}
-use Rattle.is_pair.specs.Multiset.{change_at, is_between, is_numbered, is_valid_at, without, IsPairBetween}
-use Rattle.is_pair.specs.Due.{asked}
-use Rattle.is_pair.specs.Pairs.{PairRecord, heard, heard_at, is_nominated, nominated, validated, with_request}
-use Rattle.is_stun.specs.declared.header.Class.{Class}
+use Rattle.is_pair.specs.Multiset.{is_between}
 use Rattle.is_stun.specs.declared.header.Class.TheVariants as class
-use Rattle.is_stun.specs.Message.{Message}
-use Rattle.is_rules.specs.declared.credentials.IceCreds.{IceCreds}
-use Rattle.is_rules.specs.declared.emitted.Emitted.{Emitted}
-use Rattle.is_rules.specs.declared.emitted.Issued.{Issued}
-use Rattle.is_rules.specs.declared.emitted.Path.{Path}
-use Rattle.is_rules.specs.declared.places.RemotePlace.{RemotePlace}
-use Rattle.is_rules.specs.declared.places.RemotePlace.TheVariants.{Known, Barred, Unknown, Vacant, Full}
-use Rattle.is_rules.specs.declared.roles.Conflict.{Conflict}
-use Rattle.is_rules.specs.declared.roles.Conflict.TheVariants.{Absent, Send487, SwitchRole}
-use Rattle.is_rules.specs.Accepting.{Takes, HandlesPacket, discovered_emitted}
-use Rattle.is_rules.specs.Agent.{AgentRecord}
-use Rattle.is_rules.specs.Answers.{is_left_out, local_with, mapped_candidate, success_counted, HandlesSuccess, HandlesFailure}
-use Rattle.is_rules.specs.Checking.{MayCheck, ChecksTop, all_asked}
-use Rattle.is_rules.specs.Forming.{Combination, SidesRecord, FormsAll, formed, sides_of, with_pair}
-use Rattle.is_rules.specs.Nominating.{Selection, Nominates, NominatesWhere, NamesTop, nominated_by_self, nominated_emitted, with_selection, followed, remains, selection_of, nominates_at_once, numbers}
-use Rattle.is_rules.specs.Places.{is_at, is_live, is_reached, local_place}
-use Rattle.is_rules.specs.Queue.{first_taken, request_at}
-use Rattle.is_rules.specs.Request.{RequestRecord, request_in}
-use Rattle.is_rules.specs.Roles.{conflict_of, switched, switched_sides, with_priority_in}
-use Rattle.is_rules.specs.Serving.{selects_at_requests, after_request, is_misled, is_for_other_peer, pair_served, request_counted, served, validated_by_peer, with_sender, with_sender_at, Drops, Queues, RecordsAndResponds, FindsOrAddsPair, AddsUnknownSender, CountsAndServes, ResolvesRoleConflictBy, ResolvesRoleConflict, Serves, as_taken, nominated_by_peer}
-use Rattle.is_rules.specs.States.{evaluated}
-use Rattle.is_rules.specs.Steps.{Entry, Receives}
-use Rattle.is_rules.specs.Settling.{settled, Reselects}
-use Rattle.is_rules.specs.Timeouts.{at_request, RemovesExpired, MaintainsPairs, TimesOut, at_timeout, expired_gone, is_expired, timeout_begun}
+use Rattle.is_theorems.proofs.Common.{[], ◌&&◌, ◌++◌, ◌<◌, ◌==◌, ◌||◌, ◌∙◌, ◌∷◌, ◌≡◌, ◌≤◌, Absent, AddsUnknownSender, after_request}
+use Rattle.is_theorems.proofs.Common.{AgentRecord, all_scheduled, ap, arith, as_taken, scheduled, at_request, at_timeout, Barred, Bool}
+use Rattle.is_theorems.proofs.Common.{candidate_at, CandidateKind, CandidateRecord, change_at, ChecksTop, Class, Combination, Conflict}
+use Rattle.is_theorems.proofs.Common.{conflict_of, CountsAndServes, discovered_emitted, Drops, Emitted, Entry, Err, evaluated, expired_gone}
+use Rattle.is_theorems.proofs.Common.{false, FindsOrAddsPair, first_taken, followed, formed, FormsAll, Full, gives_way, HandlesFailure}
+use Rattle.is_theorems.proofs.Common.{HandlesPacket, HandlesSuccess, Has, hastened, heard, heard_at, Host, IceCreds, IceError}
+use Rattle.is_theorems.proofs.Common.{if◌then◌else◌, in_turn, inl, inr, is_at, is_direct, is_expired, is_for_other_peer, is_left_out}
+use Rattle.is_theorems.proofs.Common.{is_live, is_misled, is_nominated, is_numbered, is_reached, is_valid_at, IsPairBetween, Issued, Known}
+use Rattle.is_theorems.proofs.Common.{length, List, list_any, local_place, local_with, MaintainsPairs, map, mapped_candidate, MatchOption}
+use Rattle.is_theorems.proofs.Common.{MayCheck, Message, NamesTop, nominated, nominated_by_peer, nominated_by_self, nominated_emitted}
+use Rattle.is_theorems.proofs.Common.{Nominates, nominates_at_once, NominatesWhere, None, none-any, not, numbers, Ok, Option, option_or}
+use Rattle.is_theorems.proofs.Common.{pair_served, PairRecord, Path, path_left, PeerReflexive, position, Queues, Receives}
+use Rattle.is_theorems.proofs.Common.{RecordsAndResponds, refl, Relayed, remains, RemotePlace, removes, RemovesExpired, RemovesInTurn}
+use Rattle.is_theorems.proofs.Common.{request_at, request_counted, request_in, RequestRecord, Reselects, ResolvesRoleConflict}
+use Rattle.is_theorems.proofs.Common.{ResolvesRoleConflictBy, Result, same_kind, Selection, selection_of, selects_at_requests, Send487}
+use Rattle.is_theorems.proofs.Common.{served, ServerReflexive, Serves, state_updated, sides_of, SidesRecord, silent_gone, slice_set, SocketAddr}
+use Rattle.is_theorems.proofs.Common.{Some, Stream, StunTiming, subst, success_counted, switched, switched_sides, SwitchRole, sym, Takes}
+use Rattle.is_theorems.proofs.Common.{timeout_begun, TimesOut, true, Unknown, Vacant, validated, validated_by_peer, with_pair}
+use Rattle.is_theorems.proofs.Common.{with_priority_in, with_request, with_selection, with_sender, with_sender_at, without, ℕ}
 use Rattle.is_theorems.proofs.BasicLemmas.EqualAddresses.{both}
 use Rattle.is_theorems.proofs.StorageBounds.BoundedLists.{is_own}
-use Rattle.is_theorems.proofs.StorageBounds.PairsByCell.{cell_of, cells, cells-map, cells-set, extras, extras-agree, extras-filter, extras-new, is_cell}
+use Rattle.is_theorems.proofs.StorageBounds.PairsByCell.{cell_of, cells, cells-map, cells-set, extras, extras-agree, extras-filter}
+use Rattle.is_theorems.proofs.StorageBounds.PairsByCell.{extras-new, is_cell}
 use Rattle.is_theorems.proofs.RuleEffects.Reselection.{by-reselecting}
 use Rattle.is_theorems.proofs.RuleEffects.UnchangedSettings.{either}
 use Rattle.is_theorems.proofs.RuleEffects.ChangedPairs.{Has-map}
 use Rattle.is_theorems.proofs.BasicLemmas.UsernamesAndFirstMatches.{neither}
-use Rattle.is_rules.proofs.PairLists.PairsByNumber.{none-any}
-use Rattle.is_rules.proofs.PairLists.RemovedInTurn.{removes, RemovesInTurn}
 use Rattle.is_theorems.proofs.RuleEffects.SelectedPaths.{some_is}
 use Rattle.is_theorems.proofs.BasicLemmas.CandidatesByIndex.{at-append, found-at}
 use Rattle.is_theorems.proofs.RuleEffects.TriggeredPairs.{triggered_by, by_trigger}
 use Rattle.is_theorems.proofs.BasicLemmas.PairsInTurn.{sent-pairs, sent_at}
-use Rattle.is_stun.specs.declared.timing.StunTiming.{StunTiming}
 use Rattle.is_theorems.proofs.BasicLemmas.ServedPairs.{numbered-by}
 use Rattle.is_theorems.proofs.RuleEffects.NotedErrors.{coded, recoded, by_failure}
-use Rattle.is_rules.specs.Leaving.{gives_way, hastened, path_left, silent_gone}
 use Rattle.is_theorems.proofs.RuleEffects.HastenedPairs.{by-hastened, Hastens}
 
 -- the local candidate at the index was not brought by a response
@@ -207,7 +184,7 @@ module _ {H P : Type 0} where
   removes_expired_fewer now old new path h = either (list_any (is_expired now old) old.pairs) h
       (λ _ k. evaluated_fewer now old k.0 new k.2
       (on old (expired_gone now old) k.0 (extras-filter (own_at old.local) (λ p. not (is_expired now old p)) old.pairs) (nominates_fewer (expired_gone now old) k.0 path k.1)))
-      (λ _ k. made-as old (settled true now old) new k.1 (unchanged old old refl))
+      (λ _ k. made-as old (state_updated true now old) new k.1 (unchanged old old refl))
 
   leaves_fewer : (now : ℕ) (old : AgentRecord H P) → Fewer old (path_left now old)
   leaves_fewer now old =
@@ -217,8 +194,8 @@ module _ {H P : Type 0} where
 
   -- ---- checks
 
-  asked_cells : (now : ℕ) (old : AgentRecord H P) → grid_of (all_asked now old) ≡ grid_of old
-  asked_cells now old = recast old (all_asked now old).pairs (cells-map (asked now old.timing) (λ p. refl) old.pairs)
+  asked_cells : (now : ℕ) (old : AgentRecord H P) → grid_of (all_scheduled now old) ≡ grid_of old
+  asked_cells now old = recast old (all_scheduled now old).pairs (cells-map (scheduled now old.timing) (λ p. refl) old.pairs)
 
   check_fewer : (mac : H → List ℕ → List ℕ → List ℕ) (now : ℕ) (remote : Option IceCreds) (old new : AgentRecord H P) (s t : Stream) (issued : Option Issued)
       → MayCheck mac now remote old s issued new t → Fewer old new
@@ -226,15 +203,15 @@ module _ {H P : Type 0} where
   check_fewer mac now (Some remote) old new s t issued h = either old.lite h
       (λ _ k. alike old new (ap (λ (a : AgentRecord H P). grid_of a) k.1 ∙ recast old (map (heard now) old.pairs) (cells-map (heard now) (λ p. heard-cell now p.last_request p) old.pairs)))
       (λ _ k. next k.0 k.2) where
-        next : (top : Option PairRecord) → ChecksTop mac now remote top (all_asked now old) s issued new t → Fewer old new
+        next : (top : Option PairRecord) → ChecksTop mac now remote top (all_scheduled now old) s issued new t → Fewer old new
         next None (is, made, drawn) = alike old new (ap (λ (a : AgentRecord H P). grid_of a) made ∙ asked_cells now old)
         next (Some p) (id, drawn, values, is, made) = alike old new (
-            let begins : Bool = nominates_at_once (all_asked now old) in
+            let begins : Bool = nominates_at_once (all_scheduled now old) in
             let change : PairRecord → PairRecord = sent_at begins now old.timing old.controlling id in
             ap (λ (a : AgentRecord H P). grid_of a) made
-            ∙ (ap (λ ps. grid_of (record (all_asked now old) { pairs = ps })) (sent-pairs begins p.number now old.timing old.controlling id (all_asked now old).pairs)
-            ∙ (recast (all_asked now old) (map (change_at p.number change) (all_asked now old).pairs)
-            (cells-map (change_at p.number change) (λ x. at-cell p.number change x (sent-cell begins now old.timing old.controlling id x)) (all_asked now old).pairs)
+            ∙ (ap (λ ps. grid_of (record (all_scheduled now old) { pairs = ps })) (sent-pairs begins p.number now old.timing old.controlling id (all_scheduled now old).pairs)
+            ∙ (recast (all_scheduled now old) (map (change_at p.number change) (all_scheduled now old).pairs)
+            (cells-map (change_at p.number change) (λ x. at-cell p.number change x (sent-cell begins now old.timing old.controlling id x)) (all_scheduled now old).pairs)
             ∙ asked_cells now old))
             )
 
@@ -323,7 +300,7 @@ module _ {H P : Type 0} where
     here (Some l) s new emitted is h = resolves_by (conflict_of s q) l s new emitted (reached-own s.local q l is) h
 
     serves : (s new : AgentRecord H P) (emitted : Emitted) → Serves mac q s emitted new → Fewer s new
-    serves s new emitted h = either (is_for_other_peer s q) h (λ _ k. unchanged s new k.1) (λ _ k. here (local_place s.local q) s new emitted refl k)
+    serves s new emitted h = either (is_for_other_peer s q) (in_turn mac q s new emitted h) (λ _ k. unchanged s new k.1) (λ _ k. here (local_place s.local q) s new emitted refl k)
 
     requested : (remote : Option IceCreds) (s new : AgentRecord H P) (emitted : Emitted) → MatchOption remote (Queues q s emitted new) (λ _. Serves mac q s emitted new) → Fewer s new
     requested None s new emitted h = alike s new (ap (λ (a : AgentRecord H P). grid_of a) h.1)

@@ -1,42 +1,29 @@
 -- How calls and executions change the number of pairs that requests do not bring, and so how many pairs there are.
-use Rattle.std.proofs.Common.{◌≡◌, ℕ, zero, suc, ◌+◌, ◌*◌, ◌≤◌, ◌==◌, ◌&&◌, not, Bool, true, false, cond, if◌then◌else◌, List, [], ◌∷◌, length, map, count_by, Option, Some, None, Result, Ok, Err, inl, inr, ◌⊎◌, refl, sym, subst, ap, ◌∙◌, arith}
-use Rattle.std.proofs.Math.Nat.{mul-le-mul_right}
-use Rattle.std.specs.Prelude.{slice_set}
-use Rattle.std.proofs.lemmas.List.{length-map}
-use Rattle.std.proofs.lemmas.List.Sums.{sum_by-cons}
-use Rattle.rand_core.specs.Stream.{Stream}
-use Rattle.is_proto.specs.declared.error.IceError.{IceError}
-use Rattle.is_candidate.specs.declared.candidate.kind.CandidateKind.{CandidateKind}
-use Rattle.is_candidate.specs.declared.candidate.kind.CandidateKind.TheVariants.{PeerReflexive}
-use Rattle.is_candidate.specs.Candidates.{CandidateRecord, candidate_at}
-use Rattle.is_candidate.specs.Kinds.{same_kind}
-use Rattle.is_pair.specs.Due.{asked}
-use Rattle.is_pair.specs.Pairs.{PairRecord, undue}
-use Rattle.is_rules.specs.declared.credentials.IceCreds.{IceCreds}
-use Rattle.is_rules.specs.declared.emitted.Path.{Path}
-use Rattle.is_rules.specs.Agent.{AgentRecord}
-use Rattle.is_theorems.specs.Bounds.{may_form, FormsFew, LimitsPairs}
-use Rattle.is_rules.specs.Discarding.{discarded, is_local_at, is_remote_at, local_discarded, local_to_discard, remote_to_discard, remote_discarded, InvalidatesAt}
-use Rattle.is_rules.specs.Forming.{Combination}
-use Rattle.is_rules.specs.Local.{AddsLocal}
-use Rattle.is_theorems.specs.Logs.{Logged}
-use Rattle.is_rules.specs.Remote.{AddsRemote}
-use Rattle.is_rules.specs.Restarting.{Restarts, Recreates, emptied}
-use Rattle.is_rules.specs.Credentials.{SetsLocal, SetsRemote}
-use Rattle.is_rules.specs.Settings.{SetsMtu}
-use Rattle.is_rules.specs.Settling.{loses_selected, Reselects}
-use Rattle.is_theorems.specs.Runs.{IsFresh, Run, run_to}
-use Rattle.is_rules.specs.Sound.{IsSound}
-use Rattle.is_rules.specs.Steps.{Call, SetMtu, SetControlTieBreaker, SetMaxCandidatePairs, SetMaxDiscovered, SetIceLite, SetRenomination, SetConsent, SetProfile, SetTimingAdvance, SetInitialStunRto, SetMaxStunRto, SetMaxStunRetransmits, SetLiteTimeout, SetLocalPreference, SetControlling, SetLocalCredentials, SetRemoteCredentials, SkipPairIds, AddLocalCandidate, AddRemoteCandidate, InvalidateCandidate, RestartIce, RecreateCandidatePairs, ReceivePacket, HandleTimeout, PollTransmit, PollTimeout, PollEvent, Entry, Step, MayDo}
+use Rattle.is_theorems.proofs.Common.{[], ◌&&◌, ◌*◌, ◌+◌, ◌==◌, ◌∙◌, ◌∷◌, ◌≡◌, ◌≤◌, ◌⊎◌, AddLocalCandidate, AddRemoteCandidate, AddsLocal}
+use Rattle.is_theorems.proofs.Common.{AddsRemote, AgentRecord, ap, arith, scheduled, Bool, Call, candidate_at, CandidateKind, CandidateRecord}
+use Rattle.is_theorems.proofs.Common.{Combination, cond, count_by, discarded, emptied, Entry, Err, false, FormsFew, HandleTimeout, IceCreds}
+use Rattle.is_theorems.proofs.Common.{IceError, if◌then◌else◌, inl, inr, InvalidateCandidate, InvalidatesAt, is_local_at, is_remote_at}
+use Rattle.is_theorems.proofs.Common.{IsFresh, IsSound, length, length-map, LimitsPairs, List, local_discarded, local_to_discard, Logged}
+use Rattle.is_theorems.proofs.Common.{loses_selected, map, may_form, MayDo, mul-le-mul_right, None, not, Ok, Option, PairRecord, Path}
+use Rattle.is_theorems.proofs.Common.{PeerReflexive, PollEvent, PollTimeout, PollTransmit, ReceivePacket, RecreateCandidatePairs, Recreates}
+use Rattle.is_theorems.proofs.Common.{refl, remote_discarded, remote_to_discard, Reselects, RestartIce, Restarts, Result, Run, run_to}
+use Rattle.is_theorems.proofs.Common.{same_kind, SetConsent, SetControlling, SetControlTieBreaker, SetIceLite, SetInitialStunRto}
+use Rattle.is_theorems.proofs.Common.{SetLiteTimeout, SetLocalCredentials, SetLocalPreference, SetMaxCandidatePairs, SetMaxDiscovered}
+use Rattle.is_theorems.proofs.Common.{SetMaxStunRetransmits, SetMaxStunRto, SetMtu, SetProfile, SetRemoteCredentials, SetRenomination}
+use Rattle.is_theorems.proofs.Common.{SetsLocal, SetsMtu, SetsRemote, SetTimingAdvance, SkipPairIds, slice_set, Some, Step, Stream, subst}
+use Rattle.is_theorems.proofs.Common.{suc, sum_by-cons, sym, true, undue, zero, ℕ}
 use Rattle.is_theorems.proofs.StorageBounds.BoundedLists.{is_own}
-use Rattle.is_theorems.proofs.StorageBounds.PairsByCell.{cell_of, cells, cells-map, extras, extras-agree, extras-filter, extras-length, owned, pairs-in-grid, total-first}
-use Rattle.is_theorems.proofs.StorageBounds.PairsByCellAfterRules.{Fewer, alike, forms_few, grid_of, made-as, on, own_at, recast, received, reselects_alike, surplus, timed, unchanged}
+use Rattle.is_theorems.proofs.StorageBounds.PairsByCell.{cell_of, cells, cells-map, extras, extras-agree, extras-filter, extras-length}
+use Rattle.is_theorems.proofs.StorageBounds.PairsByCell.{owned, pairs-in-grid, total-first}
+use Rattle.is_theorems.proofs.StorageBounds.PairsByCellAfterRules.{Fewer, alike, forms_few, grid_of, made-as, on, own_at, recast, received}
+use Rattle.is_theorems.proofs.StorageBounds.PairsByCellAfterRules.{reselects_alike, surplus, timed, unchanged}
 use Rattle.is_theorems.proofs.CallEffects.PathAndTradeEffects.{path_theorem}
 use Rattle.is_theorems.proofs.CallEffects.AddedCandidates.{by_adding_local, by_adding_remote, by_waking}
 use Rattle.is_theorems.proofs.RuleEffects.UnchangedSettings.{either}
 use Rattle.is_theorems.proofs.ExecutionLogs.LogTheorems.{runs_sound}
 use Rattle.is_theorems.proofs.ExecutionLogs.PointsOfSegments.{deeper, later_point}
-use Rattle.is_theorems.proofs.CallEffects.FailedCallsAndNewAgents.{mtu_kept, local_kept, remote_kept, restart_kept, recreation_kept, enrolment_kept, storing_kept}
+use Rattle.is_theorems.proofs.CallEffects.FailedCallsAndNewAgents.{mtu_kept, local_kept, remote_kept, restart_kept, recreation_kept}
+use Rattle.is_theorems.proofs.CallEffects.FailedCallsAndNewAgents.{enrolment_kept, storing_kept}
 
 -- a changed candidate of the same kind leaves all kinds
 kinds-put : (cs : List CandidateRecord) (r k : ℕ) (c : CandidateRecord) → c.kind ≡ (candidate_at cs r).kind → (candidate_at (slice_set cs r c) k).kind ≡ (candidate_at cs k).kind
@@ -171,8 +158,8 @@ module _ {H P : Type 0} where
     steps sound PollTransmit (given, is, (polled, made), drawn) = inl (placed (cells_in _ made))
     steps sound PollTimeout (deadline, is, h, drawn) = inl (by_waking old new deadline h
         (λ made. kept made)
-        (λ at made. made-as old (record old { pairs = map (asked at old.timing) old.pairs }) new made
-        (alike old (record old { pairs = map (asked at old.timing) old.pairs }) (recast old (map (asked at old.timing) old.pairs) (cells-map (asked at old.timing) (λ p. refl) old.pairs)))))
+        (λ at made. made-as old (record old { pairs = map (scheduled at old.timing) old.pairs }) new made
+        (alike old (record old { pairs = map (scheduled at old.timing) old.pairs }) (recast old (map (scheduled at old.timing) old.pairs) (cells-map (scheduled at old.timing) (λ p. refl) old.pairs)))))
     steps sound PollEvent (given, is, (polled, made), drawn) = inl (placed (cells_in _ made))
 
   -- ---- executions

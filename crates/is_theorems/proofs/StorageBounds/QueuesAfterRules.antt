@@ -1,46 +1,21 @@
 -- How the rules change the queues of packets and events.
-use Rattle.std.proofs.Common.{is_some, ◌≡◌, ℕ, ◌+◌, ◌≤◌, ◌&&◌, Bool, true, false, not, List, [], ◌∷◌, ◌++◌, filter, length, count_by, Option, Some, None, refl, sym, subst, ap, ◌∙◌, arith, cond, if◌then◌else◌}
-use Rattle.std.specs.Prelude.{MatchOption}
-use Rattle.std.specs.List.{list_any}
-use Rattle.std.proofs.lemmas.List.{length-append}
-use Rattle.std.proofs.lemmas.List.Sums.{sum_by-append, sum_by-cons}
-use Rattle.rand_core.specs.Stream.{Stream}
-use Rattle.is_proto.specs.Packets.{Packet}
-use Rattle.is_candidate.specs.Candidates.{candidate_at}
-use Rattle.is_pair.specs.Multiset.{is_valid_at}
-use Rattle.is_pair.specs.Pairs.{PairRecord}
-use Rattle.is_stun.specs.Message.{Message}
-use Rattle.is_stun.specs.Timing.{is_modern}
-use Rattle.is_rules.specs.declared.credentials.IceCreds.{IceCreds}
-use Rattle.is_rules.specs.declared.emitted.Emitted.{Emitted}
-use Rattle.is_rules.specs.declared.emitted.Issued.{Issued}
-use Rattle.is_rules.specs.declared.emitted.Path.{Path}
-use Rattle.is_rules.specs.declared.event.IceAgentEvent.{IceAgentEvent}
-use Rattle.is_rules.specs.declared.event.IceAgentEvent.TheVariants.{IceRestart, IceConnectionStateChange, NominatedSend}
-use Rattle.is_rules.specs.declared.event.IceConnectionState.{IceConnectionState}
-use Rattle.is_rules.specs.declared.event.IceConnectionState.TheVariants.{New}
-use Rattle.is_rules.specs.declared.places.RemotePlace.{RemotePlace}
-use Rattle.is_rules.specs.declared.places.RemotePlace.TheVariants.{Known, Barred, Unknown, Vacant, Full}
-use Rattle.is_rules.specs.declared.roles.Conflict.{Conflict}
-use Rattle.is_rules.specs.declared.roles.Conflict.TheVariants.{Absent, Send487, SwitchRole}
-use Rattle.is_rules.specs.Agent.{AgentRecord}
-use Rattle.is_rules.specs.Answers.{HandlesSuccess, HandlesFailure}
-use Rattle.is_rules.specs.Checking.{MayCheck, ChecksTop, all_asked}
-use Rattle.is_rules.specs.Forming.{Combination, FormsAll, formed, with_pair}
-use Rattle.is_rules.specs.Nominating.{Nominates, NominatesWhere, nominated_emitted, with_selection}
-use Rattle.is_rules.specs.Places.{local_place}
-use Rattle.is_rules.specs.Request.{RequestRecord}
-use Rattle.is_rules.specs.Restarting.{events_kept, is_selection, unpaired}
-use Rattle.is_rules.specs.Roles.{conflict_of, switched}
-use Rattle.is_rules.specs.Serving.{trigger_time, selects_at_requests, is_misled, is_for_other_peer, pair_served, request_counted, with_sender, with_sender_at, Drops, Queues, RecordsAndResponds, FindsOrAddsPair, AddsUnknownSender, CountsAndServes, ResolvesRoleConflictBy, ResolvesRoleConflict, Serves}
-use Rattle.is_rules.specs.States.{evaluated, has_nominated, has_possible, next_state, same_state, with_state}
-use Rattle.is_rules.specs.Settling.{settled, started, state_at_start, state_settled, Reselects}
-use Rattle.is_rules.specs.Timeouts.{RemovesExpired, MaintainsPairs, at_timeout, expired_gone, is_expired, start_emitted, timeout_begun}
+use Rattle.is_theorems.proofs.Common.{[], ◌&&◌, ◌++◌, ◌+◌, ◌∙◌, ◌∷◌, ◌≡◌, ◌≤◌, Absent, AddsUnknownSender, AgentRecord, all_scheduled, ap, arith}
+use Rattle.is_theorems.proofs.Common.{at_timeout, Barred, Bool, candidate_at, ChecksTop, Combination, cond, Conflict, conflict_of, count_by}
+use Rattle.is_theorems.proofs.Common.{CountsAndServes, discovery_count, Drops, Emitted, evaluated, events_kept, expired_gone, false, filter}
+use Rattle.is_theorems.proofs.Common.{FindsOrAddsPair, formed, FormsAll, Full, HandlesFailure, HandlesSuccess, has_nominated, has_possible}
+use Rattle.is_theorems.proofs.Common.{IceAgentEvent, IceConnectionState, IceConnectionStateChange, IceCreds, IceRestart, if◌then◌else◌}
+use Rattle.is_theorems.proofs.Common.{in_turn, is_discovery, is_expired, is_for_other_peer, is_misled, is_modern, is_selection, is_some}
+use Rattle.is_theorems.proofs.Common.{is_valid_at, Issued, Known, length, length-append, List, list_any, local_place, MaintainsPairs}
+use Rattle.is_theorems.proofs.Common.{MatchOption, MayCheck, Message, New, next_state, nominated_emitted, NominatedSend, Nominates}
+use Rattle.is_theorems.proofs.Common.{NominatesWhere, None, not, Option, other_count, Packet, pair_served, PairRecord, Path, path_left}
+use Rattle.is_theorems.proofs.Common.{Queues, RecordsAndResponds, refl, RemotePlace, RemovesExpired, request_counted, RequestRecord}
+use Rattle.is_theorems.proofs.Common.{Reselects, ResolvesRoleConflict, ResolvesRoleConflictBy, same_state, selects_at_requests, Send487}
+use Rattle.is_theorems.proofs.Common.{Serves, state_updated, Some, start_emitted, started, state_at_start, updated_state, Stream, subst}
+use Rattle.is_theorems.proofs.Common.{sum_by-append, sum_by-cons, switched, SwitchRole, sym, timeout_begun, trigger_time, true, Unknown}
+use Rattle.is_theorems.proofs.Common.{unpaired, Vacant, with_pair, with_selection, with_sender, with_sender_at, with_state, ℕ}
 use Rattle.is_theorems.proofs.RuleEffects.Reselection.{by-reselecting}
 use Rattle.is_theorems.proofs.RuleEffects.UnchangedSettings.{either}
-use Rattle.is_theorems.specs.Waiting.{is_discovery, discovery_count, other_count}
 use Rattle.is_theorems.proofs.RuleEffects.NotedErrors.{recoded, by_failure}
-use Rattle.is_rules.specs.Leaving.{path_left}
 
 -- ---- queues
 
@@ -163,8 +138,8 @@ module _ {H P : Type 0} where
   evaluated_adds : (now : ℕ) (a : AgentRecord H P) → Adds 0 1 a (evaluated now a)
   evaluated_adds now a = state_adds (next_state a.state (has_nominated a) (has_possible now a) a.lite) a
 
-  settled_adds : (changes : Bool) (now : ℕ) (a : AgentRecord H P) → Adds 0 1 a (settled changes now a)
-  settled_adds changes now a = state_adds (state_settled changes now a) a
+  updated_adds : (changes : Bool) (now : ℕ) (a : AgentRecord H P) → Adds 0 1 a (state_updated changes now a)
+  updated_adds changes now a = state_adds (updated_state changes now a) a
 
   emitted_adds : (path : Option Path) (a : AgentRecord H P) → Adds 0 1 a (nominated_emitted path a)
   emitted_adds None a = most 0 0 0 1 a a (omega arith) (omega arith) (same a a refl)
@@ -187,7 +162,7 @@ module _ {H P : Type 0} where
   removes_expired_adds now old new path h = either (list_any (is_expired now old) old.pairs) h
       (λ _ k. as-made 0 2 old (evaluated now k.0) new k.2
       (more 0 1 0 1 old k.0 (evaluated now k.0) (nominates_adds (expired_gone now old) k.0 path k.1) (evaluated_adds now k.0)))
-      (λ _ k. most 0 1 0 2 old new (omega arith) (omega arith) (as-made 0 1 old (settled true now old) new k.1 (settled_adds true now old)))
+      (λ _ k. most 0 1 0 2 old new (omega arith) (omega arith) (as-made 0 1 old (state_updated true now old) new k.1 (updated_adds true now old)))
 
   -- ---- checks and timeouts
 
@@ -197,7 +172,7 @@ module _ {H P : Type 0} where
   check_adds mac now (Some remote) old new s t issued h = either old.lite h
       (λ _ k. most 0 0 1 0 old new (omega arith) (omega arith) (same old new (ap (λ (a : AgentRecord H P). lines_of a) k.1)))
       (λ _ k. next k.0 k.2) where
-        next : (top : Option PairRecord) → ChecksTop mac now remote top (all_asked now old) s issued new t → Adds 1 0 old new
+        next : (top : Option PairRecord) → ChecksTop mac now remote top (all_scheduled now old) s issued new t → Adds 1 0 old new
         next None (is, made, drawn) = most 0 0 1 0 old new (omega arith) (omega arith) (same old new (ap (λ (a : AgentRecord H P). lines_of a) made))
         next (Some p) (id, drawn, values, is, made) = as-made 1 0 old _ new made (one-packet (lines_of old) _)
 
@@ -235,10 +210,10 @@ module _ {H P : Type 0} where
 
     pair : (l r number : ℕ) (s new : AgentRecord H P) (emitted : Emitted) → RecordsAndResponds mac q l r number s emitted new → Adds 1 2 s new
     pair l r number s new emitted (path, mid, nominates, (values, is, made)) =
-        let at : AgentRecord H P = settled (is_some path) (trigger_time q s) mid in
+        let at : AgentRecord H P = state_updated (is_some path) (trigger_time q s) mid in
         more 0 1 1 1 s mid new
         (where_adds (selects_at_requests s && is_valid_at number s.pairs) (pair_served q number s) mid path nominates)
-        (more 0 1 1 0 mid at new (settled_adds (is_some path) (trigger_time q s) mid) (as-made 1 0 at _ new made (one-packet (lines_of at) _)))
+        (more 0 1 1 0 mid at new (updated_adds (is_some path) (trigger_time q s) mid) (as-made 1 0 at _ new made (one-packet (lines_of at) _)))
 
     takes : (l r : ℕ) (number : Option ℕ) (s new : AgentRecord H P) (emitted : Emitted) → FindsOrAddsPair mac q l r number s emitted new → Adds 1 2 s new
     takes l r (Some number) s new emitted h = pair l r number s new emitted h
@@ -266,7 +241,7 @@ module _ {H P : Type 0} where
     here (Some l) s new emitted h = resolves (conflict_of s q) l s new emitted h
 
     pub serves_adds : (s new : AgentRecord H P) (emitted : Emitted) → Serves mac q s emitted new → Adds 1 2 s new
-    serves_adds s new emitted h = either (is_for_other_peer s q) h (λ _ k. none s new (kept s new k.1)) (λ _ k. here (local_place s.local q) s new emitted k)
+    serves_adds s new emitted h = either (is_for_other_peer s q) (in_turn mac q s new emitted h) (λ _ k. none s new (kept s new k.1)) (λ _ k. here (local_place s.local q) s new emitted k)
 
     pub requested_adds : (remote : Option IceCreds) (s new : AgentRecord H P) (emitted : Emitted) → MatchOption remote (Queues q s emitted new) (λ _. Serves mac q s emitted new) → Adds 1 2 s new
     requested_adds None s new emitted h = none s new (same s new (ap (λ (a : AgentRecord H P). lines_of a) h.1))

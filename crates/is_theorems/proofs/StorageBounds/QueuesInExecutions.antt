@@ -1,52 +1,35 @@
 -- How calls and executions change what waits in the queues.
-use Rattle.std.proofs.Common.{◌≡◌, ℕ, suc, ◌+◌, ◌≤◌, ◌<◌, ◌==◌, ◌||◌, Bool, true, false, not, List, [], ◌∷◌, ◌++◌, length, Option, Some, None, Result, Ok, Err, inl, inr, ◌⊎◌, refl, sym, subst, ap, ◌∙◌, arith, cond, if◌then◌else◌}
-use Rattle.std.specs.Prelude.{MatchOption}
-use Rattle.std.proofs.lemmas.Bool.{ltb-true}
-use Rattle.std.proofs.lemmas.List.Sums.{sum_by-cons}
-use Rattle.rand_core.specs.Stream.{Stream}
-use Rattle.is_proto.specs.declared.error.IceError.{IceError}
-use Rattle.is_proto.specs.Packets.{Packet}
-use Rattle.is_candidate.specs.Candidates.{CandidateRecord}
-use Rattle.is_stun.specs.declared.header.Class.{Class}
 use Rattle.is_stun.specs.declared.header.Class.TheVariants as class
-use Rattle.is_stun.specs.Message.{Message}
-use Rattle.is_stun.specs.Timing.{is_modern}
-use Rattle.is_rules.specs.declared.credentials.IceCreds.{IceCreds}
-use Rattle.is_rules.specs.declared.emitted.Emitted.{Emitted}
-use Rattle.is_rules.specs.declared.emitted.Path.{Path}
-use Rattle.is_rules.specs.declared.event.IceAgentEvent.{IceAgentEvent}
-use Rattle.is_rules.specs.declared.event.IceAgentEvent.TheVariants.{DiscoveredRecv, IceRestart}
-use Rattle.is_rules.specs.declared.event.IceConnectionState.TheVariants.{Checking}
-use Rattle.is_rules.specs.Accepting.{Takes, discovered_emitted, is_discovered, is_passed_over, reports_none}
-use Rattle.is_rules.specs.Agent.{AgentRecord}
-use Rattle.is_theorems.specs.Bounds.{IsWithin, may_serve}
-use Rattle.is_rules.specs.Credentials.{SetsLocal, SetsRemote}
-use Rattle.is_rules.specs.Discarding.{local_to_discard, remote_to_discard, InvalidatesAt}
-use Rattle.is_rules.specs.Limit.{is_below}
-use Rattle.is_rules.specs.Local.{AddsLocal}
-use Rattle.is_theorems.specs.Logs.{Logged}
-use Rattle.is_rules.specs.Polls.{IsPolled}
-use Rattle.is_rules.specs.Queue.{first_taken, request_at}
-use Rattle.is_rules.specs.Remote.{AddsRemote}
-use Rattle.is_rules.specs.Request.{RequestRecord, request_in}
-use Rattle.is_rules.specs.Restarting.{Restarts, Recreates, cleared, emptied, unpaired}
-use Rattle.is_rules.specs.Serving.{Serves}
-use Rattle.is_rules.specs.Settings.{SetsMtu}
-use Rattle.is_rules.specs.Settling.{loses_selected, Reselects}
-use Rattle.is_rules.specs.Steps.{Call, SetMtu, SetControlTieBreaker, SetMaxCandidatePairs, SetMaxDiscovered, SetIceLite, SetRenomination, SetConsent, SetProfile, SetTimingAdvance, SetInitialStunRto, SetMaxStunRto, SetMaxStunRetransmits, SetLiteTimeout, SetLocalPreference, SetControlling, SetLocalCredentials, SetRemoteCredentials, SkipPairIds, AddLocalCandidate, AddRemoteCandidate, InvalidateCandidate, RestartIce, RecreateCandidatePairs, ReceivePacket, HandleTimeout, PollTransmit, PollTimeout, PollEvent, Answer, Flag, Entry, Receives, Step, MayDo, Polled, Happened, answer_by, added, done, quiet}
-use Rattle.is_rules.specs.Timeouts.{at_request, MaintainsPairs, TimesOut, timeout_begun}
+use Rattle.is_theorems.proofs.Common.{[], ◌++◌, ◌+◌, ◌<◌, ◌==◌, ◌||◌, ◌∙◌, ◌∷◌, ◌≡◌, ◌≤◌, ◌⊎◌, added, AddLocalCandidate, AddRemoteCandidate}
+use Rattle.is_theorems.proofs.Common.{AddsLocal, AddsRemote, AgentRecord, Answer, answer_by, ap, arith, at_request, Bool, Call}
+use Rattle.is_theorems.proofs.Common.{CandidateRecord, Checking, Class, cleared, cond, discovered_emitted, DiscoveredRecv, discovery_count}
+use Rattle.is_theorems.proofs.Common.{done, Emitted, emptied, Entry, Err, events_of, false, finds_no_event, finds_no_packet, first_taken}
+use Rattle.is_theorems.proofs.Common.{Flag, HandleTimeout, Happened, IceAgentEvent, IceCreds, IceError, IceRestart, if◌then◌else◌, inl, inr}
+use Rattle.is_theorems.proofs.Common.{InvalidateCandidate, InvalidatesAt, is_below, is_discovered, is_discovery, is_modern, is_passed_over}
+use Rattle.is_theorems.proofs.Common.{is_taken, IsNewlyCreated, IsPolled, IsWithin, leaves_no_event, leaves_no_packet, length, List}
+use Rattle.is_theorems.proofs.Common.{local_to_discard, Logged, loses_selected, ltb-true, MaintainsPairs, MatchOption, may_serve, MayDo}
+use Rattle.is_theorems.proofs.Common.{Message, most_events, most_packets, None, not, Ok, Option, other_count, Packet, packets_of, Path}
+use Rattle.is_theorems.proofs.Common.{Polled, PollEvent, PollTimeout, PollTransmit, QueuesAreShort, quiet, ReceivePacket, Receives}
+use Rattle.is_theorems.proofs.Common.{RecreateCandidatePairs, Recreates, refl, remote_to_discard, reports_none, request_at, request_in}
+use Rattle.is_theorems.proofs.Common.{RequestRecord, Reselects, RestartIce, Restarts, Result, Serves, SetConsent, SetControlling}
+use Rattle.is_theorems.proofs.Common.{SetControlTieBreaker, SetIceLite, SetInitialStunRto, SetLiteTimeout, SetLocalCredentials}
+use Rattle.is_theorems.proofs.Common.{SetLocalPreference, SetMaxCandidatePairs, SetMaxDiscovered, SetMaxStunRetransmits, SetMaxStunRto}
+use Rattle.is_theorems.proofs.Common.{SetMtu, SetProfile, SetRemoteCredentials, SetRenomination, SetsLocal, SetsMtu, SetsRemote}
+use Rattle.is_theorems.proofs.Common.{SetTimingAdvance, SharedRun, SkipPairIds, Some, Step, Stream, subst, suc, sum_by-cons, sym, Takes}
+use Rattle.is_theorems.proofs.Common.{timeout_begun, TimesOut, true, unpaired, ℕ}
 use Rattle.is_theorems.proofs.CallEffects.AddedCandidates.{by_adding_local, by_adding_remote, by_waking}
 use Rattle.is_theorems.proofs.RuleEffects.Reselection.{reselects-none, reselects-original}
 use Rattle.is_theorems.proofs.CallEffects.PathAndTradeEffects.{path_theorem}
 use Rattle.is_theorems.proofs.ExecutionLogs.SharedLogTheorems as shared
 use Rattle.is_theorems.proofs.RuleEffects.UnchangedSettings.{either}
-use Rattle.is_theorems.proofs.CallEffects.FailedCallsAndNewAgents.{mtu_kept, local_kept, remote_kept, restart_kept, recreation_kept, enrolment_kept, storing_kept}
+use Rattle.is_theorems.proofs.CallEffects.FailedCallsAndNewAgents.{mtu_kept, local_kept, remote_kept, restart_kept, recreation_kept}
+use Rattle.is_theorems.proofs.CallEffects.FailedCallsAndNewAgents.{enrolment_kept, storing_kept}
 use Rattle.is_theorems.specs.Limited.{DiscoveriesStayFew}
-use Rattle.is_theorems.specs.Shared.{IsNewlyCreated, SharedRun}
-use Rattle.is_theorems.specs.Waiting.{is_taken, packets_of, leaves_no_packet, finds_no_packet, most_packets, is_discovery, discovery_count, other_count, events_of, leaves_no_event, finds_no_event, most_events, QueuesAreShort}
 use Rattle.is_theorems.proofs.ExecutionLogs.SharedRandomSource.{sound_run}
 use Rattle.is_theorems.proofs.StoredPairs.PairsThatStay.{none-entered}
-use Rattle.is_theorems.proofs.StorageBounds.QueuesAfterRules.{Lines, Grows, count-more, counts-all, lines_of, Adds, same, kept, more, most, state_adds, unpaired_adds, begun_adds, maintains_adds, success_adds, failure_adds, forms_adds, reselects_adds, serves_adds, requested_adds}
+use Rattle.is_theorems.proofs.StorageBounds.QueuesAfterRules.{Lines, Grows, count-more, counts-all, lines_of, Adds, same, kept, more, most}
+use Rattle.is_theorems.proofs.StorageBounds.QueuesAfterRules.{state_adds, unpaired_adds, begun_adds, maintains_adds, success_adds}
+use Rattle.is_theorems.proofs.StorageBounds.QueuesAfterRules.{failure_adds, forms_adds, reselects_adds, serves_adds, requested_adds}
 
 -- ---- what waits
 

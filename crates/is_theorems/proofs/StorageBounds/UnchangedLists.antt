@@ -1,25 +1,13 @@
 -- The rules that do not change the lists that a limit bounds.
-use Rattle.std.proofs.Common.{◌≡◌, ℕ, Bool, true, false, List, Option, Some, None, refl, ap, ◌∙◌}
-use Rattle.std.specs.List.{list_any}
-use Rattle.rand_core.specs.Stream.{Stream}
-use Rattle.is_pair.specs.Pairs.{PairRecord}
-use Rattle.is_stun.specs.Message.{Message}
-use Rattle.is_rules.specs.declared.credentials.IceCreds.{IceCreds}
-use Rattle.is_rules.specs.declared.emitted.Emitted.{Emitted}
-use Rattle.is_rules.specs.declared.emitted.Issued.{Issued}
-use Rattle.is_rules.specs.declared.emitted.Path.{Path}
-use Rattle.is_rules.specs.Agent.{AgentRecord}
-use Rattle.is_rules.specs.Answers.{mapped_added, success_counted, HandlesSuccess, HandlesFailure}
-use Rattle.is_rules.specs.Checking.{MayCheck, ChecksTop, all_asked}
-use Rattle.is_rules.specs.Forming.{Combination, FormsAll}
-use Rattle.is_rules.specs.Nominating.{Nominates, NominatesWhere, nominated_emitted, with_selection}
-use Rattle.is_rules.specs.Settling.{Reselects}
-use Rattle.is_rules.specs.Timeouts.{RemovesExpired, MaintainsPairs, at_timeout, expired_gone, is_expired}
+use Rattle.is_theorems.proofs.Common.{◌∙◌, ◌≡◌, AgentRecord, all_scheduled, ap, at_timeout, Bool, ChecksTop, Combination, Emitted, expired_gone}
+use Rattle.is_theorems.proofs.Common.{false, FormsAll, HandlesFailure, HandlesSuccess, IceCreds, is_expired, Issued, List, list_any}
+use Rattle.is_theorems.proofs.Common.{MaintainsPairs, mapped_added, MayCheck, Message, nominated_emitted, Nominates, NominatesWhere, None}
+use Rattle.is_theorems.proofs.Common.{Option, PairRecord, Path, path_left, refl, RemovesExpired, Reselects, Some, Stream, success_counted}
+use Rattle.is_theorems.proofs.Common.{true, with_selection, ℕ}
 use Rattle.is_theorems.proofs.RuleEffects.Reselection.{by-reselecting}
 use Rattle.is_theorems.proofs.RuleEffects.UnchangedSettings.{either}
 use Rattle.is_theorems.proofs.StorageBounds.BoundedLists.{Lists}
 use Rattle.is_theorems.proofs.RuleEffects.NotedErrors.{by_failure}
-use Rattle.is_rules.specs.Leaving.{path_left}
 
 module _ {H P : Type 0} where
   abbrev pub lists_of : AgentRecord H P → Lists
@@ -58,7 +46,7 @@ module _ {H P : Type 0} where
   check_same mac now (Some remote) old new s t issued h = either old.lite h
       (λ _ k. ap (λ (a : AgentRecord H P). lists_of a) k.1)
       (λ _ k. next k.0 k.2) where
-        next : (top : Option PairRecord) → ChecksTop mac now remote top (all_asked now old) s issued new t → Same old new
+        next : (top : Option PairRecord) → ChecksTop mac now remote top (all_scheduled now old) s issued new t → Same old new
         next None (is, made, drawn) = ap (λ (a : AgentRecord H P). lists_of a) made
         next (Some p) (id, drawn, values, is, made) = ap (λ (a : AgentRecord H P). lists_of a) made
 

@@ -1,40 +1,20 @@
 -- Each step leaves each pair its number, and whether a request came to it, except for steps that remove pairs.
-use Rattle.std.proofs.Common.{◌≡◌, ℕ, zero, suc, ◌&&◌, ◌||◌, Bool, true, false, not, List, [], ◌∷◌, ◌++◌, map, Option, Some, None, inl, inr, ◌⊎◌, refl, ap, sym, ◌∙◌, subst, arith, if◌then◌else◌}
-use Rattle.std.specs.Prelude.{MatchOption, slice_get, slice_set, nat_lt}
-use Rattle.std.proofs.lemmas.Bool.Decides.{nat_tests}
-use Rattle.std.specs.List.{list_any}
-use Rattle.rand_core.specs.Stream.{Stream}
-use Rattle.is_proto.specs.Lists.{Has}
-use Rattle.is_proto.specs.Times.{counted}
-use Rattle.is_candidate.specs.Candidates.{candidate_at}
-use Rattle.is_pair.specs.Pairs.{PairRecord, is_nominated, with_request, validated, nominated, heard, heard_at}
 use Rattle.is_pair.specs.Due as due
-use Rattle.is_pair.specs.Multiset.{is_numbered, change_at, change_pair, is_valid_at}
-use Rattle.is_stun.specs.declared.header.Class.{Class}
 use Rattle.is_stun.specs.declared.header.Class.TheVariants as class
-use Rattle.is_stun.specs.declared.timing.StunTiming.{StunTiming}
-use Rattle.is_stun.specs.Message.{Message}
-use Rattle.is_rules.specs.declared.credentials.IceCreds.{IceCreds}
-use Rattle.is_rules.specs.declared.places.RemotePlace.{RemotePlace}
-use Rattle.is_rules.specs.declared.places.RemotePlace.TheVariants.{Known, Barred, Unknown, Vacant, Full}
-use Rattle.is_rules.specs.declared.roles.Conflict.{Conflict}
-use Rattle.is_rules.specs.declared.roles.Conflict.TheVariants.{Absent, Send487, SwitchRole}
-use Rattle.is_rules.specs.declared.emitted.Issued.{Issued}
-use Rattle.is_rules.specs.declared.emitted.Path.{Path}
-use Rattle.is_rules.specs.declared.emitted.Emitted.{Emitted}
-use Rattle.is_rules.specs.Request.{RequestRecord, request_in}
-use Rattle.is_rules.specs.Agent.{AgentRecord}
-use Rattle.is_rules.specs.Places.{local_place}
-use Rattle.is_rules.specs.Forming.{formed, with_pair}
-use Rattle.is_rules.specs.Nominating.{nominated_by_self, Nominates, followed, remains, selection_of, nominates_at_once, numbers}
-use Rattle.is_rules.specs.Roles.{conflict_of, switched, switched_sides, with_priority_in}
-use Rattle.is_rules.specs.Serving.{selects_at_requests, after_request, served, is_misled, is_for_other_peer, pair_served, request_counted, with_sender, with_sender_at, validated_by_peer, Drops, Queues, RecordsAndResponds, FindsOrAddsPair, AddsUnknownSender, CountsAndServes, ResolvesRoleConflictBy, ResolvesRoleConflict, Serves, as_taken, nominated_by_peer}
-use Rattle.is_rules.specs.Answers.{HandlesSuccess, HandlesFailure}
-use Rattle.is_rules.specs.Accepting.{Takes}
-use Rattle.is_rules.specs.Checking.{all_asked, ChecksTop, MayCheck}
-use Rattle.is_rules.specs.Settling.{settled, Reselects}
-use Rattle.is_rules.specs.Timeouts.{at_timeout, is_expired, expired_gone, RemovesExpired, MaintainsPairs}
-use Rattle.is_rules.specs.States.{evaluated}
+use Rattle.is_theorems.proofs.Common.{[], ◌&&◌, ◌++◌, ◌||◌, ◌∙◌, ◌∷◌, ◌≡◌, ◌⊎◌, Absent, AddsUnknownSender, after_request, AgentRecord}
+use Rattle.is_theorems.proofs.Common.{all_scheduled, ap, arith, as_taken, at_timeout, Barred, Bool, candidate_at, change_at, change_pair}
+use Rattle.is_theorems.proofs.Common.{ChecksTop, Class, Conflict, conflict_of, counted, CountsAndServes, Drops, Emitted, evaluated}
+use Rattle.is_theorems.proofs.Common.{expired_gone, false, FindsOrAddsPair, followed, formed, Full, gives_way, HandlesFailure}
+use Rattle.is_theorems.proofs.Common.{HandlesSuccess, Has, hastened, heard, heard_at, IceCreds, if◌then◌else◌, in_turn, inl, inr}
+use Rattle.is_theorems.proofs.Common.{is_expired, is_for_other_peer, is_misled, is_nominated, is_numbered, is_valid_at, Issued, Known, List}
+use Rattle.is_theorems.proofs.Common.{list_any, local_place, MaintainsPairs, map, MatchOption, MayCheck, Message, nat_lt, nat_tests}
+use Rattle.is_theorems.proofs.Common.{nominated, nominated_by_peer, nominated_by_self, Nominates, nominates_at_once, None, not, numbers}
+use Rattle.is_theorems.proofs.Common.{Option, pair_served, PairRecord, Path, path_left, Queues, RecordsAndResponds, refl, remains}
+use Rattle.is_theorems.proofs.Common.{RemotePlace, RemovesExpired, request_counted, request_in, RequestRecord, Reselects}
+use Rattle.is_theorems.proofs.Common.{ResolvesRoleConflict, ResolvesRoleConflictBy, selection_of, selects_at_requests, Send487, served}
+use Rattle.is_theorems.proofs.Common.{Serves, state_updated, slice_get, slice_set, Some, Stream, StunTiming, subst, suc, switched, switched_sides}
+use Rattle.is_theorems.proofs.Common.{SwitchRole, sym, Takes, true, Unknown, Vacant, validated, validated_by_peer, with_pair}
+use Rattle.is_theorems.proofs.Common.{with_priority_in, with_request, with_sender, with_sender_at, zero, ℕ}
 use Rattle.is_theorems.proofs.RuleEffects.UnchangedSettings.{either}
 use Rattle.is_theorems.proofs.RuleEffects.NominatedPairs.{SelectsPath, selects_path, expired_nominated}
 use Rattle.is_theorems.proofs.CallEffects.ServedRequests.{Has-mapped}
@@ -45,7 +25,6 @@ use Rattle.is_theorems.proofs.RuleEffects.TriggeredPairs.{triggered_by, by_trigg
 use Rattle.is_theorems.proofs.BasicLemmas.PairsInTurn.{by-begins, sent-pairs, sent_at}
 use Rattle.is_theorems.proofs.BasicLemmas.ServedPairs.{numbered-by}
 use Rattle.is_theorems.proofs.RuleEffects.NotedErrors.{coded, recoded, by_failure}
-use Rattle.is_rules.specs.Leaving.{gives_way, hastened, path_left}
 use Rattle.is_theorems.proofs.RuleEffects.HastenedPairs.{by-hastened, hastened-expires, left-has, Hastens}
 
 -- ---- lists
@@ -62,7 +41,7 @@ Persists n asks ps = (q : PairRecord) × Has ps q × (q.number ≡ n) × (asks �
 abbrev pub Keeps : List PairRecord → List PairRecord → Type 0
 Keeps xs ys = (n : ℕ) (asks : Bool) → Persists n asks xs → Persists n asks ys
 
--- the same pair, and its requests are not forgotten
+-- q is the pair p, and its requests are not forgotten
 abbrev pub Follows : PairRecord → PairRecord → Type 0
 Follows p q = (q.number ≡ p.number) × (is_asked p ≡ true → is_asked q ≡ true)
 
@@ -199,7 +178,7 @@ module _ {H P : Type 0} where
       → Persists p.number (is_asked p) new.pairs ⊎ (is_expired now old p ≡ true)
   gives-up-leaves now old new path h p has = either (list_any (is_expired now old) old.pairs) h
       (λ _ k. by (is_expired now old p) refl k)
-      (λ _ k. inl (keep-as old (settled true now old) new (λ n asks x. x) k.1 p.number (is_asked p) (p, has, refl, λ on. on))) where
+      (λ _ k. inl (keep-as old (state_updated true now old) new (λ n asks x. x) k.1 p.number (is_asked p) (p, has, refl, λ on. on))) where
         by : (b : Bool) → is_expired now old p ≡ b → (mid : AgentRecord H P) × Nominates (expired_gone now old) path mid × (new ≡ evaluated now mid)
             → Persists p.number (is_asked p) new.pairs ⊎ (is_expired now old p ≡ true)
         by true is k = inr is
@@ -216,18 +195,18 @@ module _ {H P : Type 0} where
     keep-check now (Some peer) old new s t issued h = either old.lite h
         (λ _ k. keep-as old _ new (keeps-map (heard now) old.pairs (λ p. heard-follows now p.last_request p)) k.1)
         (λ _ k. next k.0 k.2) where
-          all : Keep old (all_asked now old)
-          all = keeps-map (due.asked now old.timing) old.pairs (λ p. (refl, λ is. is))
+          all : Keep old (all_scheduled now old)
+          all = keeps-map (due.scheduled now old.timing) old.pairs (λ p. (refl, λ is. is))
 
-          next : (top : Option PairRecord) → ChecksTop mac now peer top (all_asked now old) s issued new t → Keep old new
-          next None (is, made, drawn) = keep-as old (all_asked now old) new all made
+          next : (top : Option PairRecord) → ChecksTop mac now peer top (all_scheduled now old) s issued new t → Keep old new
+          next None (is, made, drawn) = keep-as old (all_scheduled now old) new all made
           next (Some p) (id, drawn, values, is, made) =
-              let begins : Bool = nominates_at_once (all_asked now old) in
+              let begins : Bool = nominates_at_once (all_scheduled now old) in
               let change : PairRecord → PairRecord = sent_at begins now old.timing old.controlling id in
               keep-as old _ new
-              (subst (λ ps. Keeps old.pairs ps) (sym (sent-pairs begins p.number now old.timing old.controlling id (all_asked now old).pairs))
-              (keeps-on old.pairs (all_asked now old).pairs (change_pair p.number change (all_asked now old).pairs) all
-              (keeps-map (change_at p.number change) (all_asked now old).pairs
+              (subst (λ ps. Keeps old.pairs ps) (sym (sent-pairs begins p.number now old.timing old.controlling id (all_scheduled now old).pairs))
+              (keeps-on old.pairs (all_scheduled now old).pairs (change_pair p.number change (all_scheduled now old).pairs) all
+              (keeps-map (change_at p.number change) (all_scheduled now old).pairs
               (λ q. if-follows (is_numbered p.number q) q (change q) q (sent-follows begins now old.timing old.controlling id q) (follows-same q))))) made
 
     pub maintains_pairs-leaves : (now : ℕ) (old new : AgentRecord H P) (s t : Stream) (emitted : Emitted) → MaintainsPairs mac now old s emitted new t → (p : PairRecord) → Has old.pairs p
@@ -295,7 +274,7 @@ module _ {H P : Type 0} where
       here (Some l) s new emitted h = resolves (conflict_of s q) l s new emitted h
 
       pub keep-serves : (s new : AgentRecord H P) (emitted : Emitted) → Serves mac q s emitted new → Keep s new
-      keep-serves s new emitted h = either (is_for_other_peer s q) h
+      keep-serves s new emitted h = either (is_for_other_peer s q) (in_turn mac q s new emitted h)
           (λ _ k. keep-same s new k.1)
           (λ _ k. here (local_place s.local q) s new emitted k)
 

@@ -1,34 +1,21 @@
 -- Forming pairs leaves a pair as it is, unless a new pair may replace it or there may be too many pairs.
-use Rattle.std.proofs.Common.{◌≡◌, ℕ, ◌+◌, ◌*◌, ◌<◌, ◌≤◌, ◌==◌, ◌&&◌, ◌||◌, Bool, true, false, not, nat_lt, nat_le, List, [], ◌∷◌, ◌++◌, length, filter, count_by, position, Option, Some, None, Ok, Err, inl, inr, ◌⊎◌, refl, ap, sym, ◌∙◌, subst, arith, if◌then◌else◌}
-use Rattle.std.proofs.lemmas.Bool.{eqb-true}
-use Rattle.std.proofs.lemmas.Bool.Decides.{nat_tests}
-use Rattle.std.specs.Prelude.{MatchBool}
-use Rattle.std.specs.List.{list_any}
-use Rattle.is_proto.specs.declared.error.IceError.{IceError}
-use Rattle.is_proto.specs.declared.error.IceError.TheVariants.{PriorityTooHigh}
-use Rattle.is_proto.specs.Lists.{Has}
-use Rattle.is_stun.specs.Timing.{is_modern}
-use Rattle.is_candidate.specs.Candidates.{CandidateRecord, candidate_at}
-use Rattle.is_candidate.specs.Equality.{is_same_place}
-use Rattle.is_candidate.specs.Priorities.{candidate_priority}
-use Rattle.is_pair.specs.Multiset.{is_numbered, without, Evicts, EvictsInTurn}
-use Rattle.is_pair.specs.Pairs.{PairRecord, taking_over}
-use Rattle.is_rules.specs.Agent.{AgentRecord}
-use Rattle.is_rules.specs.Discarding.{is_local_at, local_discarded}
-use Rattle.is_rules.specs.Each.{Each}
 use Rattle.is_rules.specs.Evicting.{kind_count, EvictsOfMost, EvictsOfMostInTurn, IsLeastOfMost}
-use Rattle.is_rules.specs.Forming.{SidesRecord, Formed, Combination, combined_priority, pair_of, local_combinations, remote_combinations, sides_of, formed_of, EvictsFor, Tries, FormsAll}
-use Rattle.is_rules.specs.Kinds.{kind_of, KINDS}
-use Rattle.is_rules.specs.Local.{as_own, appended, comes_again, enabled, enabled_again, is_too_high, is_unwanted, preferred, AddsLocal, EnrolsAt, EntersAgain, EntersNew, IsNotAdded}
-use Rattle.is_rules.specs.Owed.{one_if}
-use Rattle.is_rules.specs.Remote.{as_remote, is_ignored, is_placeholder, place_or_end, with_remote, AddsRemote}
-use Rattle.is_theorems.specs.Removing.{is_replaced_by, is_rival, ranks_with, combines_with, most_pairs, MayBeRemoved, MayEndByAppending, MayEndByRemote, MayEndByEnrolling, MayEndByLocal}
-use Rattle.is_rules.specs.Sound.{IsSound}
+use Rattle.is_theorems.proofs.Common.{[], ◌&&◌, ◌*◌, ◌++◌, ◌+◌, ◌<◌, ◌==◌, ◌||◌, ◌∙◌, ◌∷◌, ◌≡◌, ◌≤◌, ◌⊎◌, AddsLocal, AddsRemote}
+use Rattle.is_theorems.proofs.Common.{AgentRecord, AllBelow, ap, appended, AreRising, arith, as_own, as_remote, below-each, Bool}
+use Rattle.is_theorems.proofs.Common.{candidate_at, candidate_priority, CandidateRecord, Combination, combined_priority, combines_with}
+use Rattle.is_theorems.proofs.Common.{comes_again, count-agree, count-all, count-filter, count-head, count-push, count_by, Each, enabled}
+use Rattle.is_theorems.proofs.Common.{enabled_again, EnrolsAt, EntersAgain, EntersNew, eqb-true, Err, Evicts, EvictsFor, EvictsInTurn}
+use Rattle.is_theorems.proofs.Common.{false, few, filter, Formed, formed_of, FormsAll, Has, IceError, if◌then◌else◌, inl, inr, is_ignored}
+use Rattle.is_theorems.proofs.Common.{is_local_at, is_modern, is_numbered, is_placeholder, is_replaced_by, is_rival, is_same_place}
+use Rattle.is_theorems.proofs.Common.{is_too_high, is_unwanted, IsNotAdded, IsSound, kind_of, KINDS, length, List, list_any}
+use Rattle.is_theorems.proofs.Common.{local_combinations, local_discarded, MatchBool, MayBeRemoved, MayEndByAppending, MayEndByEnrolling}
+use Rattle.is_theorems.proofs.Common.{MayEndByLocal, MayEndByRemote, most_pairs, nat_le, nat_lt, nat_tests, None, not, Ok, one_if, Option}
+use Rattle.is_theorems.proofs.Common.{pair_of, PairRecord, place_or_end, position, preferred, PriorityTooHigh, ranks_with, refl}
+use Rattle.is_theorems.proofs.Common.{remote_combinations, rising-each, sides_of, SidesRecord, Some, subst, sym, taking_over, Tries, true}
+use Rattle.is_theorems.proofs.Common.{with_remote, without, ℕ}
 use Rattle.is_theorems.proofs.RuleEffects.UnchangedSettings.{either}
 use Rattle.is_theorems.proofs.RuleEffects.EarlierAndNewPairs.{Has-filter, Has-push, rising-filter, rising-push}
-use Rattle.is_rules.proofs.PairLists.CountedPairs.{count-agree, count-all, count-filter, count-head, count-push, few}
 use Rattle.is_rules.proofs.PairLists.PairKinds.{kind-below}
-use Rattle.is_rules.proofs.PairLists.RisingNumbers.{AreRising, AllBelow, below-each, rising-each}
 use Rattle.is_theorems.proofs.RuleEffects.SelectedPaths.{one_pair}
 use Rattle.is_theorems.proofs.DuePairs.AfterNominationAndRemoval.{Has-kept}
 

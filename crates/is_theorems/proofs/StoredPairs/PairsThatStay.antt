@@ -1,45 +1,31 @@
 -- A pair stays over each step, and over each execution segment, that does not remove it.
-use Rattle.std.proofs.Common.{◌≡◌, ℕ, ◌<◌, ◌≤◌, ◌==◌, ◌&&◌, ◌||◌, Bool, true, false, not, List, [], ◌∷◌, ◌++◌, map, Option, Some, None, Result, Ok, Err, inl, inr, ◌⊎◌, refl, ap, sym, ◌∙◌, subst, arith, append_assoc, if◌then◌else◌}
-use Rattle.std.specs.Prelude.{MatchOption, nat_lt}
-use Rattle.std.proofs.lemmas.Bool.{eqb-true}
-use Rattle.rand_core.specs.Stream.{Stream}
-use Rattle.is_proto.specs.Lists.{Has}
-use Rattle.is_proto.specs.declared.error.IceError.{IceError}
-use Rattle.is_candidate.specs.Candidates.{CandidateRecord, candidate_at}
-use Rattle.is_candidate.specs.Priorities.{candidate_priority}
-use Rattle.is_pair.specs.Due.{asked}
-use Rattle.is_pair.specs.Pairs.{PairRecord, undue}
-use Rattle.is_rules.specs.Agent.{AgentRecord}
-use Rattle.is_rules.specs.Accepting.{discovered_emitted}
-use Rattle.is_rules.specs.Discarding.{is_local_at, is_remote_at, local_to_discard, remote_to_discard, local_discarded, remote_discarded, InvalidatesAt}
-use Rattle.is_rules.specs.declared.emitted.Path.{Path}
-use Rattle.is_rules.specs.declared.emitted.Emitted.{Emitted}
-use Rattle.is_rules.specs.Effects.{PathEffect}
-use Rattle.is_rules.specs.Local.{comes_again, is_too_high, is_unwanted, preferred, AddsLocal, EnrolsAt}
-use Rattle.is_theorems.specs.Logs.{Logged}
-use Rattle.is_rules.specs.Queue.{request_at, first_taken}
-use Rattle.is_rules.specs.Request.{RequestRecord}
-use Rattle.is_theorems.specs.Rounds.{RunsOn}
-use Rattle.is_theorems.specs.Runs.{IsFresh, Run}
-use Rattle.is_rules.specs.Sending.{path_of}
-use Rattle.is_rules.specs.Settings.{with_rtos}
-use Rattle.is_rules.specs.Settling.{loses_selected, Reselects}
-use Rattle.is_rules.specs.Sound.{IsSound}
-use Rattle.is_theorems.specs.Staying.{Stays, IsOfDiscarded, MayEnd, PairsStay, EndsIn, PairsStayOn}
-use Rattle.is_rules.specs.Steps.{Call, SetMtu, SetControlTieBreaker, SetMaxCandidatePairs, SetMaxDiscovered, SetIceLite, SetRenomination, SetConsent, SetProfile, SetTimingAdvance, SetInitialStunRto, SetMaxStunRto, SetMaxStunRetransmits, SetLiteTimeout, SetLocalPreference, SetControlling, SetLocalCredentials, SetRemoteCredentials, SkipPairIds, AddLocalCandidate, AddRemoteCandidate, InvalidateCandidate, RestartIce, RecreateCandidatePairs, ReceivePacket, HandleTimeout, PollTransmit, PollTimeout, PollEvent, Done, Flag, Entry, Receives, Step}
-use Rattle.is_rules.specs.Timeouts.{at_request, timeout_begun, is_expired, MaintainsPairs, ServesQueued}
+use Rattle.is_theorems.proofs.Common.{[], ◌&&◌, ◌++◌, ◌<◌, ◌==◌, ◌||◌, ◌∙◌, ◌∷◌, ◌≡◌, ◌≤◌, ◌⊎◌, AddLocalCandidate, AddRemoteCandidate}
+use Rattle.is_theorems.proofs.Common.{AddsLocal, AgentRecord, ap, append_assoc, arith, scheduled, at_request, below-each, Bool, Call}
+use Rattle.is_theorems.proofs.Common.{candidate_at, candidate_priority, CandidateRecord, comes_again, discovered_emitted, Done, Emitted}
+use Rattle.is_theorems.proofs.Common.{EndsIn, EnrolsAt, Entry, eqb-true, Err, false, first_taken, Flag, gives_way, HandleTimeout, Has}
+use Rattle.is_theorems.proofs.Common.{IceError, if◌then◌else◌, inl, inr, InvalidateCandidate, InvalidatesAt, is_expired, is_local_at}
+use Rattle.is_theorems.proofs.Common.{is_remote_at, is_too_high, is_unwanted, IsFresh, IsOfDiscarded, IsSound, List, local_discarded}
+use Rattle.is_theorems.proofs.Common.{local_to_discard, Logged, loses_selected, MaintainsPairs, map, MatchOption, MayEnd, nat_lt, None, not}
+use Rattle.is_theorems.proofs.Common.{Ok, Option, PairRecord, PairsStay, PairsStayOn, Path, path_of, PathEffect, PollEvent, PollTimeout}
+use Rattle.is_theorems.proofs.Common.{PollTransmit, preferred, ReceivePacket, Receives, RecreateCandidatePairs, refl, remote_discarded}
+use Rattle.is_theorems.proofs.Common.{remote_to_discard, request_at, RequestRecord, Reselects, RestartIce, Result, rising-each, Run, RunsOn}
+use Rattle.is_theorems.proofs.Common.{ServesQueued, SetConsent, SetControlling, SetControlTieBreaker, SetIceLite, SetInitialStunRto}
+use Rattle.is_theorems.proofs.Common.{SetLiteTimeout, SetLocalCredentials, SetLocalPreference, SetMaxCandidatePairs, SetMaxDiscovered}
+use Rattle.is_theorems.proofs.Common.{SetMaxStunRetransmits, SetMaxStunRto, SetMtu, SetProfile, SetRemoteCredentials, SetRenomination}
+use Rattle.is_theorems.proofs.Common.{SetTimingAdvance, SkipPairIds, Some, Stays, Step, Stream, subst, sym, timeout_begun, true, undue}
+use Rattle.is_theorems.proofs.Common.{with_rtos, ℕ}
 use Rattle.is_theorems.proofs.CallEffects.PathAndTradeEffects.{path_theorem}
 use Rattle.is_theorems.proofs.CallEffects.AddedCandidates.{by_waking}
 use Rattle.is_theorems.proofs.RuleEffects.UnchangedSettings.{either}
 use Rattle.is_theorems.proofs.ExecutionLogs.LogTheorems.{runs_sound}
 use Rattle.is_theorems.proofs.ExecutionLogs.LogSegments.{run-on}
-use Rattle.is_theorems.proofs.CallEffects.FailedCallsAndNewAgents.{mtu_kept, local_kept, remote_kept, restart_kept, recreation_kept, enrolment_kept, storing_kept}
+use Rattle.is_theorems.proofs.CallEffects.FailedCallsAndNewAgents.{mtu_kept, local_kept, remote_kept, restart_kept, recreation_kept}
+use Rattle.is_theorems.proofs.CallEffects.FailedCallsAndNewAgents.{enrolment_kept, storing_kept}
 use Rattle.is_theorems.proofs.StoredPairs.PairsAfterForming.{local-leaves, remote-leaves}
-use Rattle.is_rules.proofs.PairLists.RisingNumbers.{below-each, rising-each}
-use Rattle.is_theorems.proofs.StoredPairs.NumbersThatStay.{is_asked, Persists, Keeps, Keep, keeps-map, keep-same, keep-as, keep-reselects, by-class, keep-serves, maintains_pairs-leaves}
+use Rattle.is_theorems.proofs.StoredPairs.NumbersThatStay.{is_asked, Persists, Keeps, Keep, keeps-map, keep-same, keep-as, keep-reselects}
+use Rattle.is_theorems.proofs.StoredPairs.NumbersThatStay.{by-class, keep-serves, maintains_pairs-leaves}
 use Rattle.is_theorems.proofs.RuleEffects.SelectedPaths.{one_pair}
 use Rattle.is_theorems.proofs.DuePairs.AfterNominationAndRemoval.{Has-kept}
-use Rattle.is_rules.specs.Leaving.{gives_way}
 
 keeps-if : (b : Bool) (xs ys : List PairRecord) → Keeps xs ys → Keeps xs (if b then xs else ys)
 keeps-if true xs ys k n asks h = h
@@ -185,7 +171,7 @@ module _ {H P : Type 0} where
       lasts PollTransmit (given, is, (polled, made), drawn) = inl (becomes _ (λ n asks x. x) made)
       lasts PollTimeout (deadline, is, h, drawn) =
           inl (by_waking old new deadline h (λ made. as-it-was made)
-          (λ at made. becomes _ (keeps-map (asked at old.timing) old.pairs (λ q. (refl, λ is. is))) made))
+          (λ at made. becomes _ (keeps-map (scheduled at old.timing) old.pairs (λ q. (refl, λ is. is))) made))
       lasts PollEvent (given, is, (polled, made), drawn) = inl (becomes _ (λ n asks x. x) made)
 
     -- ---- the step

@@ -1,56 +1,26 @@
 -- A `handle_timeout` call that sends a check stores it.
-use Rattle.std.proofs.Common.{◌≡◌, ℕ, ◌+◌, ◌-◌, ◌<◌, ◌≤◌, ◌==◌, Bool, true, List, [], ◌∷◌, ◌++◌, length, drop, bytes_eq, Option, Some, None, Result, Ok, Err, inl, inr, refl, ap, sym, ◌∙◌, subst, arith, if◌then◌else◌, false}
-use Rattle.std.specs.Prelude.{MatchOption}
-use Rattle.std.specs.List.{list_any}
-use Rattle.std.specs.declared.net.socket_addr.SocketAddr.{SocketAddr}
-use Rattle.std.specs.declared.net.socket_addr.SocketAddr.TheVariants.{V4, V6}
-use Rattle.std.specs.Net.Addr.{ipv4_octets, ipv6_segments}
-use Rattle.std.specs.Net.Socket.{v4_ip, v4_port, v6_ip, v6_port, v6_flowinfo, v6_scope_id}
-use Rattle.std.proofs.lemmas.Bool.{eq-eqb}
-use Rattle.std.proofs.lemmas.List.{length-append, drop-append-le}
-use Rattle.std.proofs.lemmas.Slice.Eq.{bytes_eq-Decides}
-use Rattle.rand_core.specs.Stream.{Stream}
-use Rattle.is_proto.specs.Lists.{Has}
-use Rattle.is_proto.specs.declared.error.IceError.{IceError}
-use Rattle.is_candidate.specs.Addresses.{same_address}
-use Rattle.is_candidate.specs.Candidates.{CandidateRecord, candidate_at}
-use Rattle.is_pair.specs.Multiset.{change_at, change_pair}
-use Rattle.is_pair.specs.Checks.{Check, has_id, is_kept}
-use Rattle.is_pair.specs.Pairs.{PairRecord, check_of, renominated}
-use Rattle.is_stun.specs.declared.header.Class.{Class}
 use Rattle.is_stun.specs.declared.header.Class.TheVariants as class
-use Rattle.is_stun.specs.Theorems.{IsPut}
-use Rattle.is_stun.specs.Writing.{written}
-use Rattle.is_rules.specs.declared.credentials.IceCreds.{IceCreds}
-use Rattle.is_rules.specs.declared.places.RemotePlace.{RemotePlace}
-use Rattle.is_rules.specs.declared.places.RemotePlace.TheVariants.{Known, Barred, Unknown, Vacant, Full}
-use Rattle.is_rules.specs.declared.roles.Conflict.{Conflict}
-use Rattle.is_rules.specs.declared.roles.Conflict.TheVariants.{Absent, Send487, SwitchRole}
 use Rattle.is_rules.specs.declared.emitted.Issued as code
-use Rattle.is_rules.specs.declared.emitted.Path.{Path}
-use Rattle.is_rules.specs.declared.emitted.Emitted.{Emitted}
-use Rattle.is_rules.specs.Agent.{AgentRecord}
-use Rattle.is_rules.specs.Answers.{is_reverse, keeps_check_on}
-use Rattle.is_rules.specs.Checking.{all_asked, check_message, check_sent, IsNextToCheck, ChecksPair, ChecksTop, MayCheck}
-use Rattle.is_theorems.specs.Delivery.{ChecksAreKept}
-use Rattle.is_rules.specs.Forming.{formed, with_pair}
-use Rattle.is_rules.specs.Issuing.{via_out}
-use Rattle.is_rules.specs.Places.{local_place}
-use Rattle.is_rules.specs.Queue.{request_at, first_taken}
-use Rattle.is_rules.specs.Request.{RequestRecord}
-use Rattle.is_rules.specs.Roles.{conflict_of, switched}
-use Rattle.is_rules.specs.Sending.{path_of}
-use Rattle.is_rules.specs.Serving.{is_misled, is_for_other_peer, request_counted, with_sender, with_sender_at, Drops, RecordsAndResponds, FindsOrAddsPair, AddsUnknownSender, CountsAndServes, ResolvesRoleConflictBy, ResolvesRoleConflict, Serves}
-use Rattle.is_rules.specs.Steps.{Entry, HandleTimeout, Step}
-use Rattle.is_rules.specs.Timeouts.{at_request, timeout_begun, MaintainsPairs, ServesQueued, TimesOut}
-use Rattle.is_rules.specs.Emitted.{issued_only, issued_as, reversed}
+use Rattle.is_theorems.proofs.Common.{[], ◌++◌, ◌+◌, ◌-◌, ◌<◌, ◌==◌, ◌∙◌, ◌∷◌, ◌≡◌, ◌≤◌, Absent, AddsUnknownSender, AgentRecord, all_scheduled}
+use Rattle.is_theorems.proofs.Common.{ap, arith, at_request, Barred, Bool, bytes_eq, bytes_eq-Decides, candidate_at, CandidateRecord}
+use Rattle.is_theorems.proofs.Common.{change_at, change_pair, Check, check_message, check_of, check_sent, ChecksAreKept, ChecksPair}
+use Rattle.is_theorems.proofs.Common.{ChecksTop, Class, Conflict, conflict_of, CountsAndServes, drop, drop-append-le, Drops, Emitted, Entry}
+use Rattle.is_theorems.proofs.Common.{eq-eqb, Err, false, FindsOrAddsPair, first_taken, formed, Full, HandleTimeout, Has, has_id, IceCreds}
+use Rattle.is_theorems.proofs.Common.{IceError, if◌then◌else◌, in_turn, inl, inr, ipv4_octets, ipv6_segments, is_for_other_peer, is_kept}
+use Rattle.is_theorems.proofs.Common.{is_misled, is_reverse, IsNextToCheck, IsPut, issued_as, issued_only, keeps_check_on, Known, length}
+use Rattle.is_theorems.proofs.Common.{length-append, List, list_any, local_place, MaintainsPairs, MatchOption, MayCheck, nominates_at_once}
+use Rattle.is_theorems.proofs.Common.{None, Ok, Option, PairRecord, Path, path_of, RecordsAndResponds, refl, RemotePlace, renominated}
+use Rattle.is_theorems.proofs.Common.{request_at, request_counted, RequestRecord, ResolvesRoleConflict, ResolvesRoleConflictBy, Result}
+use Rattle.is_theorems.proofs.Common.{reversed, same_address, Send487, Serves, ServesQueued, SocketAddr, Some, Step, Stream, subst}
+use Rattle.is_theorems.proofs.Common.{switched, SwitchRole, sym, timeout_begun, TimesOut, true, Unknown, V4, v4_ip, v4_port, V6}
+use Rattle.is_theorems.proofs.Common.{v6_flowinfo, v6_ip, v6_port, v6_scope_id, Vacant, via_out, with_pair, with_sender, with_sender_at}
+use Rattle.is_theorems.proofs.Common.{written, ℕ}
 use Rattle.is_theorems.proofs.CallEffects.PathAndTradeEffects.{path_theorem}
 use Rattle.is_theorems.proofs.RuleEffects.UnchangedSettings.{either}
 use Rattle.is_theorems.proofs.BasicLemmas.UsernamesAndFirstMatches.{any_has}
 use Rattle.is_theorems.proofs.BasicLemmas.PairsInTurn.{next-has, sent_at, sent-pairs}
 use Rattle.is_theorems.proofs.CallEffects.ServedRequests.{Has-mapped}
 use Rattle.is_theorems.proofs.RuleEffects.SelectedPaths.{some_is}
-use Rattle.is_rules.specs.Nominating.{nominates_at_once}
 
 pub bytes_same : (a : List ℕ) → bytes_eq a a ≡ true
 bytes_same a = (bytes_eq-Decides a a).1 refl
@@ -65,11 +35,6 @@ same_self (V6 a) = rw (bytes_same (ipv6_segments (v6_ip a)), number_same (v6_por
 
 pub back_again : (via : Path) → is_reverse (reversed via) via ≡ true
 back_again via = rw (same_self via.destination, same_self via.source) refl
-
--- the last one is among the last n, if n is not 0
-Has-last : (cs : List Check) (c : Check) → Has (cs ++ c ∷ []) c
-Has-last [] c = inl refl
-Has-last (x ∷ cs) c = inr (Has-last cs c)
 
 pub Has-rear : (cs ds : List Check) (c : Check) → Has ds c → Has (cs ++ ds) c
 Has-rear [] ds c h = h
@@ -139,7 +104,7 @@ module _ {H P : Type 0} (mac : H → List ℕ → List ℕ → List ℕ) (answer
     here (Some l) s new emitted h = resolves_by (conflict_of s q) l s new emitted h
 
     serves : (s new : AgentRecord H P) (emitted : Emitted) → Serves mac q s emitted new → NoCheck emitted
-    serves s new emitted h = either (is_for_other_peer s q) h (λ _ k. dropped s new emitted k) (λ _ k. here (local_place s.local q) s new emitted k)
+    serves s new emitted h = either (is_for_other_peer s q) (in_turn mac q s new emitted h) (λ _ k. dropped s new emitted k) (λ _ k. here (local_place s.local q) s new emitted k)
 
   -- ---- the check that is sent
 
@@ -180,10 +145,10 @@ module _ {H P : Type 0} (mac : H → List ℕ → List ℕ → List ℕ) (answer
   may_check now (Some remote) old sent s t issued via id some out h = either old.lite h
       (λ _ k. none_out issued via id k.0 out)
       (λ _ k. next k.0 k.1 k.2) where
-        next : (top : Option PairRecord) → IsNextToCheck now (all_asked now old) top → ChecksTop mac now remote top (all_asked now old) s issued sent t
+        next : (top : Option PairRecord) → IsNextToCheck now (all_scheduled now old) top → ChecksTop mac now remote top (all_scheduled now old) s issued sent t
             → list_any (keeps_check_on sent (reversed via) id) sent.pairs ≡ true
         next None chosen h = none_out issued via id h.0 out
-        next (Some p) chosen h = checked_pair now remote p (all_asked now old) sent s t issued via id (next-has now (all_asked now old) p chosen) some out h
+        next (Some p) chosen h = checked_pair now remote p (all_scheduled now old) sent s t issued via id (next-has now (all_scheduled now old) p chosen) some out h
 
   pub checks-are-kept : ChecksAreKept mac answers
   checks-are-kept a sent s t now check id e sound step sends =
@@ -240,9 +205,9 @@ module _ {H P : Type 0} (mac : H → List ℕ → List ℕ → List ℕ) (answer
     checked (Some remote) old issued known emitted h = either old.lite h
         (λ _ k. none_out issued via id k.0 emitted)
         (λ _ k. next k.0 k.1 k.2) where
-          next : (top : Option PairRecord) → IsNextToCheck now (all_asked now old) top → ChecksTop mac now remote top (all_asked now old) s issued sent t → Checks now via id sent
+          next : (top : Option PairRecord) → IsNextToCheck now (all_scheduled now old) top → ChecksTop mac now remote top (all_scheduled now old) s issued sent t → Checks now via id sent
           next None chosen k = none_out issued via id k.0 emitted
-          next (Some p) chosen k = pair_checked remote p (all_asked now old) issued (next-has now (all_asked now old) p chosen) known emitted k
+          next (Some p) chosen k = pair_checked remote p (all_scheduled now old) issued (next-has now (all_scheduled now old) p chosen) known emitted k
 
     timeout : (emitted : Emitted) → e.emitted ≡ emitted → (o : Option RequestRecord)
         → MatchOption o (MaintainsPairs mac now (timeout_begun now a) s emitted sent t) (λ q. ServesQueued mac q (at_request now (timeout_begun now a)) s emitted sent t) → Checks now via id sent

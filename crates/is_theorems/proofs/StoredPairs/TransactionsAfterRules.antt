@@ -1,43 +1,22 @@
 -- Each step leaves each pair its pending transactions, except for steps that remove pairs. A check that is sent is appended
 -- to them.
-use Rattle.std.proofs.Common.{◌≡◌, ℕ, zero, suc, ◌-◌, ◌&&◌, ◌||◌, Bool, true, false, not, List, [], ◌∷◌, ◌++◌, length, map, drop, Option, Some, None, inl, inr, ◌⊎◌, refl, ap, sym, ◌∙◌, subst, if◌then◌else◌}
-use Rattle.std.proofs.lemmas.Bool.{eqb-true}
-use Rattle.std.proofs.lemmas.List.{map-append, drop-map, length-map}
-use Rattle.std.specs.Prelude.{MatchOption, slice_get, slice_set}
-use Rattle.std.specs.List.{list_any}
-use Rattle.rand_core.specs.Stream.{Stream}
-use Rattle.is_proto.specs.Lists.{Has, same}
-use Rattle.is_candidate.specs.Candidates.{candidate_at}
-use Rattle.is_pair.specs.Checks.{Check, answered_at, last_checks}
-use Rattle.is_pair.specs.Pairs.{PairRecord, TakesAnswer, is_nominated, with_request, validated, nominated, check_of, heard, heard_at, renominated}
 use Rattle.is_pair.specs.Due as due
-use Rattle.is_pair.specs.Multiset.{is_numbered, change_at, is_valid_at, change_pair}
-use Rattle.is_stun.specs.declared.header.Class.{Class}
 use Rattle.is_stun.specs.declared.header.Class.TheVariants as class
-use Rattle.is_stun.specs.declared.timing.StunTiming.{StunTiming}
-use Rattle.is_stun.specs.Message.{Message}
-use Rattle.is_rules.specs.declared.credentials.IceCreds.{IceCreds}
-use Rattle.is_rules.specs.declared.places.RemotePlace.{RemotePlace}
-use Rattle.is_rules.specs.declared.places.RemotePlace.TheVariants.{Known, Barred, Unknown, Vacant, Full}
-use Rattle.is_rules.specs.declared.roles.Conflict.{Conflict}
-use Rattle.is_rules.specs.declared.roles.Conflict.TheVariants.{Absent, Send487, SwitchRole}
-use Rattle.is_rules.specs.declared.emitted.Issued.{Issued}
-use Rattle.is_rules.specs.declared.emitted.Path.{Path}
-use Rattle.is_rules.specs.declared.emitted.Emitted.{Emitted}
-use Rattle.is_rules.specs.Request.{RequestRecord, request_in}
-use Rattle.is_rules.specs.Agent.{AgentRecord}
-use Rattle.is_rules.specs.Places.{local_place}
-use Rattle.is_rules.specs.Forming.{formed, with_pair}
-use Rattle.is_rules.specs.Nominating.{nominated_by_self, Nominates, followed, remains, selection_of, nominates_at_once, numbers}
-use Rattle.is_rules.specs.Roles.{conflict_of, switched, switched_sides, with_priority_in}
-use Rattle.is_rules.specs.Serving.{selects_at_requests, after_request, served, is_misled, is_for_other_peer, pair_served, request_counted, with_sender, with_sender_at, validated_by_peer, Drops, Queues, RecordsAndResponds, FindsOrAddsPair, AddsUnknownSender, CountsAndServes, ResolvesRoleConflictBy, ResolvesRoleConflict, Serves, as_taken, nominated_by_peer}
-use Rattle.is_rules.specs.Answers.{HandlesSuccess, HandlesFailure}
-use Rattle.is_rules.specs.Accepting.{Takes}
-use Rattle.is_rules.specs.Checking.{all_asked, check_sent, IsNextToCheck, ChecksTop, MayCheck}
-use Rattle.is_rules.specs.Emitted.{issued_as}
-use Rattle.is_rules.specs.Settling.{Reselects}
-use Rattle.is_rules.specs.Timeouts.{at_timeout, is_expired, expired_gone, RemovesExpired, MaintainsPairs}
-use Rattle.is_rules.specs.States.{evaluated}
+use Rattle.is_theorems.proofs.Common.{[], ◌&&◌, ◌++◌, ◌-◌, ◌||◌, ◌∙◌, ◌∷◌, ◌≡◌, ◌⊎◌, Absent, AddsUnknownSender, after_request, AgentRecord}
+use Rattle.is_theorems.proofs.Common.{all_scheduled, answered_at, ap, as_sent, as_taken, at_timeout, Barred, Bool, candidate_at, change_at}
+use Rattle.is_theorems.proofs.Common.{change_pair, Check, check_of, check_sent, ChecksTop, Class, Conflict, conflict_of, CountsAndServes}
+use Rattle.is_theorems.proofs.Common.{drop, drop-map, Drops, Emitted, eqb-true, evaluated, expired_gone, false, FindsOrAddsPair, followed}
+use Rattle.is_theorems.proofs.Common.{formed, Full, gives_way, HandlesFailure, HandlesSuccess, Has, hastened, heard, heard_at, IceCreds}
+use Rattle.is_theorems.proofs.Common.{if◌then◌else◌, in_turn, inl, inr, is_expired, is_for_other_peer, is_misled, is_nominated, is_numbered}
+use Rattle.is_theorems.proofs.Common.{is_valid_at, IsNextToCheck, Issued, issued_as, Known, last_checks, length, length-map, List, list_any}
+use Rattle.is_theorems.proofs.Common.{local_place, MaintainsPairs, map, map-append, MatchOption, MayCheck, Message, nominated}
+use Rattle.is_theorems.proofs.Common.{nominated_by_peer, nominated_by_self, Nominates, nominates_at_once, None, not, numbers, Option}
+use Rattle.is_theorems.proofs.Common.{pair_served, PairRecord, Path, path_left, path_of, Queues, RecordsAndResponds, refl, remains}
+use Rattle.is_theorems.proofs.Common.{RemotePlace, RemovesExpired, renominated, request_counted, request_in, RequestRecord, Reselects}
+use Rattle.is_theorems.proofs.Common.{ResolvesRoleConflict, ResolvesRoleConflictBy, same, selection_of, selects_at_requests, Send487}
+use Rattle.is_theorems.proofs.Common.{sent_of, served, Serves, slice_get, slice_set, Some, Stream, StunTiming, subst, suc, switched}
+use Rattle.is_theorems.proofs.Common.{switched_sides, SwitchRole, sym, Takes, TakesAnswer, true, Unknown, Vacant, validated}
+use Rattle.is_theorems.proofs.Common.{validated_by_peer, with_pair, with_priority_in, with_request, with_sender, with_sender_at, zero, ℕ}
 use Rattle.is_theorems.proofs.RuleEffects.UnchangedSettings.{either}
 use Rattle.is_theorems.proofs.RuleEffects.NominatedPairs.{SelectsPath, selects_path, expired_nominated}
 use Rattle.is_theorems.proofs.BasicLemmas.PairsInTurn.{next-has, sent-number, sent-pairs, sent_at}
@@ -45,18 +24,15 @@ use Rattle.is_theorems.proofs.CallEffects.ServedRequests.{Has-mapped}
 use Rattle.is_theorems.proofs.RuleEffects.SelectedPaths.{some_is}
 use Rattle.is_theorems.proofs.DuePairs.AfterNominationAndRemoval.{Base, base_of as agent_base, Has-kept, names-thins, gives-up-thins}
 use Rattle.is_theorems.proofs.StoredPairs.StoredChecks.{number_same}
-use Rattle.is_theorems.specs.Pending.{as_sent, sent_of}
-use Rattle.is_rules.specs.Sending.{path_of}
 use Rattle.is_theorems.proofs.RuleEffects.Reselection.{by-reselecting}
 use Rattle.is_theorems.proofs.RuleEffects.TriggeredPairs.{triggered_by, by_trigger}
 use Rattle.is_theorems.proofs.BasicLemmas.ServedPairs.{numbered-by}
 use Rattle.is_theorems.proofs.RuleEffects.NotedErrors.{coded, recoded, by_failure}
-use Rattle.is_rules.specs.Leaving.{gives_way, hastened, path_left}
 use Rattle.is_theorems.proofs.RuleEffects.HastenedPairs.{by-hastened, hastened-expires, left-has, Hastens}
 
 -- ---- lists
 
--- the same pair, with the same checks, answered or not
+-- o and q are one pair, with the same checks, answered or not
 abbrev pub Same : PairRecord → PairRecord → Type 0
 Same o q = (q.number ≡ o.number) × (sent_of q ≡ sent_of o)
 
@@ -226,7 +202,7 @@ module _ {H P : Type 0} where
         × ((c : Check) × (sent_of q ≡ last_checks kept (sent_of p ++ c ∷ []))
         × ((r : PairRecord) × Has new.pairs r × (r.number ≡ p.number) × (issued ≡ Some (issued_as (path_of new r) class.Request c.id))))
 
-    -- the same for the pair that it was before
+    -- a check that was sent by a pair was sent by the pair that it was before
     sends-on : (m n : ℕ) (p q : PairRecord) (issued out : Option Issued) (new : AgentRecord H P) → Same p q → m ≡ n → out ≡ issued → Sends m q issued new → Sends n p out new
     sends-on m n p q issued out new same limit emitted (x, has, number, (c, sent, (r, there, one, is))) = (
       x,
@@ -246,13 +222,13 @@ module _ {H P : Type 0} where
         (λ _ k. inl (keep-as old _ new (keeps-map (heard now) old.pairs (λ q. heard-same now q.last_request q)) k.1 p has))
         (λ _ k. next k.0 k.1 k.2) where
           all : AgentRecord H P
-          all = all_asked now old
+          all = all_scheduled now old
 
           first : PairRecord
-          first = due.asked now old.timing p
+          first = due.scheduled now old.timing p
 
           there : Has all.pairs first
-          there = Has-mapped (due.asked now old.timing) old.pairs p has
+          there = Has-mapped (due.scheduled now old.timing) old.pairs p has
 
           next : (top : Option PairRecord) → IsNextToCheck now all top → ChecksTop mac now peer top all s issued new t
               → Persists p new.pairs ⊎ Sends old.timing.max_retransmits p issued new
@@ -373,7 +349,7 @@ module _ {H P : Type 0} where
       here (Some l) s new emitted h = resolves (conflict_of s q) l s new emitted h
 
       pub keep-serves : (s new : AgentRecord H P) (emitted : Emitted) → Serves mac q s emitted new → Keep s new
-      keep-serves s new emitted h = either (is_for_other_peer s q) h
+      keep-serves s new emitted h = either (is_for_other_peer s q) (in_turn mac q s new emitted h)
           (λ _ k. keep-same s new k.1)
           (λ _ k. here (local_place s.local q) s new emitted k)
 

@@ -1,44 +1,22 @@
 -- Packets and polls leave each pending transaction of a pair, on its path.
-use Rattle.std.proofs.Common.{is_some, ◌≡◌, ℕ, zero, suc, ◌+◌, ◌<◌, ◌&&◌, ◌||◌, Bool, true, false, not, List, [], ◌∷◌, ◌++◌, length, map, Option, Some, None, Result, Ok, Err, inl, inr, ◌⊎◌, refl, ap, sym, ◌∙◌, subst, arith, if◌then◌else◌}
-use Rattle.std.specs.Prelude.{MatchOption, slice_get, slice_set}
-use Rattle.std.specs.List.{list_any}
-use Rattle.std.specs.declared.net.socket_addr.SocketAddr.{SocketAddr}
-use Rattle.std.proofs.lemmas.List.{length-append}
-use Rattle.rand_core.specs.Stream.{Stream}
-use Rattle.is_proto.specs.Lists.{Has, same}
-use Rattle.is_proto.specs.declared.error.IceError.{IceError}
-use Rattle.is_candidate.specs.Candidates.{CandidateRecord, base_of, candidate_at}
-use Rattle.is_pair.specs.Multiset.{is_numbered, change_at, is_valid_at, keeps_check}
-use Rattle.is_pair.specs.Checks.{has_id, is_kept, answered_at}
-use Rattle.is_pair.specs.Due.{asked}
-use Rattle.is_pair.specs.Pairs.{PairRecord, TakesAnswer, is_nominated, nominated, validated, with_request}
-use Rattle.is_stun.specs.declared.header.Class.{Class}
 use Rattle.is_stun.specs.declared.header.Class.TheVariants as class
-use Rattle.is_stun.specs.Message.{Message}
-use Rattle.is_rules.specs.declared.credentials.IceCreds.{IceCreds}
-use Rattle.is_rules.specs.declared.places.RemotePlace.{RemotePlace}
-use Rattle.is_rules.specs.declared.places.RemotePlace.TheVariants.{Known, Barred, Unknown, Vacant, Full}
-use Rattle.is_rules.specs.declared.roles.Conflict.{Conflict}
-use Rattle.is_rules.specs.declared.roles.Conflict.TheVariants.{Absent, Send487, SwitchRole}
-use Rattle.is_rules.specs.declared.emitted.Path.{Path}
-use Rattle.is_rules.specs.declared.emitted.Emitted.{Emitted}
-use Rattle.is_rules.specs.Accepting.{Takes, HandlesPacket, discovered_emitted}
-use Rattle.is_rules.specs.Agent.{AgentRecord}
-use Rattle.is_rules.specs.Answers.{is_left_out, is_reverse, keeps_check_on, mapped_candidate, local_with, mapped_added, success_counted, Records, HandlesSuccess, HandlesFailure}
-use Rattle.is_theorems.specs.Exchange.{AreBetween, Execution, ChecksStay}
-use Rattle.is_rules.specs.Forming.{formed, with_pair}
-use Rattle.is_rules.specs.Limit.{IsSenderPlace}
-use Rattle.is_rules.specs.Nominating.{nominated_by_self, Nominates, NominatesWhere, followed, remains, selection_of, numbers}
-use Rattle.is_rules.specs.Places.{local_place}
-use Rattle.is_rules.specs.Polls.{NextTimeoutFrom}
-use Rattle.is_rules.specs.Request.{RequestRecord, request_in}
-use Rattle.is_rules.specs.Roles.{conflict_of, switched, switched_sides, with_priority_in}
-use Rattle.is_theorems.specs.Rounds.{is_between}
-use Rattle.is_rules.specs.Sending.{path_of, path_between}
-use Rattle.is_rules.specs.Settling.{settled}
-use Rattle.is_rules.specs.Serving.{trigger_time, selects_at_requests, after_request, served, validated_by_peer, is_misled, is_for_other_peer, pair_served, request_counted, with_sender, with_sender_at, sender_candidate, replied, Drops, Queues, RecordsAndResponds, FindsOrAddsPair, AddsUnknownSender, CountsAndServes, ResolvesRoleConflictBy, ResolvesRoleConflict, Serves, as_taken, nominated_by_peer}
-use Rattle.is_rules.specs.Sound.{IsSound, IsPlaced}
-use Rattle.is_rules.specs.Steps.{Call, Entry, ReceivePacket, PollTransmit, PollTimeout, PollEvent, Step}
+use Rattle.is_theorems.proofs.Common.{[], ◌&&◌, ◌++◌, ◌+◌, ◌<◌, ◌||◌, ◌∙◌, ◌∷◌, ◌≡◌, ◌⊎◌, Absent, AddsUnknownSender, after_request}
+use Rattle.is_theorems.proofs.Common.{AgentRecord, answered_at, ap, AreBetween, arith, as_taken, scheduled, Barred, base_of, Bool, Call}
+use Rattle.is_theorems.proofs.Common.{candidate_at, CandidateRecord, change_at, ChecksStay, Class, Conflict, conflict_of, CountsAndServes}
+use Rattle.is_theorems.proofs.Common.{discovered_emitted, Drops, Emitted, Entry, Err, Execution, false, FindsOrAddsPair, followed, formed}
+use Rattle.is_theorems.proofs.Common.{Full, HandlesFailure, HandlesPacket, HandlesSuccess, Has, has_id, IceCreds, IceError, if◌then◌else◌}
+use Rattle.is_theorems.proofs.Common.{in_turn, inl, inr, is_between, is_for_other_peer, is_kept, is_left_out, is_misled, is_nominated}
+use Rattle.is_theorems.proofs.Common.{is_numbered, is_reverse, is_some, is_valid_at, IsPlaced, IsSenderPlace, IsSound, keeps_check}
+use Rattle.is_theorems.proofs.Common.{keeps_check_on, Known, length, length-append, List, list_any, local_place, local_with, map}
+use Rattle.is_theorems.proofs.Common.{mapped_added, mapped_candidate, MatchOption, Message, NextTimeoutFrom, nominated, nominated_by_peer}
+use Rattle.is_theorems.proofs.Common.{nominated_by_self, Nominates, NominatesWhere, None, not, numbers, Ok, Option, pair_served, PairRecord}
+use Rattle.is_theorems.proofs.Common.{Path, path_between, path_of, PollEvent, PollTimeout, PollTransmit, Queues, ReceivePacket, Records}
+use Rattle.is_theorems.proofs.Common.{RecordsAndResponds, refl, remains, RemotePlace, replied, request_counted, request_in, RequestRecord}
+use Rattle.is_theorems.proofs.Common.{ResolvesRoleConflict, ResolvesRoleConflictBy, Result, same, selection_of, selects_at_requests}
+use Rattle.is_theorems.proofs.Common.{Send487, sender_candidate, served, Serves, state_updated, slice_get, slice_set, SocketAddr, Some, Step}
+use Rattle.is_theorems.proofs.Common.{Stream, subst, suc, success_counted, switched, switched_sides, SwitchRole, sym, Takes, TakesAnswer}
+use Rattle.is_theorems.proofs.Common.{trigger_time, true, Unknown, Vacant, validated, validated_by_peer, with_pair, with_priority_in}
+use Rattle.is_theorems.proofs.Common.{with_request, with_sender, with_sender_at, zero, ℕ}
 use Rattle.is_theorems.proofs.BasicLemmas.EqualAddresses.{both}
 use Rattle.is_theorems.proofs.DuePairs.AfterPackets.{Grown}
 use Rattle.is_theorems.proofs.CallEffects.PathAndTradeEffects.{path_theorem}
@@ -232,7 +210,7 @@ module _ {H P : Type 0} where
           (stays_by s (pair_served q number s) (inl refl) (inl refl)
           (mapped_pairs (change_at number (after_request q s)) s.pairs (λ p. at_alike number (after_request q s) p (request_alike q s p))))
           (stays_on (pair_served q number s) mid new (nominates_where (selects_at_requests s && is_valid_at number s.pairs) (pair_served q number s) mid path nominates)
-          (subst (λ (a : AgentRecord H P). Stays mid a) (sym made) (stays_by mid (replied mac q (path_between s l r) (settled (is_some path) (trigger_time q s) mid)) (inl refl) (inl refl) (same_pairs mid.pairs))))
+          (subst (λ (a : AgentRecord H P). Stays mid a) (sym made) (stays_by mid (replied mac q (path_between s l r) (state_updated (is_some path) (trigger_time q s) mid)) (inl refl) (inl refl) (same_pairs mid.pairs))))
 
       takes_at : (l r : ℕ) (number : Option ℕ) (s new : AgentRecord H P) (emitted : Emitted) → FindsOrAddsPair mac q l r number s emitted new → Stays s new
       takes_at l r (Some number) s new emitted h = at_pair l r number s new emitted h
@@ -274,7 +252,7 @@ module _ {H P : Type 0} where
       requested : (remote : Option IceCreds) (s new : AgentRecord H P) (emitted : Emitted)
           → MatchOption remote (Queues q s emitted new) (λ _. Serves mac q s emitted new) → Stays s new
       requested None s new emitted h = subst (λ (a : AgentRecord H P). Stays s a) (sym h.1) (stays_by s _ (inl refl) (inl refl) (same_pairs s.pairs))
-      requested (Some peer) s new emitted h = either (is_for_other_peer s q) h
+      requested (Some peer) s new emitted h = either (is_for_other_peer s q) (in_turn mac q s new emitted h)
           (λ _ k. stays_same s new k.1)
           (λ _ k. here (local_place s.local q) s new emitted k)
 
@@ -334,7 +312,7 @@ module _ {H P : Type 0} where
     timeouts (Some last) (Some at) old new h = by_deadline old new last at h
         (λ made. stays_same old new made)
         (λ made. subst (λ (a : AgentRecord H P). Stays old a) (sym made) (stays_by old _ (inl refl) (inl refl)
-        (mapped_pairs (asked last old.timing) old.pairs (λ p. record { local = refl; remote = refl; checks = λ id. refl }))))
+        (mapped_pairs (scheduled last old.timing) old.pairs (λ p. record { local = refl; remote = refl; checks = λ id. refl }))))
 
     module _ (answers : P → CandidateRecord → ℕ → ℕ → Type 0) where
       one : (call : Call P) (e : Entry) (old new : AgentRecord H P) (s t : Stream) → is_between call ≡ true → Step mac answers old s call e new t → Stays old new

@@ -1,47 +1,27 @@
 -- A check stays stored over each call, and over a per-agent execution, until its pair is removed or has sent as many
 -- later checks as are stored. So its exchange succeeds later, too.
-use Rattle.std.proofs.Common.{◌≡◌, ℕ, suc, ◌+◌, ◌-◌, ◌<◌, ◌≤◌, ◌==◌, ◌&&◌, Bool, true, false, not, List, [], ◌∷◌, ◌++◌, length, map, drop, Option, Some, None, Result, Ok, Err, inl, inr, ◌⊎◌, refl, ap, sym, ◌∙◌, subst, arith, append_assoc, if◌then◌else◌}
-use Rattle.std.specs.Prelude.{MatchOption, nat_lt}
-use Rattle.std.proofs.lemmas.Bool.{eqb-true, ltb-true, ltb-false}
-use Rattle.std.proofs.lemmas.List.{length-append, drop-append-le}
-use Rattle.rand_core.specs.Stream.{Stream}
-use Rattle.is_proto.specs.Lists.{Has}
-use Rattle.is_proto.specs.declared.error.IceError.{IceError}
-use Rattle.is_candidate.specs.Candidates.{CandidateRecord, candidate_at}
-use Rattle.is_candidate.specs.Priorities.{candidate_priority}
-use Rattle.is_pair.specs.Due.{asked}
-use Rattle.is_pair.specs.Checks.{Check, has_id, last_checks}
-use Rattle.is_pair.specs.Pairs.{PairRecord, undue, is_valid, check_of, renominated}
 use Rattle.is_stun.specs.declared.header.Class.TheVariants as class
-use Rattle.is_rules.specs.Agent.{AgentRecord}
-use Rattle.is_rules.specs.Accepting.{discovered_emitted}
-use Rattle.is_rules.specs.Discarding.{is_local_at, is_remote_at, local_to_discard, remote_to_discard, local_discarded, remote_discarded, InvalidatesAt}
-use Rattle.is_rules.specs.declared.emitted.Path.{Path}
-use Rattle.is_rules.specs.declared.emitted.Emitted.{Emitted}
-use Rattle.is_rules.specs.Effects.{PathEffect}
-use Rattle.is_rules.specs.Local.{comes_again, is_too_high, is_unwanted, preferred, AddsLocal, EnrolsAt}
-use Rattle.is_rules.specs.Queue.{request_at, first_taken}
-use Rattle.is_rules.specs.Request.{RequestRecord}
-use Rattle.is_rules.specs.Sending.{path_of}
-use Rattle.is_rules.specs.Settings.{with_rtos}
-use Rattle.is_rules.specs.Settling.{loses_selected, Reselects}
-use Rattle.is_rules.specs.Sound.{IsSound}
-use Rattle.is_theorems.specs.Staying.{IsOfDiscarded, MayEnd}
-use Rattle.is_rules.specs.Emitted.{issued_as}
-use Rattle.is_theorems.specs.Pending.{as_sent, sent_of, is_check_on, checks_on, SendsLater, Follows, Pends, PendsAfter, EndsOf, ReturnedWhilePending, SucceedsOrEnds, IsValidBy, PairsKeepChecks, ChecksPend, ChecksPendAlong, ExchangesSucceedLater}
-use Rattle.std.specs.Prelude.{bytes_eq}
-use Rattle.std.specs.List.{list_any}
-use Rattle.is_proto.specs.Packets.{Packet}
-use Rattle.is_candidate.specs.Addresses.{protocol_number}
-use Rattle.is_pair.specs.Multiset.{change_at, keeps_check, change_pair}
-use Rattle.is_rules.specs.Answers.{is_reverse, keeps_check_on}
-use Rattle.is_theorems.specs.AskedExecutions.{EndsAlong}
-use Rattle.is_rules.specs.Checking.{check_sent}
-use Rattle.is_rules.specs.declared.emitted.Issued.{Issued}
-use Rattle.is_theorems.specs.Carried.{CarriedAreServed, CarriedAreAccepted, CarriedBack, CarriedSucceedLater}
-use Rattle.is_theorems.specs.Delivery.{IsTaken, SentCheck, ReceivedPacket, ServedCheck}
-use Rattle.is_rules.specs.Issuing.{via_out}
-use Rattle.is_rules.specs.Points.{AnswersAreValid}
+use Rattle.is_theorems.proofs.Common.{[], ◌&&◌, ◌++◌, ◌+◌, ◌-◌, ◌<◌, ◌==◌, ◌∙◌, ◌∷◌, ◌≡◌, ◌≤◌, ◌⊎◌, AddLocalCandidate, AddRemoteCandidate}
+use Rattle.is_theorems.proofs.Common.{AddsLocal, AgentRecord, AnswersAreValid, ap, append_assoc, arith, as_sent, scheduled, at_request}
+use Rattle.is_theorems.proofs.Common.{below-each, Bool, bytes_eq, Call, candidate_at, candidate_priority, CandidateRecord}
+use Rattle.is_theorems.proofs.Common.{CarriedAreAccepted, CarriedAreServed, CarriedBack, CarriedSucceedLater, change_at, change_pair, Check}
+use Rattle.is_theorems.proofs.Common.{check_of, check_sent, checks_on, ChecksPend, ChecksPendAlong, comes_again, discovered_emitted, Done}
+use Rattle.is_theorems.proofs.Common.{drop, drop-append-le, Emitted, EndsAlong, EndsOf, EnrolsAt, Entry, eqb-true, Err}
+use Rattle.is_theorems.proofs.Common.{ExchangesSucceedLater, false, first_taken, Flag, Follows, HandleTimeout, Has, has_id, IceError}
+use Rattle.is_theorems.proofs.Common.{if◌then◌else◌, inl, inr, InvalidateCandidate, InvalidatesAt, is_check_on, is_local_at, is_remote_at}
+use Rattle.is_theorems.proofs.Common.{is_reverse, is_too_high, is_unwanted, is_valid, IsOfDiscarded, IsSound, Issued, issued_as, IsTaken}
+use Rattle.is_theorems.proofs.Common.{IsValidBy, keeps_check, keeps_check_on, last_checks, length, length-append, List, list_any}
+use Rattle.is_theorems.proofs.Common.{local_discarded, local_to_discard, loses_selected, ltb-false, ltb-true, MaintainsPairs, map}
+use Rattle.is_theorems.proofs.Common.{MatchOption, MayEnd, nat_lt, nominates_at_once, None, not, Ok, Option, Packet, PairRecord}
+use Rattle.is_theorems.proofs.Common.{PairsKeepChecks, Path, path_of, PathEffect, Pends, PendsAfter, PollEvent, PollTimeout, PollTransmit}
+use Rattle.is_theorems.proofs.Common.{preferred, protocol_number, ReceivedPacket, ReceivePacket, Receives, RecreateCandidatePairs, refl}
+use Rattle.is_theorems.proofs.Common.{remote_discarded, remote_to_discard, renominated, request_at, RequestRecord, Reselects, RestartIce}
+use Rattle.is_theorems.proofs.Common.{Result, ReturnedWhilePending, rising-each, SendsLater, sent_of, SentCheck, ServedCheck, ServesQueued}
+use Rattle.is_theorems.proofs.Common.{SetConsent, SetControlling, SetControlTieBreaker, SetIceLite, SetInitialStunRto, SetLiteTimeout}
+use Rattle.is_theorems.proofs.Common.{SetLocalCredentials, SetLocalPreference, SetMaxCandidatePairs, SetMaxDiscovered}
+use Rattle.is_theorems.proofs.Common.{SetMaxStunRetransmits, SetMaxStunRto, SetMtu, SetProfile, SetRemoteCredentials, SetRenomination}
+use Rattle.is_theorems.proofs.Common.{SetTimingAdvance, SkipPairIds, Some, Step, Stream, subst, suc, SucceedsOrEnds, sym, timeout_begun}
+use Rattle.is_theorems.proofs.Common.{true, undue, via_out, with_rtos, ℕ}
 use Rattle.is_theorems.proofs.BasicLemmas.EqualAddresses.{both}
 use Rattle.is_theorems.proofs.CheckExchanges.ReturnedResponses.{issued-check, issued-reply, sound-sent}
 use Rattle.is_theorems.proofs.StoredPairs.StoredChecks.{Checks, checks-as, back_again, bytes_same, same_self, number_same, Has-rear}
@@ -49,18 +29,16 @@ use Rattle.is_theorems.proofs.RuleEffects.ChangedPairs.{Has-map}
 use Rattle.is_theorems.proofs.BasicLemmas.UsernamesAndFirstMatches.{any_has}
 use Rattle.is_theorems.proofs.CallEffects.ServedRequests.{Has-mapped}
 use Rattle.is_theorems.proofs.StoredPairs.TransactionsOverPackets.{sound-execution}
-use Rattle.is_rules.specs.Steps.{Call, SetMtu, SetControlTieBreaker, SetMaxCandidatePairs, SetMaxDiscovered, SetIceLite, SetRenomination, SetConsent, SetProfile, SetTimingAdvance, SetInitialStunRto, SetMaxStunRto, SetMaxStunRetransmits, SetLiteTimeout, SetLocalPreference, SetControlling, SetLocalCredentials, SetRemoteCredentials, SkipPairIds, AddLocalCandidate, AddRemoteCandidate, InvalidateCandidate, RestartIce, RecreateCandidatePairs, ReceivePacket, HandleTimeout, PollTransmit, PollTimeout, PollEvent, Done, Flag, Entry, Receives, Step}
-use Rattle.is_rules.specs.Timeouts.{at_request, timeout_begun, MaintainsPairs, ServesQueued}
 use Rattle.is_theorems.proofs.CallEffects.PathAndTradeEffects.{path_theorem}
 use Rattle.is_theorems.proofs.CallEffects.AddedCandidates.{by_waking}
 use Rattle.is_theorems.proofs.RuleEffects.UnchangedSettings.{either}
-use Rattle.is_theorems.proofs.CallEffects.FailedCallsAndNewAgents.{mtu_kept, local_kept, remote_kept, restart_kept, recreation_kept, enrolment_kept, storing_kept}
+use Rattle.is_theorems.proofs.CallEffects.FailedCallsAndNewAgents.{mtu_kept, local_kept, remote_kept, restart_kept, recreation_kept}
+use Rattle.is_theorems.proofs.CallEffects.FailedCallsAndNewAgents.{enrolment_kept, storing_kept}
 use Rattle.is_theorems.proofs.StoredPairs.PairsAfterForming.{local-leaves, remote-leaves}
-use Rattle.is_rules.proofs.PairLists.RisingNumbers.{below-each, rising-each}
-use Rattle.is_theorems.proofs.StoredPairs.TransactionsAfterRules.{Persists, Keeps, Keep, Sends, keeps-self, keeps-map, keep-same, keep-as, keep-reselects, by-class, keep-serves, maintains_pairs, sent-last}
+use Rattle.is_theorems.proofs.StoredPairs.TransactionsAfterRules.{Persists, Keeps, Keep, Sends, keeps-self, keeps-map, keep-same, keep-as}
+use Rattle.is_theorems.proofs.StoredPairs.TransactionsAfterRules.{keep-reselects, by-class, keep-serves, maintains_pairs, sent-last}
 use Rattle.is_theorems.proofs.RuleEffects.SelectedPaths.{one_pair}
 use Rattle.is_theorems.proofs.DuePairs.AfterNominationAndRemoval.{Has-kept}
-use Rattle.is_rules.specs.Nominating.{nominates_at_once}
 use Rattle.is_theorems.proofs.BasicLemmas.PairsInTurn.{by-begins, sent-number, sent-pairs, sent_at}
 
 keeps-if : (b : Bool) (xs ys : List PairRecord) → Keeps xs ys → Keeps xs (if b then xs else ys)
@@ -218,7 +196,7 @@ module _ {H P : Type 0} where
       lasts PollTransmit (given, is, (polled, made), drawn) = inl (becomes _ (keeps-self old.pairs) made)
       lasts PollTimeout (deadline, is, h, drawn) =
           inl (by_waking old new deadline h (λ made. as-it-was made)
-          (λ at made. becomes _ (keeps-map (asked at old.timing) old.pairs (λ q. (refl, refl))) made))
+          (λ at made. becomes _ (keeps-map (scheduled at old.timing) old.pairs (λ q. (refl, refl))) made))
       lasts PollEvent (given, is, (polled, made), drawn) = inl (becomes _ (keeps-self old.pairs) made)
 
     -- ---- the step

@@ -1,31 +1,15 @@
 -- A `handle_timeout` call that selects no path, at which an urgent pair is due, checks it, or goes to the pair that is due first and lets the next
 -- check go ahead, or checks the selected pair or an urgent pair whose turn comes before.
-use Rattle.std.proofs.Common.{◌≡◌, ℕ, ◌+◌, ◌<◌, ◌≤◌, ◌==◌, ◌&&◌, ◌||◌, Bool, true, false, not, List, map, nat_le, Option, Some, None, is_some, inl, inr, ◌⊎◌, refl, ap, sym, ◌∙◌, subst, arith, if◌then◌else◌}
-use Rattle.std.specs.Prelude.{MatchBool}
-use Rattle.std.specs.List.{list_any}
-use Rattle.std.proofs.lemmas.Bool.{eq-eqb, eqb-true}
-use Rattle.std.proofs.lemmas.Bool.Decides.{nat_tests}
-use Rattle.rand_core.specs.Stream.{Stream}
-use Rattle.is_proto.specs.Lists.{Has}
-use Rattle.is_pair.specs.Due.{asked, due_time_of, is_due, is_urgent, IsNextDue}
-use Rattle.is_pair.specs.Multiset.{is_named_by, is_numbered}
-use Rattle.is_pair.specs.Pairs.{PairRecord}
 use Rattle.is_stun.specs.declared.header.Class.TheVariants as class
-use Rattle.is_stun.specs.Timing.{is_modern}
-use Rattle.is_rules.specs.Agent.{AgentRecord}
-use Rattle.is_rules.specs.Checking.{all_asked, are_kinds_in_turn, has_first, is_ahead_turn, precedence, ChecksTop, GoesAhead, IsNextInTurn, IsNextToCheck, MayCheck}
-use Rattle.is_rules.specs.declared.credentials.IceCreds.{IceCreds}
-use Rattle.is_rules.specs.declared.emitted.Emitted.{Emitted}
-use Rattle.is_rules.specs.declared.emitted.Issued.{Issued}
-use Rattle.is_rules.specs.declared.emitted.Path.{Path}
-use Rattle.is_rules.specs.Effects.{last_of}
-use Rattle.is_rules.specs.Emitted.{issued_as, selected_in}
-use Rattle.is_rules.specs.Kinds.{is_brought, is_first_due, kind_of, turn_of, IsNextAhead, TurnsBefore}
-use Rattle.is_rules.specs.Nominating.{followed, nominates_at_once, pair_selected, remains, selection_of, Nominates}
-use Rattle.is_rules.specs.Sending.{path_of}
-use Rattle.is_rules.specs.Timeouts.{at_timeout, expired_gone, is_expired, MaintainsPairs, RemovesExpired}
-use Rattle.is_rules.proofs.PairLists.ChosenPair.{found-in, none_pass}
-use Rattle.is_rules.proofs.PairLists.PairsByNumber.{has-any}
+use Rattle.is_theorems.proofs.Common.{◌&&◌, ◌+◌, ◌<◌, ◌==◌, ◌||◌, ◌∙◌, ◌≡◌, ◌≤◌, ◌⊎◌, AgentRecord, all_scheduled, ap, are_kinds_in_turn, arith}
+use Rattle.is_theorems.proofs.Common.{scheduled, at_timeout, Bool, ChecksTop, due_time_of, Emitted, eq-eqb, eqb-true, expired_gone, false}
+use Rattle.is_theorems.proofs.Common.{followed, found-in, gives_way, GoesAhead, Has, has-any, has_first, has_urgent, hastened, IceCreds}
+use Rattle.is_theorems.proofs.Common.{if◌then◌else◌, inl, inr, is_ahead_turn, is_brought, is_due, is_expired, is_first_due, is_modern}
+use Rattle.is_theorems.proofs.Common.{is_named_by, is_numbered, is_some, is_urgent, IsNextAhead, IsNextDue, IsNextInTurn, IsNextToCheck}
+use Rattle.is_theorems.proofs.Common.{Issued, issued_as, kind_of, last_of, List, list_any, MaintainsPairs, map, MatchBool, MayCheck, nat_le}
+use Rattle.is_theorems.proofs.Common.{nat_tests, Nominates, nominates_at_once, None, none_pass, not, Option, pair_selected, PairRecord}
+use Rattle.is_theorems.proofs.Common.{Path, path_left, path_of, precedence, refl, remains, RemovesExpired, selected_in, selection_of, Some}
+use Rattle.is_theorems.proofs.Common.{Stream, subst, sym, true, turn_of, TurnsBefore, ℕ}
 use Rattle.is_theorems.proofs.BasicLemmas.PairsInTurn.{ahead-or-along, in-turn, next-has, none-is-due}
 use Rattle.is_theorems.proofs.CallEffects.ServedRequests.{Has-mapped}
 use Rattle.is_theorems.proofs.DuePairs.AfterNominationAndRemoval.{Distinct, Has-kept, leaves-thins}
@@ -37,7 +21,6 @@ use Rattle.is_theorems.proofs.RuleEffects.NominatedPairs.{selects_path, SelectsP
 use Rattle.is_theorems.proofs.RuleEffects.UnchangedSettings.{either}
 use Rattle.is_theorems.proofs.RuleEffects.HastenedPairs.{left-has, left-was, only-due, Hastens}
 use Rattle.is_theorems.proofs.RuleEffects.UnhastenedPairs.{urgent-stays}
-use Rattle.is_rules.specs.Leaving.{gives_way, has_urgent, hastened, path_left}
 
 le-is : (n m : ℕ) → n ≤ m → nat_le n m ≡ true
 le-is n m h = grind (arith, nat_tests, h)
@@ -132,21 +115,21 @@ module _ {H P : Type 0} where
         → MayCheck mac now old.remote_creds old s issued new u → Checks old issued p ⊎ Alternates now old issued new p
     check-alternates old new s u issued known full distinct rule p has urgent due h =
         let k = next-check mac now old.remote_creds old new s u issued known full h in by-next k.0 k.1 k.2 k.3 where
-          in_asked : Has (map (asked now old.timing) old.pairs) (asked now old.timing p)
-          in_asked = Has-mapped (asked now old.timing) old.pairs p has
+          in_asked : Has (map (scheduled now old.timing) old.pairs) (scheduled now old.timing p)
+          in_asked = Has-mapped (scheduled now old.timing) old.pairs p has
 
-          p_due : is_due now old.timing (asked now old.timing p) ≡ true
+          p_due : is_due now old.timing (scheduled now old.timing p) ≡ true
           p_due = le-is (due_time_of now old.timing p) now (omega (arith, due))
 
           p_first : ((precedence old).urgent && is_urgent p) ≡ true
           p_first = and-is (precedence old).urgent (is_urgent p) rule urgent
 
-          some_first : has_first now (all_asked now old) ≡ true
-          some_first = has-any (is_first_due (precedence old) now old.timing) (map (asked now old.timing) old.pairs) (asked now old.timing p) in_asked
-              (and-is (is_due now old.timing (asked now old.timing p)) _ p_due (or-second (is_named_by (precedence old).selected p) ((precedence old).urgent && is_urgent p) p_first))
+          some_first : has_first now (all_scheduled now old) ≡ true
+          some_first = has-any (is_first_due (precedence old) now old.timing) (map (scheduled now old.timing) old.pairs) (scheduled now old.timing p) in_asked
+              (and-is (is_due now old.timing (scheduled now old.timing p)) _ p_due (or-second (is_named_by (precedence old).selected p) ((precedence old).urgent && is_urgent p) p_first))
 
-          ahead : is_ahead_turn now (all_asked now old) ≡ old.ahead_turn
-          ahead = turn-is (is_modern old.timing) old.ahead_turn (are_kinds_in_turn old) (has_first now (all_asked now old)) rule some_first
+          ahead : is_ahead_turn now (all_scheduled now old) ≡ old.ahead_turn
+          ahead = turn-is (is_modern old.timing) old.ahead_turn (are_kinds_in_turn old) (has_first now (all_scheduled now old)) rule some_first
 
           -- a pair that is checked ahead
           by-turn : (o : PairRecord) → TurnsBefore old.local old.remote (precedence old) old.next_kind now old.timing o p → (b : Bool) → is_named_by old.selected_pair o ≡ b → Precedes (view_of old) now p o
@@ -158,34 +141,34 @@ module _ {H P : Type 0} where
             h,
           )
 
-          some_urgent : has_urgent now (all_asked now old) ≡ true
-          some_urgent = has-any (is_first_due (record { selected = None; urgent = true }) now old.timing) (map (asked now old.timing) old.pairs) (asked now old.timing p) in_asked
-              (and-is (is_due now old.timing (asked now old.timing p)) (is_urgent p) p_due urgent)
+          some_urgent : has_urgent now (all_scheduled now old) ≡ true
+          some_urgent = has-any (is_first_due (record { selected = None; urgent = true }) now old.timing) (map (scheduled now old.timing) old.pairs) (scheduled now old.timing p) in_asked
+              (and-is (is_due now old.timing (scheduled now old.timing p)) (is_urgent p) p_due urgent)
 
           -- the next pair, if the check may go ahead: none is asked along
-          ahead-next : (q : PairRecord) → IsNextInTurn now (all_asked now old) (Some q) → old.ahead_turn ≡ true
-              → IsNextAhead old.local old.remote (precedence old) old.next_kind now old.timing (map (asked now old.timing) old.pairs) (Some q)
-          ahead-next q turn on = elim (ahead-or-along now (all_asked now old) q
-              (subst (λ b. MatchBool b (GoesAhead now (all_asked now old) (Some q)) (IsNextDue now old.timing (map (asked now old.timing) old.pairs) (Some q))) (ahead ∙ on) turn)) [
+          ahead-next : (q : PairRecord) → IsNextInTurn now (all_scheduled now old) (Some q) → old.ahead_turn ≡ true
+              → IsNextAhead old.local old.remote (precedence old) old.next_kind now old.timing (map (scheduled now old.timing) old.pairs) (Some q)
+          ahead-next q turn on = elim (ahead-or-along now (all_scheduled now old) q
+              (subst (λ b. MatchBool b (GoesAhead now (all_scheduled now old) (Some q)) (IsNextDue now old.timing (map (scheduled now old.timing) old.pairs) (Some q))) (ahead ∙ on) turn)) [
                 | inl next ↦ next
                 | inr along ↦ absurd (let no : true ≡ false = sym some_urgent ∙ along.no_urgent in cc)
               ]
 
-          precedes : (q o : PairRecord) → asked now old.timing o ≡ q → IsNextToCheck now (all_asked now old) (Some q) → old.ahead_turn ≡ true → (b : Bool) → nominates_at_once (all_asked now old) ≡ b
+          precedes : (q o : PairRecord) → scheduled now old.timing o ≡ q → IsNextToCheck now (all_scheduled now old) (Some q) → old.ahead_turn ≡ true → (b : Bool) → nominates_at_once (all_scheduled now old) ≡ b
               → Precedes (view_of old) now p o
           precedes q o o_is chosen on true at_once =
-              inl (subst (λ (x : PairRecord). is_named_by old.selected_pair x ≡ true) (sym o_is) (selected-named old.selected_pair (map (asked now old.timing) old.pairs) q
-              (subst (λ b. MatchBool b (Some q ≡ pair_selected old.selected_pair (map (asked now old.timing) old.pairs)) (IsNextInTurn now (all_asked now old) (Some q))) at_once chosen)))
+              inl (subst (λ (x : PairRecord). is_named_by old.selected_pair x ≡ true) (sym o_is) (selected-named old.selected_pair (map (scheduled now old.timing) old.pairs) q
+              (subst (λ b. MatchBool b (Some q ≡ pair_selected old.selected_pair (map (scheduled now old.timing) old.pairs)) (IsNextInTurn now (all_scheduled now old) (Some q))) at_once chosen)))
           precedes q o o_is chosen on false calm =
-              by-turn o (subst (λ (x : PairRecord). TurnsBefore old.local old.remote (precedence old) old.next_kind now old.timing x (asked now old.timing p)) (sym o_is)
-              ((ahead-next q (in-turn now (all_asked now old) (Some q) calm chosen) on).2 (asked now old.timing p) in_asked p_due)) (is_named_by old.selected_pair o) refl
+              by-turn o (subst (λ (x : PairRecord). TurnsBefore old.local old.remote (precedence old) old.next_kind now old.timing x (scheduled now old.timing p)) (sym o_is)
+              ((ahead-next q (in-turn now (all_scheduled now old) (Some q) calm chosen) on).2 (scheduled now old.timing p) in_asked p_due)) (is_named_by old.selected_pair o) refl
 
-          whose : (q : PairRecord) (id : List ℕ) → IsNextToCheck now (all_asked now old) (Some q) → issued ≡ Some (issued_as (path_of old q) class.Request id)
-              → new.ahead_turn ≡ not (is_ahead_turn now (all_asked now old)) → (o : PairRecord) → Has old.pairs o → asked now old.timing o ≡ q → (b : Bool) → (o.number == p.number) ≡ b
+          whose : (q : PairRecord) (id : List ℕ) → IsNextToCheck now (all_scheduled now old) (Some q) → issued ≡ Some (issued_as (path_of old q) class.Request id)
+              → new.ahead_turn ≡ not (is_ahead_turn now (all_scheduled now old)) → (o : PairRecord) → Has old.pairs o → scheduled now old.timing o ≡ q → (b : Bool) → (o.number == p.number) ≡ b
               → Checks old issued p ⊎ Alternates now old issued new p
           whose q id chosen is alternates o o_has o_is true same =
               let one : o ≡ p = distinct o p o_has has (eqb-true o.number p.number same) in
-              inl (id, is ∙ ap (λ (x : PairRecord). Some (issued_as (path_of old x) class.Request id)) (sym o_is ∙ ap (asked now old.timing) one))
+              inl (id, is ∙ ap (λ (x : PairRecord). Some (issued_as (path_of old x) class.Request id)) (sym o_is ∙ ap (scheduled now old.timing) one))
           whose q id chosen is alternates o o_has o_is false apart = inr (record {
             alternates = alternates ∙ ap not ahead;
             overtakes = λ on. (
@@ -193,15 +176,15 @@ module _ {H P : Type 0} where
               o_has,
               (λ one. (let no : true ≡ false = sym (eq-eqb o.number p.number one) ∙ apart in cc)),
               (id, is ∙ ap (λ (x : PairRecord). Some (issued_as (path_of old x) class.Request id)) (sym o_is)),
-              precedes q o o_is chosen on (nominates_at_once (all_asked now old)) refl,
+              precedes q o o_is chosen on (nominates_at_once (all_scheduled now old)) refl,
             );
           })
 
-          by-next : (peer : IceCreds) (next : Option PairRecord) → IsNextToCheck now (all_asked now old) next → ChecksTop mac now peer next (all_asked now old) s issued new u
+          by-next : (peer : IceCreds) (next : Option PairRecord) → IsNextToCheck now (all_scheduled now old) next → ChecksTop mac now peer next (all_scheduled now old) s issued new u
               → Checks old issued p ⊎ Alternates now old issued new p
-          by-next peer None chosen h = absurd (none_pass (is_due now old.timing) (map (asked now old.timing) old.pairs) (asked now old.timing p) (none-is-due now (all_asked now old) chosen) in_asked p_due)
+          by-next peer None chosen h = absurd (none_pass (is_due now old.timing) (map (scheduled now old.timing) old.pairs) (scheduled now old.timing p) (none-is-due now (all_scheduled now old) chosen) in_asked p_due)
           by-next peer (Some q) chosen (id, drawn, values, is, made) =
-              let o = Has-map (asked now old.timing) old.pairs q (next-has now (all_asked now old) q chosen) in
+              let o = Has-map (scheduled now old.timing) old.pairs q (next-has now (all_scheduled now old) q chosen) in
               whose q id chosen is (ap (λ (a : AgentRecord H P). a.ahead_turn) made) o.0 o.1 o.2 (o.0.number == p.number) refl
 
     -- ---- nomination, and removed pairs

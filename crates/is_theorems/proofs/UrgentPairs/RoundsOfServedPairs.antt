@@ -1,30 +1,10 @@
 -- A pair on which a request was served is urgent in rounds until its path is answered: so it is checked like any urgent pair.
-use Rattle.std.proofs.Common.{◌≡◌, ℕ, ◌&&◌, ◌||◌, Bool, true, false, not, List, [], ◌∷◌, ◌++◌, length, nat_lt, Some, inl, inr, ◌⊎◌, refl, ap, sym, ◌∙◌, subst, arith}
-use Rattle.rand_core.specs.Stream.{Stream}
-use Rattle.is_proto.specs.Lists.{Has}
-use Rattle.is_stun.specs.Timing.{is_modern}
-use Rattle.is_candidate.specs.Candidates.{CandidateRecord}
-use Rattle.is_pair.specs.Pairs.{PairRecord, is_valid}
-use Rattle.is_pair.specs.Due.{is_urgent}
-use Rattle.is_pair.specs.States.{is_nominating}
-use Rattle.is_rules.specs.Agent.{AgentRecord}
-use Rattle.is_rules.specs.Brought.{IsValidOn}
-use Rattle.is_rules.specs.declared.emitted.Path.{Path}
-use Rattle.is_rules.specs.Effects.{lite_set_by}
-use Rattle.is_rules.specs.Sending.{path_of}
-use Rattle.is_rules.specs.Sound.{IsSound, GivesBased}
-use Rattle.is_rules.specs.Steps.{Call, HandleTimeout, Step}
-use Rattle.is_rules.specs.Timeouts.{is_expired}
-use Rattle.is_theorems.specs.Asked.{IsAnsweredIn}
-use Rattle.is_theorems.specs.AskedExecutions.{Ends}
-use Rattle.is_theorems.specs.KindsInTurn.{WaitsInRounds}
-use Rattle.is_theorems.specs.Logs.{Logged}
-use Rattle.is_theorems.specs.Reached.{IsEndedIn, IsPassing, is_in_round, selects}
-use Rattle.is_theorems.specs.Rounds.{LoggedRound, RunsOn, began_at, entries_of}
-use Rattle.is_theorems.specs.Runs.{IsFresh, Run}
-use Rattle.is_theorems.specs.ServedSoon.{IsServed, ServedAreCheckedSoon}
-use Rattle.is_theorems.specs.Staying.{Stays}
-use Rattle.is_theorems.specs.UrgentFirst.{PutsUrgentFirst, PutUrgentFirstIn}
+use Rattle.is_theorems.proofs.Common.{[], ◌&&◌, ◌++◌, ◌||◌, ◌∙◌, ◌∷◌, ◌≡◌, ◌⊎◌, AgentRecord, ap, arith, began_at, Bool, Call}
+use Rattle.is_theorems.proofs.Common.{CandidateRecord, Ends, entries_of, false, gives_way, GivesBased, HandleTimeout, Has, inl, inr}
+use Rattle.is_theorems.proofs.Common.{is_expired, is_in_round, is_modern, is_nominating, is_urgent, is_valid, IsAnsweredIn, IsEndedIn}
+use Rattle.is_theorems.proofs.Common.{IsFresh, IsPassing, IsServed, IsSound, IsValidOn, length, List, lite_set_by, Logged, LoggedRound}
+use Rattle.is_theorems.proofs.Common.{nat_lt, not, PairRecord, Path, path_of, PutsUrgentFirst, PutUrgentFirstIn, refl, rising-each, Run}
+use Rattle.is_theorems.proofs.Common.{RunsOn, selects, ServedAreCheckedSoon, Some, Stays, Step, Stream, subst, sym, true, WaitsInRounds, ℕ}
 use Rattle.is_theorems.proofs.CallEffects.PathAndTradeEffects.{path_theorem}
 use Rattle.is_theorems.proofs.DuePairs.AfterNominationAndRemoval.{answered_at, lasts-young}
 use Rattle.is_theorems.proofs.DuePairs.NoNominationDue.{lite_stays}
@@ -34,10 +14,9 @@ use Rattle.is_theorems.proofs.ExecutionLogs.SegmentsAsExecutions.{ended-fits, sp
 use Rattle.is_theorems.proofs.PollingRounds.DuePairsInLogs.{answered-later, lasts-at}
 use Rattle.is_theorems.proofs.PollingRounds.WaitingPairs.{begins, total_at}
 use Rattle.is_theorems.proofs.RuleEffects.SelectedPaths.{one_pair}
-use Rattle.is_rules.proofs.PairLists.RisingNumbers.{rising-each}
 use Rattle.is_theorems.proofs.StoredPairs.PairsThatStay.{pairs-stay, stays-here, stays-on}
-use Rattle.is_theorems.proofs.UrgentPairs.RoundsOfUrgentPairs.{persists-at, reached-later, rounds-urgent, rules-before, urgent-pairs-are-reached, After, Reached}
-use Rattle.is_rules.specs.Leaving.{gives_way}
+use Rattle.is_theorems.proofs.UrgentPairs.RoundsOfUrgentPairs.{persists-at, reached-later, rounds-urgent, rules-before}
+use Rattle.is_theorems.proofs.UrgentPairs.RoundsOfUrgentPairs.{urgent-pairs-are-reached, After, Reached}
 
 -- ---- one pair
 

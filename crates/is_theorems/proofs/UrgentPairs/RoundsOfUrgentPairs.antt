@@ -1,33 +1,12 @@
 -- Rounds in which a pair that is due is urgent: it is checked in one of them, or each second one checks the selected pair or urgent pairs
 -- before it.
-use Rattle.std.proofs.Common.{◌≡◌, ℕ, suc, ◌+◌, ◌-◌, ◌*◌, ◌<◌, ◌≤◌, zero, Bool, true, false, not, List, [], ◌∷◌, ◌++◌, length, nat_lt, Some, None, inl, inr, ◌⊎◌, refl, ap, sym, ◌∙◌, subst, arith}
-use Rattle.std.proofs.lemmas.Bool.Decides.{nat_tests}
-use Rattle.rand_core.specs.Stream.{Stream}
-use Rattle.is_proto.specs.Lists.{Has}
-use Rattle.is_proto.specs.Times.{MAX}
-use Rattle.is_candidate.specs.Candidates.{CandidateRecord}
-use Rattle.is_pair.specs.Due.{is_urgent}
-use Rattle.is_pair.specs.Multiset.{is_named_by}
-use Rattle.is_pair.specs.Pairs.{PairRecord}
 use Rattle.is_stun.specs.declared.header.Class.TheVariants as class
-use Rattle.is_stun.specs.Timing.{is_modern}
-use Rattle.is_rules.specs.Agent.{AgentRecord}
-use Rattle.is_rules.specs.Checking.{precedence}
-use Rattle.is_rules.specs.declared.emitted.Path.{Path}
-use Rattle.is_rules.specs.Emitted.{issued_as}
-use Rattle.is_rules.specs.Kinds.{TurnsBefore}
-use Rattle.is_rules.specs.Owed.{one_if}
-use Rattle.is_rules.specs.Sending.{path_of}
-use Rattle.is_rules.specs.Sound.{IsSound, GivesBased}
-use Rattle.is_rules.specs.Steps.{Call, Entry, HandleTimeout, Step}
-use Rattle.is_rules.specs.Timeouts.{timeout_begun, MaintainsPairs}
-use Rattle.is_theorems.specs.Asked.{IsAnsweredIn}
-use Rattle.is_theorems.specs.Logs.{Logged}
-use Rattle.is_theorems.specs.Progress.{ChecksOn}
-use Rattle.is_theorems.specs.Reached.{ChecksIn, IsEndedIn, IsPassing}
-use Rattle.is_theorems.specs.Rounds.{LoggedRound, RunsOn, began_at, entries_of}
-use Rattle.is_theorems.specs.Runs.{IsFresh, Run}
-use Rattle.is_theorems.specs.UrgentFirst.{IsOvertaken, IsOvertakenIn, PutsUrgentFirst, PutUrgentFirstIn, UrgentPairsAreReached}
+use Rattle.is_theorems.proofs.Common.{[], ◌*◌, ◌++◌, ◌+◌, ◌-◌, ◌<◌, ◌∙◌, ◌∷◌, ◌≡◌, ◌≤◌, ◌⊎◌, AgentRecord, ap, arith, began_at, Bool, Call}
+use Rattle.is_theorems.proofs.Common.{CandidateRecord, ChecksIn, ChecksOn, entries_of, Entry, false, GivesBased, HandleTimeout, Has, inl}
+use Rattle.is_theorems.proofs.Common.{inr, is_modern, is_named_by, is_urgent, IsAnsweredIn, IsEndedIn, IsFresh, IsOvertaken, IsOvertakenIn}
+use Rattle.is_theorems.proofs.Common.{IsPassing, IsSound, issued_as, length, List, Logged, LoggedRound, MaintainsPairs, MAX, None, not}
+use Rattle.is_theorems.proofs.Common.{one_if, PairRecord, Path, path_of, precedence, PutsUrgentFirst, PutUrgentFirstIn, refl, Run, RunsOn}
+use Rattle.is_theorems.proofs.Common.{Some, Step, Stream, subst, suc, sym, timeout_begun, true, TurnsBefore, UrgentPairsAreReached, zero, ℕ}
 use Rattle.is_theorems.proofs.CallEffects.PathAndTradeEffects.{path_theorem}
 use Rattle.is_theorems.proofs.DuePairs.AfterNominationAndRemoval.{Base, answered_at, stays-young, keeps-young}
 use Rattle.is_theorems.proofs.DuePairs.FirstDuePair.{timeout-follows}
@@ -37,12 +16,10 @@ use Rattle.is_theorems.proofs.ExecutionLogs.LogSegments.{passed as passed-at, ru
 use Rattle.is_theorems.proofs.ExecutionLogs.LogTheorems.{runs_sound}
 use Rattle.is_theorems.proofs.ExecutionLogs.SegmentsAsExecutions.{split-ended, split-run}
 use Rattle.is_theorems.proofs.PollingRounds.CountedSelections.{paid, paid-join}
-use Rattle.is_theorems.proofs.PollingRounds.DuePairsInLogs.{answered-later, has-following, has-front, lasts-at, persists, timeout-on, walk, Persists, Waits}
+use Rattle.is_theorems.proofs.PollingRounds.DuePairsInLogs.{answered-later, has-following, has-front, lasts-at, persists, timeout-on, walk}
+use Rattle.is_theorems.proofs.PollingRounds.DuePairsInLogs.{Persists, Waits}
 use Rattle.is_theorems.proofs.PollingRounds.WaitingPairs.{begins, total_at}
 use Rattle.is_theorems.proofs.UrgentPairs.ChecksOfUrgentPairs.{timeout-alternates, Alternates}
-
-lt-is : (n m : ℕ) → n < m → nat_lt n m ≡ true
-lt-is n m h = grind (arith, nat_tests, h)
 
 -- ---- how many rounds
 

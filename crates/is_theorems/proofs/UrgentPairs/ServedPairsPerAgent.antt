@@ -1,51 +1,31 @@
 -- A controlling agent without a valid pair, and one of its pairs on which a request was served: in rounds of an execution its path is reached as
 -- in those of a log. What mutants/specifications changes is read by tactics.
-use Rattle.std.proofs.Common.{◌≡◌, ℕ, suc, ◌+◌, ◌*◌, ◌<◌, ◌≤◌, Bool, true, false, not, List, [], ◌∷◌, ◌++◌, length, nat_lt, Option, Some, None, is_some, inl, inr, ◌⊎◌, refl, ap, sym, ◌∙◌, subst, arith, append_assoc}
-use Rattle.std.specs.Option.{option_or}
-use Rattle.std.proofs.lemmas.Bool.Decides.{nat_tests}
-use Rattle.rand_core.specs.Stream.{Stream}
-use Rattle.is_proto.specs.Lists.{Has}
-use Rattle.is_candidate.specs.Candidates.{CandidateRecord}
-use Rattle.is_pair.specs.Checks.{unanswered_count}
-use Rattle.is_pair.specs.Pairs.{PairRecord, is_valid}
 use Rattle.is_stun.specs.declared.header.Class.TheVariants as class
-use Rattle.is_stun.specs.Timing.{is_modern}
-use Rattle.is_rules.specs.Agent.{AgentRecord}
-use Rattle.is_rules.specs.Brought.{IsValidOn}
-use Rattle.is_rules.specs.declared.emitted.Path.{Path}
-use Rattle.is_rules.specs.Effects.{last_of}
-use Rattle.is_rules.specs.Emitted.{issued_as}
-use Rattle.is_rules.specs.Sending.{path_of}
-use Rattle.is_rules.specs.Sound.{IsSound}
-use Rattle.is_rules.specs.Steps.{Call, Entry, HandleTimeout, Step}
-use Rattle.is_rules.specs.Timeouts.{timeout_begun}
-use Rattle.is_theorems.specs.AskedExecutions.{Ends, EndsAlong, IsAnsweredAlong}
-use Rattle.is_theorems.specs.Executions.{AcceptsSuccess, ExecutionRound}
-use Rattle.is_theorems.specs.Exchange.{Execution}
-use Rattle.is_theorems.specs.FirstTimeouts.{AreInRound, EndsAmong, IsOpenRound, IsReached}
-use Rattle.is_theorems.specs.Logs.{Logged}
-use Rattle.is_theorems.specs.Reached.{IsEndedIn, IsInLine, IsLasting, is_in_round, selects}
-use Rattle.is_theorems.specs.ReachedExecutions.{ChecksAmong, IsAnsweredAmong, PassRounds}
-use Rattle.is_theorems.specs.Rounds.{LoggedRound, RunsOn, entries_of}
-use Rattle.is_theorems.specs.Runs.{IsFresh}
-use Rattle.is_theorems.specs.ServedSoon.{ExecutionsReachServed, IsOvertakenAmong, IsServed, ServedAreCheckedSoon, ServedExecutionsReach, SufficesForServed}
-use Rattle.is_theorems.specs.Staying.{MayEnd, Stays}
-use Rattle.is_theorems.specs.UrgentFirst.{IsOvertaken, IsOvertakenIn}
+use Rattle.is_theorems.proofs.Common.{[], ◌*◌, ◌++◌, ◌+◌, ◌<◌, ◌∙◌, ◌∷◌, ◌≡◌, ◌≤◌, ◌⊎◌, AcceptsSuccess, AgentRecord, ap, append_assoc}
+use Rattle.is_theorems.proofs.Common.{AreInRound, arith, Bool, Call, CandidateRecord, ChecksAmong, Ends, EndsAlong, EndsAmong, entries_of}
+use Rattle.is_theorems.proofs.Common.{Entry, Execution, ExecutionRound, ExecutionsReachServed, false, HandleTimeout, Has, inl, inr}
+use Rattle.is_theorems.proofs.Common.{is_in_round, is_modern, is_some, is_valid, IsAnsweredAlong, IsAnsweredAmong, IsEndedIn, IsFresh}
+use Rattle.is_theorems.proofs.Common.{IsInLine, IsLasting, IsOpenRound, IsOvertaken, IsOvertakenAmong, IsOvertakenIn, IsReached, IsServed}
+use Rattle.is_theorems.proofs.Common.{IsSound, issued_as, IsValidOn, last_of, length, List, Logged, LoggedRound, MayEnd, nat_lt, nat_tests}
+use Rattle.is_theorems.proofs.Common.{None, not, Option, option_or, PairRecord, PassRounds, Path, path_of, refl, rising-each, RunsOn}
+use Rattle.is_theorems.proofs.Common.{selects, ServedAreCheckedSoon, ServedExecutionsReach, Some, Stays, Step, Stream, subst, suc}
+use Rattle.is_theorems.proofs.Common.{SufficesForServed, sym, timeout_begun, true, unanswered_count, ℕ}
 use Rattle.is_theorems.proofs.CallEffects.FailedCallsAndNewAgents.{fresh_sound}
 use Rattle.is_theorems.proofs.CallEffects.PathAndTradeEffects.{path_theorem}
 use Rattle.is_theorems.proofs.DuePairs.AfterNominationAndRemoval.{Base, answered-if, answered_at, base_of as agent_base, lasts-young}
 use Rattle.is_theorems.proofs.DuePairs.FirstDuePair.{Follows, due-at, timeout-follows}
-use Rattle.is_theorems.proofs.DuePairs.NoNominationDue.{Quiet, as-is, due-none, modern-execution, modern-stays, modern-stays-timeout, quiet-call, quiet-timeout}
+use Rattle.is_theorems.proofs.DuePairs.NoNominationDue.{Quiet, as-is, due-none, modern-execution, modern-stays, modern-stays-timeout}
+use Rattle.is_theorems.proofs.DuePairs.NoNominationDue.{quiet-call, quiet-timeout}
 use Rattle.is_theorems.proofs.DuePairs.PollingCycles.{maintains_pairs-from}
 use Rattle.is_theorems.proofs.EarlierChecks.BetweenTimeouts.{Ground}
 use Rattle.is_theorems.proofs.ExecutionLogs.LogSegments.{no-case, passed as passed-at}
-use Rattle.is_theorems.proofs.ExecutionLogs.PerAgentExecutions.{as_many, begun, entry_of, leads_on, part_of, pushed, recomputed, round_of, rounds_of}
+use Rattle.is_theorems.proofs.ExecutionLogs.PerAgentExecutions.{as_many, begun, entry_of, leads_on, part_of, pushed, recomputed, round_of}
+use Rattle.is_theorems.proofs.ExecutionLogs.PerAgentExecutions.{rounds_of}
 use Rattle.is_theorems.proofs.PathSelection.NominatedByPeerPerAgent.{execution_on}
 use Rattle.is_theorems.proofs.PollingRounds.AddedCandidatesPerAgent.{any, are_at, are_passing, reached-back}
 use Rattle.is_theorems.proofs.PollingRounds.FirstRound.{Waits, between-keeps, lt-from, timeout-on, waits-on}
 use Rattle.is_theorems.proofs.PollingRounds.InTurnAlong.{Lined, lined-unanswered}
 use Rattle.is_theorems.proofs.RuleEffects.SelectedPaths.{one_pair}
-use Rattle.is_rules.proofs.PairLists.RisingNumbers.{rising-each}
 use Rattle.is_theorems.proofs.StoredPairs.PairsThatStay.{pairs-stay, stays-on}
 use Rattle.is_theorems.proofs.StoredPairs.TransactionsOverPackets.{sound-execution}
 

@@ -1,26 +1,9 @@
 -- The agents of a worked example.
-use Rattle.std.specs.Prelude.{ℕ, ◌*◌, true, false, List, [], ◌∷◌, Some, None, codes}
-use Rattle.std.specs.declared.net.socket_addr.SocketAddr.{SocketAddr}
-use Rattle.std.specs.declared.net.socket_addr.SocketAddr.TheVariants.{V4}
-use Rattle.is_proto.specs.Times.{MILLISECOND}
-use Rattle.is_proto.specs.declared.proto.Protocol.TheVariants.{Udp}
-use Rattle.is_candidate.specs.declared.candidate.kind.CandidateKind.TheVariants.{Host}
-use Rattle.is_candidate.specs.Candidates.{CandidateRecord}
-use Rattle.is_candidate.specs.Equality.{TEMPORARY}
-use Rattle.is_candidate.specs.Making.{host_candidate, signalled_candidate, peer_reflexive_candidate}
-use Rattle.is_pair.specs.declared.pair.states.CheckState.TheVariants.{InProgress, Succeeded}
-use Rattle.is_pair.specs.declared.pair.states.NominationState.TheVariants.{Nominated, Success}
-use Rattle.is_pair.specs.Pairs.{new_pair}
-use Rattle.is_stun.specs.Checks.{binding_request, binding_reply}
-use Rattle.is_stun.specs.Writing.{written}
-use Rattle.is_rules.specs.declared.credentials.IceCreds.{IceCreds}
-use Rattle.is_rules.specs.declared.event.IceAgentEvent.TheVariants.{IceRestart, IceConnectionStateChange, DiscoveredRecv, NominatedSend}
-use Rattle.is_rules.specs.declared.event.IceConnectionState.TheVariants.{Checking, Completed, Disconnected}
-use Rattle.is_rules.specs.declared.emitted.Path.{Path}
-use Rattle.is_rules.specs.Agent.{no_stats}
-use Rattle.is_rules.specs.Request.{RequestRecord}
-use Rattle.is_rules.specs.Emitted.{reversed}
-use Rattle.is_rules.specs.Agent.{AgentRecord, fresh}
+use Rattle.is_theorems.proofs.Common.{[], ◌*◌, ◌∷◌, AgentRecord, binding_reply, binding_request, CandidateRecord, Checking, codes}
+use Rattle.is_theorems.proofs.Common.{Completed, Disconnected, DiscoveredRecv, false, fresh, Host, host_candidate, IceConnectionStateChange}
+use Rattle.is_theorems.proofs.Common.{IceCreds, IceRestart, InProgress, List, MILLISECOND, new_pair, no_stats, Nominated, NominatedSend}
+use Rattle.is_theorems.proofs.Common.{None, Path, peer_reflexive_candidate, RequestRecord, reversed, signalled_candidate, SocketAddr, Some}
+use Rattle.is_theorems.proofs.Common.{Succeeded, Success, TEMPORARY, true, Udp, V4, written, ℕ}
 
 abbrev pub milliseconds : ℕ → ℕ
 milliseconds n = n * MILLISECOND

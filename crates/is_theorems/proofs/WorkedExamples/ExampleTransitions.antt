@@ -1,42 +1,20 @@
 -- The relations hold for worked examples, with whole abstract states compared.
-use Rattle.std.proofs.Common.{◌≡◌, ℕ, ◌≤◌, true, false, List, [], ◌∷◌, Some, None, Ok, inl, inr, refl, subst, arith}
-use Rattle.std.specs.Prelude.{codes}
-use Rattle.rand_core.specs.Stream.{Stream, fill_bytes}
-use Rattle.is_proto.specs.Lists.{Has}
-use Rattle.is_proto.specs.declared.proto.Protocol.TheVariants.{Udp}
-use Rattle.is_candidate.specs.Candidates.{CandidateRecord}
-use Rattle.is_pair.specs.declared.pair.states.CheckState.TheVariants.{InProgress, Succeeded}
-use Rattle.is_pair.specs.declared.pair.states.NominationState.TheVariants.{Nominated, Success}
-use Rattle.is_pair.specs.Checks.{Check}
-use Rattle.is_pair.specs.Pairs.{PairRecord, new_pair, answered}
-use Rattle.is_pair.specs.Due.{asked, GoesBefore}
 use Rattle.is_stun.specs.declared.header.Class.TheVariants as class
-use Rattle.is_stun.specs.Checks.{binding_request, binding_reply, binding_role_conflict_reply}
-use Rattle.is_stun.specs.Integrity.{IsSignedBy}
-use Rattle.is_stun.specs.Message.{Integrity, Message}
-use Rattle.is_stun.specs.Reading.{Reads}
-use Rattle.is_stun.specs.Writing.{written}
-use Rattle.is_stun.specs.declared.timing.StunTiming.{StunTiming}
-use Rattle.is_stun.specs.Timing.{delay_millis}
-use Rattle.is_stun.specs.Theorems.{IsPut}
-use Rattle.is_rules.specs.declared.event.IceAgentEvent.TheVariants.{IceConnectionStateChange}
-use Rattle.is_rules.specs.declared.event.IceConnectionState.TheVariants.{Checking}
-use Rattle.is_rules.specs.declared.places.RemotePlace.TheVariants.{Unknown}
-use Rattle.is_rules.specs.Steps.{Done, Added, Flag, Entry, quiet}
-use Rattle.is_rules.specs.Emitted.{nothing_emitted, issued_only, selected_only, reversed}
-use Rattle.is_rules.specs.Agent.{AgentRecord, default_timing, fresh}
-use Rattle.is_rules.specs.States.{evaluated}
-use Rattle.is_rules.specs.Serving.{Serves}
-use Rattle.is_rules.specs.Answers.{HandlesSuccess, success_counted, mapped_added}
-use Rattle.is_rules.specs.Accepting.{HandlesPacket, IsAcceptedOn}
-use Rattle.is_rules.specs.Checking.{all_asked}
-use Rattle.is_rules.specs.Timeouts.{at_timeout, timeout_begun, TimesOut}
-use Rattle.is_rules.specs.Polls.{PollsTimeout}
-use Rattle.is_rules.specs.Steps.{Call, SetControlling, SetRemoteCredentials, AddLocalCandidate, AddRemoteCandidate, RecreateCandidatePairs, ReceivePacket, HandleTimeout, Step}
-use Rattle.is_theorems.specs.Logs.{Logged}
-use Rattle.is_theorems.specs.Runs.{Run}
+use Rattle.is_rules.specs.declared.serving.Places.{Places}
+use Rattle.is_theorems.proofs.Common.{[], ◌∷◌, ◌≡◌, ◌≤◌, Added, AddLocalCandidate, AddRemoteCandidate, AgentRecord, all_scheduled, answered}
+use Rattle.is_theorems.proofs.Common.{arith, scheduled, at_timeout, binding_reply, binding_request, binding_role_conflict_reply, Call}
+use Rattle.is_theorems.proofs.Common.{CandidateRecord, Check, Checking, codes, default_timing, delay_millis, Done, Entry, evaluated, false}
+use Rattle.is_theorems.proofs.Common.{fill_bytes, Flag, fresh, GoesBefore, HandlesPacket, HandlesSuccess, HandleTimeout, Has}
+use Rattle.is_theorems.proofs.Common.{IceConnectionStateChange, inl, InProgress, inr, Integrity, IsAcceptedOn, IsPut, IsSignedBy}
+use Rattle.is_theorems.proofs.Common.{issued_only, List, Logged, mapped_added, Message, new_pair, Nominated, None, nothing_emitted, Ok}
+use Rattle.is_theorems.proofs.Common.{PairRecord, PollsTimeout, quiet, Reads, ReceivePacket, RecreateCandidatePairs, refl, reversed, Run}
+use Rattle.is_theorems.proofs.Common.{selected_only, Serves, SetControlling, SetRemoteCredentials, Some, Step, Stream, StunTiming, subst}
+use Rattle.is_theorems.proofs.Common.{Succeeded, Success, success_counted, timeout_begun, TimesOut, true, Udp, Unknown, written, ℕ}
 use Rattle.is_theorems.proofs.RuleEffects.NominatedPairs.{selected_paths}
-use Rattle.is_theorems.proofs.WorkedExamples.ExampleAgents.{creds_1, creds_2, host_1, host_2, with_creds, with_host, with_both, with_check, with_answer, path_12, address_1, address_2, address_3, milliseconds, controlled, request, served, emitted_of_sender, lite_served, lite_started, lite_completed, lite_lost}
+use Rattle.is_theorems.proofs.WorkedExamples.ExampleAgents.{creds_1, creds_2, host_1, host_2, with_creds, with_host, with_both, with_check}
+use Rattle.is_theorems.proofs.WorkedExamples.ExampleAgents.{with_answer, path_12, address_1, address_2, address_3, milliseconds, controlled}
+use Rattle.is_theorems.proofs.WorkedExamples.ExampleAgents.{request, served, emitted_of_sender, lite_served, lite_started, lite_completed}
+use Rattle.is_theorems.proofs.WorkedExamples.ExampleAgents.{lite_lost}
 
 goes_before : (now : ℕ) (t : StunTiming) (p q : PairRecord) → Has (p ∷ []) q → GoesBefore now t p q
 goes_before now t p q (inl same) = subst (λ x. GoesBefore now t p x) same (inr (refl, omega arith))
@@ -98,7 +76,7 @@ module _ {H P : Type 0} (mac : H → List ℕ → List ℕ → List ℕ) (answer
   )
 
   asked_pair : PairRecord
-  asked_pair = asked 0 default_timing (new_pair 0 0 0 9151313343271665150)
+  asked_pair = scheduled 0 default_timing (new_pair 0 0 0 9151313343271665150)
 
   first_check : IsPut (written (mac provider) (Some (codes "p2")) (binding_request (codes "bbbb:aaaa") (fill_bytes 12 s).0 true 1 1862270719 false)) (binding_request (codes "bbbb:aaaa") (fill_bytes 12 s).0 true 1 1862270719 false)
       → Step mac answers (with_both {P = P} mac provider) s (HandleTimeout 0)
@@ -262,20 +240,24 @@ module _ {H P : Type 0} (mac : H → List ℕ → List ℕ → List ℕ) (answer
   abbrev polled : AgentRecord H P → AgentRecord H P
   polled a = record a { packets = [] }
 
-  checked_timeouts : PollsTimeout (polled (with_check mac provider zero_id)) (Some (milliseconds 250)) (all_asked 0 (polled (with_check mac provider zero_id)))
+  checked_timeouts : PollsTimeout (polled (with_check mac provider zero_id)) (Some (milliseconds 250)) (all_scheduled 0 (polled (with_check mac provider zero_id)))
   unfolding delay_millis
   checked_timeouts = (refl, refl)
 
-  answered_timeouts : PollsTimeout (polled (with_answer mac provider zero_id)) (Some (milliseconds 50)) (all_asked 0 (polled (with_answer mac provider zero_id)))
+  answered_timeouts : PollsTimeout (polled (with_answer mac provider zero_id)) (Some (milliseconds 50)) (all_scheduled 0 (polled (with_answer mac provider zero_id)))
   unfolding delay_millis
   answered_timeouts = (refl, refl)
 
   -- ---- requests
 
+  -- an unknown sender, to the first local candidate
+  abbrev unknown : Places
+  unknown = record { local = 0; remote = Unknown; pair = None }
+
   -- the peer nominates: a peer-reflexive candidate, a nominated pair, and a response
   serves : IsPut (written (mac provider) (Some (codes "p1")) (binding_reply zero_id address_2)) (binding_reply zero_id address_2)
       → Serves mac (request zero_id) (controlled {P = P} mac provider) (issued_only path_12 class.Success zero_id) (served mac provider zero_id)
-  serves values = (Unknown, (Unknown, (None, (λ k below. refl), refl), refl), (None, refl, (refl, (None, _, (refl, refl), (values, refl, refl)))))
+  serves values = (Some unknown, (refl, refl, (Unknown, (None, (λ k below. refl), refl), refl), refl), (refl, (None, _, (refl, refl), (values, refl, refl))))
 
   nominated_pair : PairRecord
   nominated_pair = record (new_pair 0 0 0 7962116751041232382) { nomination = Nominated; requests = 1; last_request = Some 0 }
@@ -317,12 +299,12 @@ module _ {H P : Type 0} (mac : H → List ℕ → List ℕ → List ℕ) (answer
       (record (with_host mac provider) {
         packets = record { proto = Udp; source = address_1; destination = address_2; contents = written (mac provider) (Some (codes "p1")) (binding_role_conflict_reply zero_id) } ∷ [];
       })
-  conflict_sent values = (values, refl, refl)
+  conflict_sent values = (Some unknown, (refl, refl, (Unknown, (None, (λ k below. refl), refl), refl), refl), (refl, (values, refl, refl)))
 
   -- with a greater one: the role switches, the request is served, and the pair is nominated
   yielded : IsPut (written (mac provider) (Some (codes "p1")) (binding_reply zero_id address_2)) (binding_reply zero_id address_2)
       → Serves mac (request zero_id) (with_host {P = P} mac provider) (issued_only path_12 class.Success zero_id) (served mac provider zero_id)
-  yielded values = (Unknown, (Unknown, (None, (λ k below. refl), refl), refl), (None, refl, (refl, (None, _, (refl, refl), (values, refl, refl)))))
+  yielded values = (Some unknown, (refl, refl, (Unknown, (None, (λ k below. refl), refl), refl), refl), (refl, (None, _, (refl, refl), (values, refl, refl))))
 
   -- a re-created agent in New goes to Checking, and has its pair again under a new number
   recreates : Step mac answers (with_both {P = P} mac provider) s RecreateCandidatePairs (quiet Done)
@@ -350,7 +332,7 @@ module _ {H P : Type 0} (mac : H → List ℕ → List ℕ → List ℕ) (answer
 
   lite_serves : IsPut (written (mac provider) (Some (codes "p1")) (binding_reply zero_id address_2)) (binding_reply zero_id address_2)
       → Serves mac (request zero_id) (record (controlled {P = P} mac provider) { lite = true }) (issued_only path_12 class.Success zero_id) (lite_served mac provider zero_id)
-  lite_serves values = (Unknown, (Unknown, (None, (λ k below. refl), refl), refl), (None, refl, (refl, (None, _, (refl, refl), (values, refl, refl)))))
+  lite_serves values = (Some unknown, (refl, refl, (Unknown, (None, (λ k below. refl), refl), refl), refl), (refl, (None, _, (refl, refl), (values, refl, refl))))
 
   lite_pair : PairRecord
   lite_pair = record (new_pair 0 0 0 7962116751041232382) { nomination = Success; state = Succeeded; requests = 1; last_request = Some 0 }

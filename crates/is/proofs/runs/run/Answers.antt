@@ -1,5 +1,5 @@
 use Rattle.is.proofs.AgentLogs.GrowingLog.{run_of, entries_persist}
-use Rattle.is.proofs.AgentLogs.UnacceptedBytes.{packets_are_settled}
+use Rattle.is.proofs.AgentLogs.UnacceptedBytes.{packets_are_handled}
 use Rattle.is.proofs.AgentLogs.PollingOrder.{others_issue_none, queues_are_kept}
 use Rattle.is.proofs.AgentLogs.PlainAgents.{plain_never_lite, headline}
 use Rattle.is.proofs.AgentLogs.StoredAndQueued.{queues_stay_short, discoveries_are_few}
@@ -13,11 +13,11 @@ returns-clause-entries g c = entries_persist _ _ c.entries_are_points.ensures _ 
 pub returns-clause-headline : goal.returns-clause-headline
 returns-clause-headline g c = λ fresh plain. (
     let never = plain_never_lite _ plain in
-    headline _ _ c.settings_are_set.ensures _ _ _ fresh plain (packets_are_settled _ _ _ _ _) (c.selected_are_answered.ensures _ _ _ fresh never)
+    headline _ _ c.settings_are_set.ensures _ _ _ fresh plain (packets_are_handled _ _ _ _ _) (c.selected_are_answered.ensures _ _ _ fresh never)
     (c.points_are_top.ensures _ _ _ fresh) (c.selected_are_nominated_by_peer.ensures _ _ _ fresh never))
 
 pub returns-clause-unaccepted : goal.returns-clause-unaccepted
-returns-clause-unaccepted g c = packets_are_settled _ _ _ _ _
+returns-clause-unaccepted g c = packets_are_handled _ _ _ _ _
 
 pub returns-clause-answered : goal.returns-clause-answered
 returns-clause-answered g c = c.selected_are_answered.ensures _ _ _

@@ -1,5 +1,4 @@
-use Rattle.std.proofs.Common.{◌<◌, [], length, arith}
-use Rattle.is_agent.specs.View.{record_of}
+use Rattle.is.proofs.Common.{[], ◌<◌, arith, length, record_of}
 use Rattle.is.proofs.AgentLogs.GrowingLog.{logged-push, length-logged, fewer, still_left, still_one_each}
 use Rattle.is.proofs.runs.run_calls.Goals as goal
 

@@ -1,9 +1,5 @@
-use Rattle.std.proofs.Common.{◌≡◌, ◌≤◌, ◌++◌, [], length}
-use Rattle.std.specs.Prelude.{vec_capacity}
-use Rattle.std.specs.Vec.Iter.{into_iter_items}
-use Rattle.is_agent.specs.View.{record_of}
-use Rattle.is_theorems.specs.Runs.{Run}
 use Rattle.is.specs.Log.{logged}
+use Rattle.is.proofs.Common.{[], ◌++◌, ◌≡◌, ◌≤◌, into_iter_items, length, record_of, Run, vec_capacity}
 use Rattle.is.proofs.runs.run_calls.Given as goal
 
 -- the calls that were made have their entries, and there is capacity for the rest

@@ -1,6 +1,4 @@
-use Rattle.std.proofs.Common.{IsTrue}
-use Rattle.is_stun.specs.MessageView.{message_view}
-use Rattle.is_agent.specs.View.{record_of}
+use Rattle.is.proofs.Common.{IsTrue, message_view, record_of}
 use Rattle.is.proofs.AgentLogs.UnacceptedBytes.{accepted_if}
 use Rattle.is.proofs.steps.accepts_bytes.Goals as goal
 

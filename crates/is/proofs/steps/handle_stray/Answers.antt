@@ -1,5 +1,4 @@
-use Rattle.is_agent.specs.View.{record_of}
-use Rattle.is.specs.Views.{entry_view}
+use Rattle.is.proofs.Common.{entry_view, record_of}
 use Rattle.is.proofs.AgentLogs.UnacceptedBytes.{left_out}
 use Rattle.is.proofs.steps.handle_stray.Goals as goal
 

@@ -1,5 +1,4 @@
-use Rattle.std.proofs.Common.{refl}
-use Rattle.is_agent.specs.View.{emitted_of}
+use Rattle.is.proofs.Common.{emitted_of, refl}
 use Rattle.is.proofs.steps.take_lost.Goals as goal
 
 pub returns-clause-did : goal.returns-clause-did

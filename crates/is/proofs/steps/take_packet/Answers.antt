@@ -1,7 +1,5 @@
-use Rattle.std.proofs.Common.{inr, ap, ◌∙◌}
-use Rattle.is_stun.specs.MessageView.{message_view}
-use Rattle.is_agent.specs.View.{emitted_of}
 use Rattle.is_rules.specs.Steps as agent
+use Rattle.is.proofs.Common.{◌∙◌, ap, emitted_of, inr, message_view}
 use Rattle.is.proofs.steps.take_packet.Goals as goal
 
 -- the bytes encode the message, which the agent handles

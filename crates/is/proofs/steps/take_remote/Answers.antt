@@ -1,6 +1,4 @@
-use Rattle.std.proofs.Common.{refl, ap, ◌∙◌}
-use Rattle.is_agent.specs.View.{record_of, emitted_of}
-use Rattle.is_rules.specs.Steps.{Answer, Entry}
+use Rattle.is.proofs.Common.{◌∙◌, Answer, ap, emitted_of, Entry, refl}
 use Rattle.is.proofs.steps.take_remote.Goals as goal
 
 pub returns-clause-did : goal.returns-clause-did

@@ -1,5 +1,4 @@
-use Rattle.std.proofs.Common.{◌<◌, length, refl, arith}
-use Rattle.std.proofs.lemmas.Option.{slice_get_read}
+use Rattle.is.proofs.Common.{◌<◌, arith, length, refl, slice_get_read}
 use Rattle.is.proofs.RolesAndChains.FirstMarkedEntries.{none_more}
 use Rattle.is.proofs.traces.first_marked.Goals as goal
 

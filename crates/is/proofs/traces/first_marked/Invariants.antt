@@ -1,5 +1,4 @@
-use Rattle.std.proofs.Common.{◌≤◌}
-use Rattle.is.specs.Marks.{NoneMarked}
+use Rattle.is.proofs.Common.{◌≤◌, NoneMarked}
 use Rattle.is.proofs.traces.first_marked.Given as goal
 
 abbrev pub invariant-loop-n : goal.invariant-loop-n

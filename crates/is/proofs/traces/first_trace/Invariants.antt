@@ -1,6 +1,4 @@
-use Rattle.std.proofs.Common.{◌<◌}
-use Rattle.is.specs.declared.traces.Trace.{Trace}
-use Rattle.is.specs.Traces.{IsTrace}
+use Rattle.is.proofs.Common.{◌<◌, IsTrace, Trace}
 use Rattle.is.proofs.traces.first_trace.Given as goal
 
 -- no causal chain begins before

@@ -1,7 +1,7 @@
 use Rattle.std.proofs.Common.{ℕ, Option, Result, subst, sym}
 use Rattle.is_proto.specs.declared.error.IceError.{IceError}
 use Rattle.is_rules.specs.Local.{AddsLocal, error_of}
-use Rattle.is_rules.specs.Settling.{ReselectsAfter}
+use Rattle.is_rules.specs.StateUpdates.{ReselectsAfter}
 use Rattle.is_agent.specs.View.{record_of, emitted_of}
 use Rattle.is_agent.proofs.AgentParts.SelectedAgain.{is-err}
 use Rattle.is_agent.proofs.local.add_local.Goals as goal

@@ -43,7 +43,7 @@ use Rattle.std_heap.specs.contracts.Global as Heap
 use Rattle.is_c.proofs.AsBox.{E}
 use Rattle.is_c.specs.Freeing.{freed_at}
 use Rattle.is_c.specs.Slots.{held_by}
-use Rattle.is_c_calls.specs.Held.{HomeRecord}
+use Rattle.is_c_calls.specs.Held.{HeldRecord}
 use Rattle.is_c.specs.declared.slot.Slot.{Slot}
 use Rattle.is_c.specs.contracts.slot.Slot.{the_row as slot_row}
 use Rattle.is_c.specs.contracts.making.free as g
@@ -119,8 +119,8 @@ module _ {M : Type 1} {𝓤 : Ura M} (𝓛 : Logic 𝓤) (at_mem : Memory → SP
       move ! (3 ∷ 5 ∷ 0 ∷ []) $ use3 𝓛 (later (‵ (lies_at slot_row full_share (block_ptr b o) us.1.0))) (ref_back 𝓛 slot_row (α ∷ []) γ us.1.0 b o) $ await ! tt $
       sets ! (of_opd ! (unit_lit !)) refl (tt, tt) $
       returns ! (look_at ! 0 refl) $ free_all ! refl $
-      feq_i ! (Option HomeRecord) (held_by us.1.0) None is_freed $ move ! (1 ∷ 0 ∷ []) $ fjoin ! $
-      fpack ! Slot (λ s. fsep (lies_at slot_row full_share (block_ptr b o) s) (feq (Option HomeRecord) (held_by s) None)) us.1.0 $ keep ! (0 ∷ []) $ by ! (exits (block_ptr b o) hv))))))))))
+      feq_i ! (Option HeldRecord) (held_by us.1.0) None is_freed $ move ! (1 ∷ 0 ∷ []) $ fjoin ! $
+      fpack ! Slot (λ s. fsep (lies_at slot_row full_share (block_ptr b o) s) (feq (Option HeldRecord) (held_by s) None)) us.1.0 $ keep ! (0 ∷ []) $ by ! (exits (block_ptr b o) hv))))))))))
 
   entry : (p : Ptr) (us vs : List Val) → ent 𝓤 ((walk_of 𝓛 f.ended stayed (f.clauses 𝓛 at_mem run)).pre (bound p us vs)) (Runs p us vs)
   entry p us vs =

@@ -1,5 +1,4 @@
-use Rattle.std.proofs.Common.{◌≡◌, Some, find, rules, ◌∙◌}
-use Rattle.is_pair.specs.Checks.{has_id}
+use Rattle.is_rules.proofs.Common.{◌∙◌, ◌≡◌, find, has_id, rules, Some}
 use Rattle.is_rules.proofs.FunctionProofs.FoundChecks.{check-found, same-beq}
 use Rattle.is_rules.proofs.answers.is_of_role.Goals as goal
 

@@ -1,11 +1,5 @@
-use Rattle.std.proofs.Common.{Some, None, ap, ◌∙◌}
-use Rattle.is_pair.specs.Multiset.{is_awaiting, pair_numbered}
-use Rattle.is_pair.specs.Checklists.{multiset_of}
-use Rattle.is_pair.specs.Pairs.{PairRecord}
 use Rattle.is_rules.specs.Answers.{is_reverse}
-use Rattle.is_rules.specs.FormingView.{sides_view}
-use Rattle.is_rules.specs.Kept.{is_placed}
-use Rattle.is_rules.specs.Nominating.{path_in}
+use Rattle.is_rules.proofs.Common.{◌∙◌, ap, is_awaiting, is_placed, multiset_of, None, pair_numbered, PairRecord, path_in, sides_view, Some}
 use Rattle.is_rules.proofs.PairLists.PairsByNumber.{has-any, none-any, numbered-found}
 use Rattle.is_rules.proofs.PairLists.PairsInLists.{awaiting-there}
 use Rattle.is_rules.proofs.answers.pair_awaiting.Goals as goal

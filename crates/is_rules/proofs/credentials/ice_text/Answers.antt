@@ -1,10 +1,7 @@
-use Rattle.std.proofs.Common.{ℕ, ◌<◌, ◌%◌, List, [], ◌∷◌, take, arith}
 use Rattle.std.specs.Str.{IsAscii}
-use Rattle.std.proofs.lemmas.Bool.{false≢true}
-use Rattle.std.proofs.lemmas.Bool.Decides.{nat_tests}
 use Rattle.std.proofs.lemmas.Str.{IsUtf8-from_ascii}
 use Rattle.std.proofs.lemmas.Str.Ascii.{IsAscii-nil, IsAscii-cons}
-use Rattle.is_rules.specs.Credentials.{ice_char, ice_text}
+use Rattle.is_rules.proofs.Common.{[], ◌%◌, ◌<◌, ◌∷◌, arith, false≢true, ice_char, ice_text, List, nat_tests, take, ℕ}
 use Rattle.is_rules.proofs.credentials.ice_text.Goals as goal
 
 ice_char-small : (n : ℕ) → n < 64 → ice_char n < 128

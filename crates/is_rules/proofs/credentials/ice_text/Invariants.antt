@@ -1,5 +1,4 @@
-use Rattle.std.proofs.Common.{◌≡◌, take, vec_capacity}
-use Rattle.is_rules.specs.Credentials.{ice_text}
+use Rattle.is_rules.proofs.Common.{◌≡◌, ice_text, take, vec_capacity}
 use Rattle.is_rules.proofs.credentials.ice_text.Given as goal
 
 -- the characters so far, in the capacity that was reserved

@@ -1,6 +1,4 @@
-use Rattle.std.proofs.Common.{◌∷◌, [], length, refl, ap, arith}
-use Rattle.is_pair.specs.Multiset.{is_numbered}
-use Rattle.is_pair.specs.Checklists.{multiset_of}
+use Rattle.is_rules.proofs.Common.{[], ◌∷◌, ap, arith, is_numbered, length, multiset_of, refl}
 use Rattle.is_rules.proofs.PairLists.PairsInLists.{placed-without}
 use Rattle.is_rules.proofs.PairLists.RemovedInTurn.{shorter}
 use Rattle.is_rules.proofs.evicting.evict_by_kind.Goals as goal

@@ -1,10 +1,5 @@
-use Rattle.std.proofs.Common.{List, ◌≡◌, ℕ, true, length}
-use Rattle.is_pair.specs.Pairs.{PairRecord}
-use Rattle.is_pair.specs.Multiset.{are_below}
-use Rattle.is_pair.specs.Checklists.{multiset_of}
-use Rattle.is_rules.specs.Evicting.{AreCounted, EvictsOfMostInTurn}
-use Rattle.is_rules.specs.Kept.{are_placed}
-use Rattle.is_rules.specs.Kinds.{kind_of}
+use Rattle.is_rules.proofs.Common.{◌≡◌, are_below, are_placed, AreCounted, EvictsOfMostInTurn, kind_of, length, List, multiset_of}
+use Rattle.is_rules.proofs.Common.{PairRecord, true, ℕ}
 use Rattle.is_rules.proofs.evicting.evict_by_kind.Given as goal
 
 -- however it goes on from here, it goes so from the start

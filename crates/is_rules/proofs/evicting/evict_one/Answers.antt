@@ -1,13 +1,7 @@
-use Rattle.std.proofs.Common.{rules, ◌≡◌, ◌==◌, ◌∙◌, ◌≤◌, ◌<◌, [], ℕ, Bool, true, false, List, slice_index, ◌+◌, ◌-◌, length, slice_index_or, slice_set, Some, None, refl, ap, arith}
-use Rattle.std.proofs.lemmas.Bool.{eq-eqb}
-use Rattle.std.proofs.lemmas.Bool.Decides.{nat_tests}
-use Rattle.std.proofs.lemmas.List.{get_or-set_other, get_or-set_same}
-use Rattle.is_pair.specs.Multiset.{is_numbered, without}
-use Rattle.is_pair.specs.Checklists.{multiset_of}
-use Rattle.is_pair.specs.Pairs.{PairRecord}
-use Rattle.is_rules.specs.Kinds.{kind_of}
-use Rattle.is_rules.specs.Owed.{one_if}
-use Rattle.is_rules.specs.Evicting.{is_of_kind, kind_count, IsLeastOfKind}
+use Rattle.is_rules.proofs.Common.{[], ◌+◌, ◌-◌, ◌<◌, ◌==◌, ◌∙◌, ◌≡◌, ◌≤◌, ap, arith, Bool, eq-eqb, false, get_or-set_other}
+use Rattle.is_rules.proofs.Common.{get_or-set_same, is_numbered, is_of_kind, IsLeastOfKind, kind_count, kind_of, length, List, multiset_of}
+use Rattle.is_rules.proofs.Common.{nat_tests, None, one_if, PairRecord, refl, rules, slice_index, slice_index_or, slice_set, Some, true}
+use Rattle.is_rules.proofs.Common.{without, ℕ}
 use Rattle.is_rules.proofs.FunctionProofs.EvictedPairsByKind.{count-goes}
 use Rattle.is_rules.proofs.PairLists.LeastOfKind.{lowest-of-most, most-counted}
 use Rattle.is_rules.proofs.PairLists.RisingNumbers.{rising-each}

@@ -1,10 +1,6 @@
-use Rattle.std.proofs.Common.{◌≡◌, ◌==◌, ◌+◌, ◌<◌, ℕ, Bool, true, false, List, drop, length, refl, ap, ◌∙◌, arith, slice_index}
-use Rattle.std.specs.Prelude.{slice_index_or, slice_set}
-use Rattle.std.proofs.lemmas.Bool.Decides.{nat_tests}
-use Rattle.std.proofs.lemmas.List.{get_or-set_other, get_or-set_same, length-set}
-use Rattle.is_rules.specs.Evicting.{is_of_kind, kind_count}
-use Rattle.is_rules.specs.Kinds.{kind_of}
-use Rattle.is_rules.specs.Owed.{one_if}
+use Rattle.is_rules.proofs.Common.{◌+◌, ◌<◌, ◌==◌, ◌∙◌, ◌≡◌, ap, arith, Bool, drop, false, get_or-set_other, get_or-set_same, is_of_kind}
+use Rattle.is_rules.proofs.Common.{kind_count, kind_of, length, length-set, List, nat_tests, one_if, refl, slice_index, slice_index_or}
+use Rattle.is_rules.proofs.Common.{slice_set, true, ℕ}
 use Rattle.is_rules.proofs.PairLists.CountedPairs.{count-head}
 use Rattle.is_rules.proofs.PairLists.PairsInLists.{placed-first}
 use Rattle.is_rules.proofs.PairLists.VisitedPairs.{left-more}

@@ -1,8 +1,4 @@
-use Rattle.std.proofs.Common.{◌≡◌, ℕ, ◌<◌, ◌+◌, true, drop, length, slice_index}
-use Rattle.is_pair.specs.Checklists.{multiset_of}
-use Rattle.is_rules.specs.Evicting.{kind_count}
-use Rattle.is_rules.specs.Kept.{are_placed}
-use Rattle.is_rules.specs.Kinds.{kind_of, KINDS}
+use Rattle.is_rules.proofs.Common.{◌+◌, ◌<◌, ◌≡◌, are_placed, drop, kind_count, kind_of, KINDS, length, multiset_of, slice_index, true, ℕ}
 use Rattle.is_rules.proofs.evicting.kind_counts.Given as goal
 
 -- the pairs so far and those that are left are all

@@ -1,6 +1,5 @@
+use Rattle.is_rules.proofs.Common.{multiset_of, option_copied}
 use Rattle.is_rules.proofs.PairLists.LeastOfKind.{least-placed}
-use Rattle.is_pair.specs.Checklists.{multiset_of}
-use Rattle.std.specs.Option.{option_copied}
 use Rattle.is_rules.proofs.evicting.least_of_kind.Goals as goal
 
 pub returns : goal.returns

@@ -1,5 +1,4 @@
-use Rattle.std.proofs.Common.{ℕ, ◌<◌, ◌≤◌, slice_index}
-use Rattle.is_rules.specs.Kinds.{KINDS}
+use Rattle.is_rules.proofs.Common.{◌<◌, ◌≤◌, KINDS, slice_index, ℕ}
 use Rattle.is_rules.proofs.evicting.most_numerous.Given as goal
 
 abbrev pub invariant-loop-kind : goal.invariant-loop-kind

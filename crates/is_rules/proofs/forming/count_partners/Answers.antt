@@ -1,5 +1,4 @@
-use Rattle.std.proofs.Common.{rules, length-append}
-use Rattle.std.proofs.lemmas.List.Elements.{filter-append}
+use Rattle.is_rules.proofs.Common.{filter-append, length-append, rules}
 use Rattle.is_rules.proofs.FunctionProofs.IndexRanges.{places-more}
 use Rattle.is_rules.proofs.forming.count_partners.Goals as goal
 

@@ -1,6 +1,4 @@
-use Rattle.std.proofs.Common.{◌≡◌, ◌≤◌, filter, length}
-use Rattle.std.specs.List.{range_with_len}
-use Rattle.is_rules.specs.Forming.{is_partner_at}
+use Rattle.is_rules.proofs.Common.{◌≡◌, ◌≤◌, filter, is_partner_at, length, range_with_len}
 use Rattle.is_rules.proofs.forming.count_partners.Given as goal
 
 abbrev pub invariant-loop-place : goal.invariant-loop-place

@@ -1,5 +1,4 @@
-use Rattle.is_pair.specs.Checklists.{multiset_of}
-use Rattle.is_rules.specs.FormingView.{sides_view}
+use Rattle.is_rules.proofs.Common.{multiset_of, sides_view}
 use Rattle.is_rules.proofs.PairLists.PairsInLists.{placed-evicted}
 use Rattle.is_rules.proofs.PairLists.RemovedInTurn.{removes}
 use Rattle.is_rules.proofs.forming.form_each.Goals as goal

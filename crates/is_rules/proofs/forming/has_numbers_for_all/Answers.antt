@@ -1,9 +1,5 @@
-use Rattle.std.proofs.Common.{◌≡◌, ℕ, ◌+◌, ◌-◌, ◌<◌, [], ◌∷◌, List, length, filter, arith, refl, length-append}
-use Rattle.std.specs.List.{flat_map, range_with_len}
-use Rattle.std.proofs.lemmas.Grind.{flat_map-append}
-use Rattle.std.proofs.lemmas.List.Elements.{filter-append}
-use Rattle.is_candidate.specs.Candidates.{CandidateRecord}
-use Rattle.is_rules.specs.Forming.{is_alive_at, live_row}
+use Rattle.is_rules.proofs.Common.{[], ◌+◌, ◌-◌, ◌<◌, ◌∷◌, ◌≡◌, arith, CandidateRecord, filter, filter-append, flat_map, flat_map-append}
+use Rattle.is_rules.proofs.Common.{is_alive_at, length, length-append, List, live_row, range_with_len, refl, ℕ}
 use Rattle.is_rules.proofs.FunctionProofs.IndexRanges.{places-from}
 use Rattle.is_rules.proofs.forming.has_numbers_for_all.Goals as goal
 

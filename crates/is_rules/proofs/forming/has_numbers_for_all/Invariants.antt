@@ -1,7 +1,4 @@
-use Rattle.std.proofs.Common.{◌≡◌, ◌+◌, ◌-◌, length, filter}
-use Rattle.std.specs.List.{flat_map, range_with_len}
-use Rattle.is_proto.specs.Times.{MAX}
-use Rattle.is_rules.specs.Forming.{is_alive_at, live_row, live_combinations}
+use Rattle.is_rules.proofs.Common.{◌+◌, ◌-◌, ◌≡◌, filter, flat_map, is_alive_at, length, live_combinations, live_row, MAX, range_with_len}
 use Rattle.is_rules.proofs.forming.has_numbers_for_all.Given as goal
 
 abbrev pub invariant-loop-l : goal.invariant-loop-l

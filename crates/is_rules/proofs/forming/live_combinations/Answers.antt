@@ -1,5 +1,4 @@
-use Rattle.std.proofs.lemmas.Grind.{flat_map-append}
-use Rattle.std.proofs.lemmas.List.Elements.{filter-append}
+use Rattle.is_rules.proofs.Common.{filter-append, flat_map-append}
 use Rattle.is_rules.proofs.FunctionProofs.IndexRanges.{places-more}
 use Rattle.is_rules.proofs.forming.live_combinations.Goals as goal
 

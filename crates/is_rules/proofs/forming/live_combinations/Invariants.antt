@@ -1,6 +1,4 @@
-use Rattle.std.proofs.Common.{◌≡◌, filter}
-use Rattle.std.specs.List.{flat_map, range_with_len}
-use Rattle.is_rules.specs.Forming.{is_alive_at, live_row}
+use Rattle.is_rules.proofs.Common.{◌≡◌, filter, flat_map, is_alive_at, live_row, range_with_len}
 use Rattle.is_rules.proofs.forming.live_combinations.Given as goal
 
 abbrev pub invariant-loop-l : goal.invariant-loop-l

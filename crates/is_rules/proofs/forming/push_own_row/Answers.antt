@@ -1,6 +1,4 @@
-use Rattle.std.proofs.Common.{append_assoc}
-use Rattle.std.proofs.lemmas.List.{map-append}
-use Rattle.std.proofs.lemmas.List.Elements.{filter-append}
+use Rattle.is_rules.proofs.Common.{append_assoc, filter-append, map-append}
 use Rattle.is_rules.proofs.FunctionProofs.IndexRanges.{places-more}
 use Rattle.is_rules.proofs.forming.push_own_row.Goals as goal
 

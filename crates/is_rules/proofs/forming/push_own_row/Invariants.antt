@@ -1,6 +1,4 @@
-use Rattle.std.proofs.Common.{◌≡◌, ◌++◌, filter, map}
-use Rattle.std.specs.List.{range_with_len}
-use Rattle.is_rules.specs.Forming.{is_partner_at}
+use Rattle.is_rules.proofs.Common.{◌++◌, ◌≡◌, filter, is_partner_at, map, range_with_len}
 use Rattle.is_rules.proofs.forming.push_own_row.Given as goal
 
 abbrev pub invariant-loop-r : goal.invariant-loop-r

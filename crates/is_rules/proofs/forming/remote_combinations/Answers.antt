@@ -1,5 +1,4 @@
-use Rattle.std.proofs.lemmas.List.{map-append}
-use Rattle.std.proofs.lemmas.List.Elements.{filter-append}
+use Rattle.is_rules.proofs.Common.{filter-append, map-append}
 use Rattle.is_rules.proofs.FunctionProofs.IndexRanges.{places-more}
 use Rattle.is_rules.proofs.forming.remote_combinations.Goals as goal
 

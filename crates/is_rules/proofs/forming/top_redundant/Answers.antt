@@ -1,8 +1,4 @@
-use Rattle.std.specs.Option.{option_copied}
-use Rattle.is_pair.specs.Checklists.{multiset_of}
-use Rattle.is_rules.specs.Kept.{is_placed}
-use Rattle.is_rules.specs.Forming.{is_redundant}
-use Rattle.is_rules.specs.FormingView.{sides_view}
+use Rattle.is_rules.proofs.Common.{is_placed, is_redundant, multiset_of, option_copied, sides_view}
 use Rattle.is_rules.proofs.PairLists.PairsInLists.{greatest-there}
 use Rattle.is_rules.proofs.forming.top_redundant.Goals as goal
 

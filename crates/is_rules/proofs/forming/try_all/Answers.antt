@@ -1,7 +1,6 @@
-use Rattle.std.proofs.Common.{◌≡◌, ◌<◌, ◌+◌, ◌-◌, ◌∷◌, ℕ, List, arith, drop, get_or, length, rules, subst, suc}
 use Rattle.std.proofs.Math.Seq.{drop-cons}
-use Rattle.is_pair.specs.Checklists.{multiset_of, HasRoom}
-use Rattle.is_rules.specs.Forming.{formed_as}
+use Rattle.is_rules.proofs.Common.{◌+◌, ◌-◌, ◌<◌, ◌∷◌, ◌≡◌, arith, drop, formed_as, get_or, HasRoom, length, List, multiset_of, rules}
+use Rattle.is_rules.proofs.Common.{subst, suc, ℕ}
 use Rattle.is_rules.proofs.forming.try_all.Goals as goal
 
 drop-next : {X : Type 0} (xs : List X) (i : ℕ) (d : X) → i < length xs → drop i xs ≡ get_or xs i d ∷ drop (i + 1) xs

@@ -1,12 +1,6 @@
-use Rattle.std.proofs.Common.{◌≡◌, ◌+◌, ◌-◌, ◌≤◌, true, length, drop}
-use Rattle.is_proto.specs.Times.{MAX}
-use Rattle.is_pair.specs.Multiset.{are_below}
-use Rattle.is_pair.specs.Checklists.{multiset_of, HasRoom}
 use Rattle.is_rules.specs.Each.{Each}
-use Rattle.is_rules.specs.Kept.{are_placed}
-use Rattle.is_rules.specs.Forming.{Formed, Tries, formed_as}
-use Rattle.is_rules.specs.FormingView.{sides_view}
-use Rattle.is_rules.specs.Slots.{AreHeld}
+use Rattle.is_rules.proofs.Common.{◌+◌, ◌-◌, ◌≡◌, ◌≤◌, are_below, are_placed, AreHeld, drop, Formed, formed_as, HasRoom, length, MAX}
+use Rattle.is_rules.proofs.Common.{multiset_of, sides_view, Tries, true}
 use Rattle.is_rules.proofs.forming.try_all.Given as goal
 
 -- however it goes on from here, it goes so from the start

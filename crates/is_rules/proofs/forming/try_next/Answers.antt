@@ -1,7 +1,4 @@
-use Rattle.std.proofs.Common.{refl}
-use Rattle.is_pair.specs.Checklists.{multiset_of}
-use Rattle.is_rules.specs.Forming.{formed_as}
-use Rattle.is_rules.specs.FormingView.{sides_view}
+use Rattle.is_rules.proofs.Common.{formed_as, multiset_of, refl, sides_view}
 use Rattle.is_rules.proofs.FunctionProofs.SlotsOfPairs.{next-held}
 use Rattle.is_rules.proofs.forming.try_next.Goals as goal
 

@@ -1,10 +1,5 @@
-use Rattle.std.proofs.Common.{◌≡◌, ℕ, arith, ◌<◌, ◌++◌, ◌∷◌, [], true, nat_lt, Some, length, rules, sym, ap, ◌∙◌, subst, refl}
-use Rattle.std.proofs.lemmas.Bool.Decides.{nat_tests}
-use Rattle.is_pair.specs.Multiset.{is_numbered, without}
-use Rattle.is_pair.specs.Checklists.{multiset_of}
-use Rattle.is_pair.specs.Pairs.{PairRecord, taking_over}
-use Rattle.is_rules.specs.Forming.{combined_priority, pair_of}
-use Rattle.is_rules.specs.FormingView.{sides_view}
+use Rattle.is_rules.proofs.Common.{[], ◌++◌, ◌<◌, ◌∙◌, ◌∷◌, ◌≡◌, ap, arith, combined_priority, is_numbered, length, multiset_of, nat_lt}
+use Rattle.is_rules.proofs.Common.{nat_tests, pair_of, PairRecord, refl, rules, sides_view, Some, subst, sym, taking_over, true, without, ℕ}
 use Rattle.is_rules.proofs.PairLists.PairsInLists.{placed-push, placed-without, taken-places}
 use Rattle.is_rules.proofs.forming.try_one.Goals as goal
 

@@ -1,11 +1,8 @@
-use Rattle.std.proofs.Common.{if◌then◌else◌, ◌≡◌, ◌||◌, ◌&&◌, ℕ, Bool, true, false, not, List, [], ◌∷◌, refl, sym, ◌∙◌}
-use Rattle.std.specs.List.{list_any}
-use Rattle.std.specs.declared.net.socket_addr.SocketAddr.{SocketAddr}
 use Rattle.is_candidate.specs.Addresses.{same_version}
-use Rattle.is_candidate.specs.Candidates.{CandidateRecord, base_of}
 use Rattle.is_candidate.specs.Kinds.{same_kind}
-use Rattle.is_candidate.specs.declared.candidate.kind.CandidateKind.TheVariants.{Relayed}
-use Rattle.is_rules.specs.Kinds.{is_reflexive, is_reflexive_of, is_reflexive_like, side_of}
+use Rattle.is_rules.proofs.Common.{[], ◌&&◌, ◌||◌, ◌∙◌, ◌∷◌, ◌≡◌, base_of, Bool, CandidateRecord, false, if◌then◌else◌, is_reflexive}
+use Rattle.is_rules.proofs.Common.{is_reflexive_like, is_reflexive_of, List, list_any, not, refl, Relayed, side_of, SocketAddr, sym, true}
+use Rattle.is_rules.proofs.Common.{ℕ}
 use Rattle.is_rules.proofs.kind_table.are_all_outer.Goals as goal
 
 none-like : (base : SocketAddr) (local : List CandidateRecord) → list_any is_reflexive local ≡ false → list_any (is_reflexive_like base) local ≡ false

@@ -1,6 +1,4 @@
-use Rattle.std.proofs.Common.{◌≡◌, ℕ, ◌<◌, length, slice_index}
-use Rattle.is_candidate.specs.Candidates.{candidate_at}
-use Rattle.is_rules.specs.Kinds.{side_of}
+use Rattle.is_rules.proofs.Common.{◌<◌, ◌≡◌, candidate_at, length, side_of, slice_index, ℕ}
 use Rattle.is_rules.proofs.kind_table.sides_of.Given as goal
 
 -- those before the place are right

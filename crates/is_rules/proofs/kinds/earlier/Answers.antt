@@ -1,6 +1,4 @@
-use Rattle.std.proofs.Common.{subst, sym, ◌∙◌}
-use Rattle.std.specs.Option.{option_copied}
-use Rattle.is_rules.specs.Kinds.{IsNextAhead}
+use Rattle.is_rules.proofs.Common.{◌∙◌, IsNextAhead, option_copied, subst, sym}
 use Rattle.is_rules.proofs.FunctionProofs.NextAhead.{due-before, due-first, due-later}
 use Rattle.is_rules.proofs.kinds.earlier.Goals as goal
 use Rattle.is_rules.proofs.kinds.earlier.Goals.{in_default-via-in-Some+else-turns_before, in_default-via-in_default}

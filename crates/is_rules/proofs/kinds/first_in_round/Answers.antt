@@ -1,8 +1,4 @@
-use Rattle.std.proofs.Common.{◌∷◌, [], ◌+◌, List, None, drop, subst, sym}
-use Rattle.std.proofs.lemmas.List.{drop_all}
-use Rattle.std.specs.Option.{option_copied}
-use Rattle.is_pair.specs.Pairs.{PairRecord}
-use Rattle.is_pair.specs.Checklists.{multiset_of}
+use Rattle.is_rules.proofs.Common.{[], ◌+◌, ◌∷◌, drop, drop_all, List, multiset_of, None, option_copied, PairRecord, subst, sym}
 use Rattle.is_rules.proofs.PairLists.VisitedPairs.{left-more}
 use Rattle.is_rules.proofs.FunctionProofs.NextAhead.{IsVisited, visited-all, visited-more, visited-none, placed-first}
 use Rattle.is_rules.proofs.kinds.first_in_round.Goals as goal

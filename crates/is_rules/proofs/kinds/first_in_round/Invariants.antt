@@ -1,7 +1,4 @@
-use Rattle.std.proofs.Common.{List, drop}
-use Rattle.std.specs.Option.{option_copied}
-use Rattle.is_pair.specs.Pairs.{PairRecord}
-use Rattle.is_pair.specs.Checklists.{multiset_of}
+use Rattle.is_rules.proofs.Common.{drop, List, multiset_of, option_copied, PairRecord}
 use Rattle.is_rules.proofs.FunctionProofs.NextAhead.{IsVisited}
 use Rattle.is_rules.proofs.kinds.first_in_round.Given as goal
 

@@ -1,6 +1,4 @@
-use Rattle.std.proofs.Common.{sym}
-use Rattle.is_pair.specs.Due.{is_due}
-use Rattle.is_pair.specs.Checklists.{multiset_of}
+use Rattle.is_rules.proofs.Common.{is_due, multiset_of, sym}
 use Rattle.is_rules.proofs.FunctionProofs.FoundElements.{find-None}
 use Rattle.is_rules.proofs.kinds.next_ahead.Goals as goal
 

@@ -1,7 +1,4 @@
-use Rattle.std.proofs.Common.{◌≡◌, ◌∷◌, [], ◌+◌, List, None, drop, subst, sym}
-use Rattle.std.proofs.lemmas.List.{drop_all}
-use Rattle.is_pair.specs.Pairs.{PairRecord}
-use Rattle.is_pair.specs.Checklists.{multiset_of}
+use Rattle.is_rules.proofs.Common.{[], ◌+◌, ◌∷◌, drop, drop_all, List, multiset_of, None, PairRecord, subst, sym}
 use Rattle.is_rules.proofs.PairLists.VisitedPairs.{left-more}
 use Rattle.is_rules.proofs.FunctionProofs.NextAsked.{IsVisited, visited-all, visited-more, visited-none}
 use Rattle.is_rules.proofs.leaving.asked_next.Goals as goal

@@ -1,7 +1,5 @@
-use Rattle.std.proofs.Common.{subst, sym, ◌∙◌}
-use Rattle.std.specs.Option.{option_copied}
-use Rattle.is_rules.specs.Leaving.{IsAskedNext}
-use Rattle.is_rules.proofs.FunctionProofs.NextAsked.{not-tested, tested-before, tested-first, tested-later}
+use Rattle.is_rules.proofs.Common.{◌∙◌, IsAskedNext, option_copied, subst, sym}
+use Rattle.is_rules.proofs.FunctionProofs.NextAsked.{tested-before, tested-first, tested-later}
 use Rattle.is_rules.proofs.leaving.earlier.Goals as goal
 use Rattle.is_rules.proofs.leaving.earlier.Goals.{in_default-via-in-Some+else-goes_before, in_default-via-in_default}
 

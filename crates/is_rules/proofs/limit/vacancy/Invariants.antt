@@ -1,5 +1,4 @@
-use Rattle.is_pair.specs.Checklists.{multiset_of}
-use Rattle.is_rules.specs.Limit.{NoneVacantBelow}
+use Rattle.is_rules.proofs.Common.{multiset_of, NoneVacantBelow}
 use Rattle.is_rules.proofs.limit.vacancy.Given as goal
 
 abbrev pub invariant-loop-place : goal.invariant-loop-place

@@ -1,6 +1,4 @@
-use Rattle.std.proofs.Common.{◌≡◌, ◌<◌, ◌-◌, ◌∙◌, [], ◌∷◌, slice_index, refl, arith}
-use Rattle.std.specs.Prelude.{slice_index_or}
-use Rattle.std.proofs.lemmas.List.{length-set}
+use Rattle.is_rules.proofs.Common.{[], ◌-◌, ◌<◌, ◌∙◌, ◌∷◌, arith, length-set, refl, slice_index, slice_index_or}
 use Rattle.is_rules.proofs.lowest.counts_that_stay.Goals as goal
 
 pub returns-then-stays-kind-eq0 : goal.returns-then-stays-kind-eq0

@@ -1,6 +1,4 @@
-use Rattle.std.proofs.Common.{◌≡◌, ℕ, List, length}
-use Rattle.is_rules.specs.Kinds.{KINDS}
-use Rattle.is_rules.specs.Shares.{Takes, TakesInTurn}
+use Rattle.is_rules.proofs.Common.{◌≡◌, KINDS, length, List, Takes, TakesInTurn, ℕ}
 use Rattle.is_rules.proofs.lowest.counts_that_stay.Given as goal
 
 -- however it goes on from here, it goes so from the start

@@ -1,7 +1,4 @@
-use Rattle.std.proofs.Common.{◌≡◌, List, length, rules, subst}
-use Rattle.is_pair.specs.Checklists.{multiset_of}
-use Rattle.is_rules.specs.Kinds.{kind_of, KINDS}
-use Rattle.is_rules.specs.Shares.{is_low_of_kind, Takes}
+use Rattle.is_rules.proofs.Common.{◌≡◌, is_low_of_kind, kind_of, KINDS, length, multiset_of, rules, subst, Takes}
 use Rattle.is_rules.proofs.FunctionProofs.EvictedTogether.{evicted-together, low-of-kind}
 use Rattle.is_rules.proofs.PairLists.PairKinds.{kind-below}
 use Rattle.is_rules.proofs.PairLists.PairsInLists.{placed-without}

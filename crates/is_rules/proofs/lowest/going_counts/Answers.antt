@@ -1,14 +1,7 @@
-use Rattle.std.proofs.Common.{if◌then◌else◌, ◌≡◌, ◌==◌, ◌+◌, ◌<◌, ◌≤◌, ℕ, Bool, true, false, List, [], ◌∷◌, drop, filter, length, refl, rules, ap, sym, ◌∙◌, arith, slice_index}
-use Rattle.std.specs.Prelude.{slice_index_or, slice_set}
-use Rattle.std.proofs.lemmas.Bool.Decides.{nat_tests}
-use Rattle.std.proofs.lemmas.List.{get_or-set_other, get_or-set_same, length-set}
-use Rattle.std.proofs.lemmas.List.Sums.{length-filter, count_by-le-length}
-use Rattle.is_pair.specs.Pairs.{PairRecord}
-use Rattle.is_pair.specs.Checklists.{multiset_of}
-use Rattle.is_rules.specs.Evicting.{is_of_kind, kind_count}
-use Rattle.is_rules.specs.Kinds.{kind_of, KINDS}
-use Rattle.is_rules.specs.Owed.{one_if}
-use Rattle.is_rules.specs.Shares.{is_low_of_kind}
+use Rattle.is_rules.proofs.Common.{◌+◌, ◌<◌, ◌==◌, ◌∙◌, ◌∷◌, ◌≡◌, ◌≤◌, ap, arith, Bool, count_by-le-length, drop, false, filter}
+use Rattle.is_rules.proofs.Common.{get_or-set_other, get_or-set_same, if◌then◌else◌, is_low_of_kind, is_of_kind, kind_count, kind_of}
+use Rattle.is_rules.proofs.Common.{length, length-filter, length-set, List, multiset_of, nat_tests, one_if, PairRecord, refl, rules}
+use Rattle.is_rules.proofs.Common.{slice_index, slice_index_or, slice_set, sym, true, ℕ}
 use Rattle.is_rules.proofs.PairLists.CountedPairs.{count-head}
 use Rattle.is_rules.proofs.PairLists.PairsInLists.{placed-first}
 use Rattle.is_rules.proofs.PairLists.VisitedPairs.{left-more}

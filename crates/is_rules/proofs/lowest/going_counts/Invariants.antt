@@ -1,9 +1,5 @@
-use Rattle.std.proofs.Common.{◌≡◌, ℕ, ◌<◌, ◌+◌, true, drop, filter, length, slice_index}
-use Rattle.is_pair.specs.Checklists.{multiset_of}
-use Rattle.is_rules.specs.Evicting.{kind_count}
-use Rattle.is_rules.specs.Kept.{are_placed}
-use Rattle.is_rules.specs.Kinds.{kind_of, KINDS}
-use Rattle.is_rules.specs.Shares.{is_low_of_kind}
+use Rattle.is_rules.proofs.Common.{◌+◌, ◌<◌, ◌≡◌, are_placed, drop, filter, is_low_of_kind, kind_count, kind_of, KINDS, length, multiset_of}
+use Rattle.is_rules.proofs.Common.{slice_index, true, ℕ}
 use Rattle.is_rules.proofs.lowest.going_counts.Given as goal
 
 -- the pairs so far that go and those that are left to go are all

@@ -1,6 +1,4 @@
-use Rattle.std.proofs.Common.{refl, ◌∙◌}
-use Rattle.is_pair.specs.Checklists.{multiset_of}
-use Rattle.is_pair.specs.Pairs.{renominated}
+use Rattle.is_rules.proofs.Common.{◌∙◌, multiset_of, refl, renominated}
 use Rattle.is_rules.proofs.PairLists.PairsInLists.{changed-has, placed-changed}
 use Rattle.is_rules.proofs.nomination.begin_nomination.Goals as goal
 

@@ -1,7 +1,4 @@
-use Rattle.std.proofs.Common.{◌+◌, List, None, Option, drop, ap, sym, ◌∙◌}
-use Rattle.std.specs.Option.{option_copied}
-use Rattle.is_pair.specs.Pairs.{PairRecord}
-use Rattle.is_rules.specs.Nominating.{first_after}
+use Rattle.is_rules.proofs.Common.{◌+◌, ◌∙◌, ap, drop, first_after, List, None, Option, option_copied, PairRecord, sym}
 use Rattle.is_rules.proofs.PairLists.VisitedPairs.{left-more}
 use Rattle.is_rules.proofs.nomination.followed_by_number.Goals as goal
 

@@ -1,7 +1,4 @@
-use Rattle.std.proofs.Common.{◌≡◌, drop}
-use Rattle.std.specs.Option.{option_copied}
-use Rattle.is_pair.specs.Checklists.{multiset_of}
-use Rattle.is_rules.specs.Nominating.{first_after, first_numbered}
+use Rattle.is_rules.proofs.Common.{◌≡◌, drop, first_after, first_numbered, multiset_of, option_copied}
 use Rattle.is_rules.proofs.nomination.followed_by_number.Given as goal
 
 -- what is left, after the first one so far, has the same first one as all

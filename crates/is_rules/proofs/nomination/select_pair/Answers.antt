@@ -1,6 +1,4 @@
-use Rattle.is_pair.specs.Checklists.{multiset_of}
-use Rattle.is_rules.specs.Kept.{is_placed}
-use Rattle.is_rules.specs.Nominating.{nominated_by_self, selection}
+use Rattle.is_rules.proofs.Common.{is_placed, multiset_of, nominated_by_self, selection}
 use Rattle.is_rules.proofs.PairLists.ChosenPair.{chosen-able}
 use Rattle.is_rules.proofs.FunctionProofs.DuePairsAfterNomination.{falls-named}
 use Rattle.is_rules.proofs.PairLists.PairsInLists.{all-has, placed-changed, self-places}

@@ -1,6 +1,4 @@
-use Rattle.std.proofs.Common.{sym}
-use Rattle.is_pair.specs.Multiset.{is_between}
-use Rattle.is_pair.specs.Checklists.{multiset_of}
+use Rattle.is_rules.proofs.Common.{is_between, multiset_of, sym}
 use Rattle.is_rules.proofs.FunctionProofs.FoundElements.{find-Some, find-None}
 use Rattle.is_rules.proofs.pairs.pair_between.Goals as goal
 

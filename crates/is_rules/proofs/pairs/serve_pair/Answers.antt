@@ -1,7 +1,4 @@
-use Rattle.is_pair.specs.Checklists.{multiset_of}
-use Rattle.is_pair.specs.Due.{triggered}
-use Rattle.is_rules.specs.RequestView.{request_view}
-use Rattle.is_rules.specs.Serving.{served}
+use Rattle.is_rules.proofs.Common.{multiset_of, request_view, served, triggered}
 use Rattle.is_rules.proofs.PairLists.PairsInLists.{placed-changed, request-keys, request-places}
 use Rattle.is_rules.proofs.pairs.serve_pair.Goals as goal
 

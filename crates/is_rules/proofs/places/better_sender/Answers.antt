@@ -1,8 +1,5 @@
-use Rattle.std.proofs.Common.{ℕ, Option, subst, sym, ap, ◌∙◌, ◌≡◌}
-use Rattle.is_candidate.specs.Candidates.{candidate_at}
-use Rattle.is_candidate.specs.Priorities.{candidate_priority}
-use Rattle.is_rules.specs.RequestView.{request_view}
-use Rattle.is_rules.specs.Places.{is_live, is_sender, IsGreatestBelow}
+use Rattle.is_rules.proofs.Common.{◌∙◌, ◌≡◌, ap, candidate_at, candidate_priority, is_live, is_sender, IsGreatestBelow, Option}
+use Rattle.is_rules.proofs.Common.{request_view, subst, sym, ℕ}
 use Rattle.is_rules.proofs.FunctionProofs.BestIndex.{passed_over, overtaken, kept}
 use Rattle.is_rules.proofs.places.better_sender.Goals as goal
 

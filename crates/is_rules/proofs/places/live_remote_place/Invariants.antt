@@ -1,5 +1,4 @@
-use Rattle.is_rules.specs.RequestView.{request_view}
-use Rattle.is_rules.specs.Places.{is_live, is_sender, IsGreatestBelow}
+use Rattle.is_rules.proofs.Common.{is_live, is_sender, IsGreatestBelow, request_view}
 use Rattle.is_rules.proofs.places.live_remote_place.Given as goal
 
 abbrev pub invariant-loop-place : goal.invariant-loop-place

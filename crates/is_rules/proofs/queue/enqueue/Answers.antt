@@ -1,8 +1,7 @@
-use Rattle.std.proofs.Common.{◌≡◌, ℕ, ◌-◌, [], ◌∷◌, ◌++◌, List, map, length, drop, rules, refl, length-append}
-use Rattle.std.proofs.lemmas.List.{map-append, length-map, drop-map}
 use Rattle.is_rules.specs.declared.request.Waiting.{Waiting}
-use Rattle.is_rules.specs.RequestView.{waiting_view}
 use Rattle.is_rules.specs.Queue.{QUEUE_LIMIT, queued_last}
+use Rattle.is_rules.proofs.Common.{[], ◌++◌, ◌-◌, ◌∷◌, ◌≡◌, drop, drop-map, length, length-append, length-map, List, map, map-append, refl}
+use Rattle.is_rules.proofs.Common.{rules, waiting_view, ℕ}
 use Rattle.is_rules.proofs.queue.enqueue.Goals as goal
 
 -- what is dropped of the requests is dropped of their views

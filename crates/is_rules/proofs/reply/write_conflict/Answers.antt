@@ -1,5 +1,4 @@
-use Rattle.std.proofs.Common.{arith}
-use Rattle.is_stun.specs.Theorems.{LONGEST_REPLY}
+use Rattle.is_rules.proofs.Common.{arith, LONGEST_REPLY}
 use Rattle.is_rules.proofs.reply.write_conflict.Goals as goal
 
 pub write_signed-requires-clause-fits : goal.write_signed-requires-clause-fits

@@ -1,7 +1,6 @@
-use Rattle.std.proofs.Common.{arith, subst, Some}
 use Rattle.is_stun.specs.Message.{Message}
-use Rattle.is_stun.specs.Theorems.{IsPut, LONGEST_REPLY, plain}
 use Rattle.is_stun.specs.Writing.{written}
+use Rattle.is_rules.proofs.Common.{arith, IsPut, LONGEST_REPLY, plain, Some, subst}
 use Rattle.is_rules.proofs.PollsAndResponses.AddressesInResponses.{plain-reply}
 use Rattle.is_rules.proofs.reply.write_reply.Goals as goal
 

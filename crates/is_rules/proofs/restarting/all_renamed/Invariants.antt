@@ -1,5 +1,4 @@
-use Rattle.std.proofs.Common.{◌≡◌, map, take}
-use Rattle.is_rules.specs.Restarting.{with_ufrag}
+use Rattle.is_rules.proofs.Common.{◌≡◌, map, take, with_ufrag}
 use Rattle.is_rules.proofs.restarting.all_renamed.Given as goal
 
 abbrev pub invariant-loop-candidate : goal.invariant-loop-candidate

@@ -1,7 +1,6 @@
-use Rattle.std.proofs.Common.{rules, not}
 use Rattle.std.proofs.lemmas.Fn.{filter_same}
 use Rattle.is_rules.specs.declared.event.IceAgentEvent.{IceAgentEvent}
-use Rattle.is_rules.specs.Restarting.{is_selection}
+use Rattle.is_rules.proofs.Common.{is_selection, not, rules}
 use Rattle.is_rules.proofs.restarting.drop_selections.Goals as goal
 
 pub returns-clause-items : goal.returns-clause-items

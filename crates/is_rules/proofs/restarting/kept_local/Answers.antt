@@ -1,8 +1,4 @@
-use Rattle.std.proofs.Common.{◌<◌, IfOk, Result, Ok, Err, sym, subst}
-use Rattle.std.proofs.lemmas.List.Elements.{All-map}
-use Rattle.is_candidate.specs.Priorities.{candidate_priority, TOO_HIGH}
-use Rattle.is_rules.specs.Kept.{NoneTooHigh}
-use Rattle.is_rules.specs.Restarting.{with_ufrag}
+use Rattle.is_rules.proofs.Common.{◌<◌, All-map, candidate_priority, Err, IfOk, NoneTooHigh, Ok, Result, subst, sym, TOO_HIGH, with_ufrag}
 use Rattle.is_rules.proofs.restarting.kept_local.Goals as goal
 
 -- what follows of what was made

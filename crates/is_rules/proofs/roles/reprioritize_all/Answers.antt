@@ -1,8 +1,4 @@
-use Rattle.std.proofs.Common.{◌∙◌, refl}
-use Rattle.is_pair.specs.Checklists.{multiset_of}
-use Rattle.is_rules.specs.FormingView.{sides_view}
-use Rattle.is_rules.specs.Kept.{is_placed}
-use Rattle.is_rules.specs.Roles.{with_priority_in}
+use Rattle.is_rules.proofs.Common.{◌∙◌, is_placed, multiset_of, refl, sides_view, with_priority_in}
 use Rattle.is_rules.proofs.PairLists.PairsInLists.{mapped-there, placed-mapped}
 use Rattle.is_rules.proofs.roles.reprioritize_all.Goals as goal
 

@@ -1,6 +1,4 @@
-use Rattle.std.proofs.Common.{◌≡◌, ◌<◌, length, rules, slice_index, sym, ap, subst}
-use Rattle.is_pair.specs.Checklists.{multiset_of}
-use Rattle.is_rules.specs.FormingView.{sides_view}
+use Rattle.is_rules.proofs.Common.{◌<◌, ◌≡◌, ap, length, multiset_of, rules, sides_view, slice_index, subst, sym}
 use Rattle.is_rules.proofs.FunctionProofs.SlotsOfPairs.{none-held, only-held}
 use Rattle.is_rules.proofs.slots.find_redundant.Goals as goal
 

@@ -1,5 +1,4 @@
-use Rattle.std.proofs.Common.{◌+◌, drop}
-use Rattle.is_rules.specs.FormingView.{sides_view}
+use Rattle.is_rules.proofs.Common.{◌+◌, drop, sides_view}
 use Rattle.is_rules.proofs.FunctionProofs.SlotsOfPairs.{hold-step}
 use Rattle.is_rules.proofs.PairLists.PairsInLists.{placed-first}
 use Rattle.is_rules.proofs.PairLists.VisitedPairs.{left-more}

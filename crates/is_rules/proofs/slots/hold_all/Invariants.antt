@@ -1,10 +1,4 @@
-use Rattle.std.proofs.Common.{◌≡◌, ◌<◌, ◌⊎◌, true, drop, length}
-use Rattle.is_proto.specs.Lists.{Has}
-use Rattle.is_pair.specs.Pairs.{PairRecord}
-use Rattle.is_pair.specs.Checklists.{multiset_of}
-use Rattle.is_rules.specs.FormingView.{sides_view}
-use Rattle.is_rules.specs.Kept.{are_placed}
-use Rattle.is_rules.specs.Slots.{slot_of, IsHeld}
+use Rattle.is_rules.proofs.Common.{◌<◌, ◌≡◌, ◌⊎◌, are_placed, drop, Has, IsHeld, length, multiset_of, PairRecord, sides_view, slot_of, true}
 use Rattle.is_rules.proofs.slots.hold_all.Given as goal
 
 -- each pair is still to come, or its slot holds it

@@ -1,8 +1,4 @@
-use Rattle.std.proofs.Common.{sym, ◌∙◌}
-use Rattle.is_pair.specs.Checklists.{multiset_of}
-use Rattle.is_rules.specs.Kept.{is_placed}
-use Rattle.is_rules.specs.Forming.{is_redundant}
-use Rattle.is_rules.specs.FormingView.{sides_view}
+use Rattle.is_rules.proofs.Common.{◌∙◌, is_placed, is_redundant, multiset_of, sides_view, sym}
 use Rattle.is_rules.proofs.FunctionProofs.SlotsOfPairs.{found-in, one-fails, one-greatest, one-none}
 use Rattle.is_rules.proofs.PairLists.PairsInLists.{all-has}
 use Rattle.is_rules.proofs.slots.redundant_numbered.Goals as goal

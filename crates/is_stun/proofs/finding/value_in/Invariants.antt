@@ -1,9 +1,4 @@
-use Rattle.std.specs.Prelude.{◌≡◌}
-use Rattle.std.specs.Option.{option_copied}
-use Rattle.is_stun.specs.Tlv.{tlvs_of}
-use Rattle.is_stun.specs.TlvView.{tlvs_left}
-use Rattle.is_stun.specs.Integrity.{before_integrity}
-use Rattle.is_stun.specs.Finding.{last_value}
+use Rattle.is_stun.proofs.Common.{◌≡◌, before_integrity, last_value, option_copied, tlvs_left, tlvs_of}
 use Rattle.is_stun.proofs.MessageReading.FoundValues.{found_over}
 use Rattle.is_stun.proofs.finding.value_in.Given as goal
 

@@ -1,8 +1,4 @@
-use Rattle.std.proofs.Common.{ℕ, List, sym, ap, arith}
-use Rattle.std.proofs.lemmas.List.{drop_all}
-use Rattle.is_stun.specs.Tlv.{tlvs_after, tlvs_of}
-use Rattle.is_stun.specs.Integrity.{before_integrity}
-use Rattle.is_stun.specs.Finding.{last_value}
+use Rattle.is_stun.proofs.Common.{ap, arith, before_integrity, drop_all, last_value, List, sym, tlvs_after, tlvs_of, ℕ}
 use Rattle.is_stun.proofs.finding.value_of.Goals as goal
 
 -- a message that ends in its header has no attributes

@@ -1,7 +1,4 @@
-use Rattle.std.proofs.Common.{refl, sym, ◌+◌, map}
-use Rattle.std.specs.Option.{option_copied}
-use Rattle.is_stun.specs.RowView.{row_view}
-use Rattle.is_stun.specs.MessageView.{message_view}
+use Rattle.is_stun.proofs.Common.{◌+◌, map, message_view, option_copied, refl, row_view, sym}
 use Rattle.is_stun.proofs.WrittenMessages.MessagesByParts.{writes_message}
 use Rattle.is_stun.proofs.RoundTrips.SignedMessages.{bytes_round_trip}
 use Rattle.is_stun.proofs.message_writing.write_message.Goals as goal

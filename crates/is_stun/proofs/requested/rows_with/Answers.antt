@@ -1,8 +1,6 @@
-use Rattle.std.proofs.Common.{◌≡◌, ℕ, List, None, get_or, map, refl, sym, ap, ◌∙◌}
 use Rattle.std.proofs.Math.ListN.{get_or-map}
 use Rattle.is_stun.specs.declared.writing.Row.{Row as RawRow}
-use Rattle.is_stun.specs.RowView.{row_view}
-use Rattle.is_stun.specs.Writing.{Row}
+use Rattle.is_stun.proofs.Common.{◌∙◌, ◌≡◌, ap, get_or, List, map, None, refl, Row, row_view, sym, ℕ}
 use Rattle.is_stun.proofs.requested.rows_with.Goals as goal
 
 abbrev no_row : RawRow

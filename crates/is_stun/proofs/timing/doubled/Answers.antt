@@ -1,5 +1,4 @@
-use Rattle.std.proofs.Common.{◌≡◌, ◌*◌, ◌%◌, ◌^◌, rules, arith}
-use Rattle.std.proofs.lemmas.Nat.{shl_whole}
+use Rattle.is_stun.proofs.Common.{◌%◌, ◌*◌, ◌^◌, ◌≡◌, arith, rules, shl_whole}
 use Rattle.is_stun.proofs.BitsOfNumbers.RetransmissionDelays.{min-doubled}
 use Rattle.is_stun.proofs.timing.doubled.Goals as goal
 

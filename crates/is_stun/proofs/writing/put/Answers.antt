@@ -1,6 +1,4 @@
-use Rattle.std.proofs.Common.{◌≡◌, ◌+◌, ◌-◌, length, refl, arith}
-use Rattle.std.proofs.lemmas.List.{drop-drop}
-use Rattle.is_stun.specs.Writing.{splice}
+use Rattle.is_stun.proofs.Common.{◌+◌, ◌-◌, ◌≡◌, arith, drop-drop, length, refl, splice}
 use Rattle.is_stun.proofs.writing.put.Goals as goal
 
 pub returns : goal.returns

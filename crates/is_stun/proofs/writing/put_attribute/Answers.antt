@@ -1,6 +1,5 @@
-use Rattle.std.proofs.Common.{arith}
+use Rattle.is_stun.proofs.Common.{arith, attribute}
 use Rattle.is_stun.proofs.WrittenMessages.ConsecutiveRows.{attribute_length}
-use Rattle.is_stun.specs.Writing.{attribute}
 use Rattle.is_stun.proofs.WrittenMessages.ConsecutiveTexts.{Puts-then}
 use Rattle.is_stun.proofs.writing.put_attribute.Goals as goal
 

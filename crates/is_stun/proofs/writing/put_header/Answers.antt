@@ -1,6 +1,5 @@
-use Rattle.std.proofs.Common.{arith}
+use Rattle.is_stun.proofs.Common.{arith, header}
 use Rattle.is_stun.proofs.WrittenMessages.ConsecutiveRows.{header_length}
-use Rattle.is_stun.specs.Header.{header}
 use Rattle.is_stun.proofs.WrittenMessages.ConsecutiveTexts.{Puts-then}
 use Rattle.is_stun.proofs.writing.put_header.Goals as goal
 

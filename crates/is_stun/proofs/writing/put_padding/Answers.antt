@@ -1,6 +1,4 @@
-use Rattle.std.proofs.Common.{◌≡◌, ◌-◌, ℕ, arith, sym}
-use Rattle.std.proofs.lemmas.List.{take-replicate}
-use Rattle.is_stun.specs.Tlv.{padded_len}
+use Rattle.is_stun.proofs.Common.{◌-◌, ◌≡◌, arith, padded_len, sym, take-replicate, ℕ}
 use Rattle.is_stun.proofs.WrittenMessages.ConsecutiveTexts.{Puts-nothing}
 use Rattle.is_stun.proofs.writing.put_padding.Goals as goal
 

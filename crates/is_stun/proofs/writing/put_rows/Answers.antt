@@ -1,7 +1,6 @@
-use Rattle.std.proofs.Common.{ℕ, ◌+◌, ◌<◌, ◌≤◌, List, map, get_or, length, length-append, arith, None, ap}
 use Rattle.is_stun.specs.declared.writing.Row.{Row as RawRow}
-use Rattle.is_stun.specs.RowView.{row_view}
-use Rattle.is_stun.specs.Writing.{row_text, rows_text}
+use Rattle.is_stun.proofs.Common.{◌+◌, ◌<◌, ◌≤◌, ap, arith, get_or, length, length-append, List, map, None, row_text, row_view, rows_text}
+use Rattle.is_stun.proofs.Common.{ℕ}
 use Rattle.is_stun.proofs.WrittenMessages.ConsecutiveTexts.{Puts-nothing, Puts-then}
 use Rattle.is_stun.proofs.WrittenMessages.ConsecutiveRows.{text_to, text_to-more, text_to-le, rows_text-nil}
 use Rattle.is_stun.proofs.writing.put_rows.Goals as goal

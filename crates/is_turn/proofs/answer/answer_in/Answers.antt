@@ -1,5 +1,4 @@
-use Rattle.std.proofs.Common.{sym, ◌∙◌}
-use Rattle.is_stun.specs.MessageView.{message_view}
+use Rattle.is_turn.proofs.Common.{◌∙◌, message_view, sym}
 use Rattle.is_turn.proofs.Answers.{unparsed, asked, unasked}
 use Rattle.is_turn.proofs.answer.answer_in.Goals as goal
 

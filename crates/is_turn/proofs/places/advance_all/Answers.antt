@@ -1,6 +1,5 @@
-use Rattle.std.proofs.Common.{arith}
 use Rattle.std.proofs.lemmas.List.Edits.{map_over_more}
-use Rattle.is_turn.specs.Leases.{advanced}
+use Rattle.is_turn.proofs.Common.{advanced, arith}
 use Rattle.is_turn.proofs.places.advance_all.Goals as goal
 
 pub loop-place-preserved : goal.loop-place-preserved

@@ -1,5 +1,4 @@
-use Rattle.std.proofs.Common.{◌≡◌, ◌++◌, map, take, drop, vec_len}
-use Rattle.is_turn.specs.Leases.{advanced}
+use Rattle.is_turn.proofs.Common.{◌++◌, ◌≡◌, advanced, drop, map, take, vec_len}
 use Rattle.is_turn.proofs.places.advance_all.Given as goal
 
 abbrev pub invariant-loop-place : goal.invariant-loop-place

@@ -1,6 +1,4 @@
-use Rattle.std.proofs.Common.{◌≡◌, map, fold, min, drop}
-use Rattle.is_proto.specs.Times.{MAX}
-use Rattle.is_turn.specs.Places.{change_time}
+use Rattle.is_turn.proofs.Common.{◌≡◌, change_time, drop, fold, map, MAX, min}
 use Rattle.is_turn.proofs.places.earliest_change.Given as goal
 
 -- the least of what is left and of what was visited is the least of all

@@ -1,6 +1,4 @@
-use Rattle.std.proofs.Common.{◌≡◌, map, fold, min, drop}
-use Rattle.is_proto.specs.Times.{MAX}
-use Rattle.is_turn.specs.Leases.{due_of}
+use Rattle.is_turn.proofs.Common.{◌≡◌, drop, due_of, fold, map, MAX, min}
 use Rattle.is_turn.proofs.places.earliest_due.Given as goal
 
 -- the least of what is left and of what was visited is the least of all

@@ -149,11 +149,11 @@ fn a_response_to_a_later_check_ends_them_too(rt: HostRuntime) {
 // ---- nominations
 
 static NOMINATING: [u64; 10] = [
-    70080, 70160, 70240, 70320, 70400, 70480, 70560, 70640, 71140, 71640,
+    70080, 70150, 70220, 70290, 70360, 70430, 70500, 70570, 71070, 71570,
 ];
 
-/// Each 80 ms, after which a response would be late by 30 ms, until nine of them have none: then each half second, since more than 7.5 s have
-/// passed after the check with a response.
+/// After 80 ms, when a response would be late by 30 ms, and then each 70 ms, until nine of them have none: then each half second, since more
+/// than 7.5 s have passed after the check with a response.
 #[test]
 fn a_check_that_nominates_is_repeated_early(rt: HostRuntime) {
     let mut path = early_path(rt.alloc());
@@ -166,7 +166,7 @@ fn a_check_that_nominates_is_repeated_early(rt: HostRuntime) {
 }
 
 /// The next check is due by the number of pending transactions, here two. The one after it is sent once the response is late: 30 ms after
-/// the last round trip, and at least 80 ms after the check.
+/// the last round trip, and at least 70 ms after the check.
 #[test]
 fn the_response_to_a_nomination_ends_early_retransmissions(rt: HostRuntime) {
     let mut path = early_path(rt.alloc());
@@ -179,7 +179,7 @@ fn the_response_to_a_nomination_ends_early_retransmissions(rt: HostRuntime) {
     );
 }
 
-/// The nominating checks are sent each 80 ms from 1 s until 7.5 s, and then each half second. So the first one that is stored is never a whole
+/// The nominating checks are sent each 70 ms from 1 s until 7.5 s, and then each half second. So the first one that is stored is never a whole
 /// series old, and only consent ends the pair.
 #[test]
 fn checks_end_no_nominated_pair(rt: HostRuntime) {

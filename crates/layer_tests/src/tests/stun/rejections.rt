@@ -13,13 +13,13 @@ const UNNAMED: [u8; 20] = [
     0x6e, 0x67, 0x47, 0x63,
 ];
 
-/// The same header for a REALM of 132 bytes, with what is before its value.
+/// The header of a request of method 2 that has a REALM of 132 bytes, and what is before the value of this attribute.
 const REALM_FRONT: [u8; 24] = [
     0x00, 0x02, 0x00, 136, 0x21, 0x12, 0xa4, 0x42, 0x6a, 0x75, 0x63, 0x31, 0x35, 0x75, 0x78, 0x55,
     0x6e, 0x67, 0x47, 0x63, 0x00, 0x14, 0x00, 132,
 ];
 
-/// The same with a REALM of 132 letters, which can be parsed, but is too long to be written.
+/// A request of method 2 with a REALM of 132 letters, which can be parsed, but is too long to be written.
 fn unnamed_with_realm() -> [u8; 156] {
     let mut bytes = [b'a'; 156];
     bytes[..24].copy_from_slice(&REALM_FRONT);

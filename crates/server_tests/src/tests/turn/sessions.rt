@@ -42,7 +42,7 @@ enum Step {
     RestsLate(u64, u64),
     /// An error response to Allocate with this code and nonce.
     Challenged(u64, u16, &'static str, Dropped),
-    /// The same to Refresh, with this realm.
+    /// An error response 438 to Refresh with a new nonce and this realm.
     Stale(u64, &'static str, Dropped),
     /// An error response to Allocate with this code, signed.
     Failed(u64, u16),
@@ -88,7 +88,7 @@ enum Step {
 enum Start {
     /// A client with credentials, which was started at 0.
     Known,
-    /// The same without credentials.
+    /// A client without credentials, which was started at 0.
     Open,
     /// A client with credentials that has an allocation since 20 ms, requested at 10 ms.
     Allocated,

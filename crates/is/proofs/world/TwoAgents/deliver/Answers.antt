@@ -1,8 +1,4 @@
-use Rattle.std.proofs.Common.{Some, None}
-use Rattle.is_agent.specs.View.{record_of}
-use Rattle.is.specs.declared.world_events.Side.TheVariants.{A, B}
-use Rattle.is.specs.Views.{entry_view}
-use Rattle.is.specs.World.{world_of, in_flight_of, outcome_of}
+use Rattle.is.proofs.Common.{A, B, entry_view, in_flight_of, None, outcome_of, record_of, Some, world_of}
 use Rattle.is.proofs.TwoAgentEvents.StatesAfterMethods.{get-map, delivered, not_found}
 use Rattle.is.proofs.world.TwoAgents.deliver.Goals as goal
 

@@ -1,7 +1,4 @@
-use Rattle.std.proofs.Common.{map}
-use Rattle.is_agent.specs.View.{record_of}
-use Rattle.is.specs.declared.world_events.Side.TheVariants.{A, B}
-use Rattle.is.specs.World.{world_of, in_flight_of, outcome_of}
+use Rattle.is.proofs.Common.{A, B, in_flight_of, map, outcome_of, record_of, world_of}
 use Rattle.is.proofs.TwoAgentEvents.StatesAfterMethods.{polled}
 use Rattle.is.proofs.world.TwoAgents.poll.Goals as goal
 

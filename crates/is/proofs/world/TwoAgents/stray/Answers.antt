@@ -1,7 +1,4 @@
-use Rattle.is_agent.specs.View.{record_of}
-use Rattle.is.specs.declared.world_events.Side.TheVariants.{A, B}
-use Rattle.is.specs.Views.{entry_view}
-use Rattle.is.specs.World.{world_of, outcome_of}
+use Rattle.is.proofs.Common.{A, B, entry_view, outcome_of, record_of, world_of}
 use Rattle.is.proofs.TwoAgentEvents.StatesAfterMethods.{strayed}
 use Rattle.is.proofs.world.TwoAgents.stray.Goals as goal
 

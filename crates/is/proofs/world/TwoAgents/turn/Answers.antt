@@ -1,9 +1,4 @@
-use Rattle.std.proofs.Common.{None, refl}
-use Rattle.is_agent.specs.View.{record_of}
-use Rattle.is.specs.declared.world_events.Side.TheVariants.{A, B}
-use Rattle.is.specs.Views.{call_view, entry_view}
-use Rattle.is.specs.World.{world_of, outcome_of}
-use Rattle.is_rules.specs.Effects.{clears}
+use Rattle.is.proofs.Common.{A, B, call_view, clears, entry_view, None, outcome_of, record_of, refl, world_of}
 use Rattle.is.proofs.TwoAgentEvents.StatesAfterMethods.{reversed, unmoving}
 use Rattle.is.proofs.world.TwoAgents.turn.Goals as goal
 

@@ -1,4 +1,4 @@
-use Rattle.std.proofs.Common.{◌≡◌, ◌≤◌, refl, arith}
+use Rattle.std.proofs.Common.{◌≡◌, ◌≤◌, ◌∙◌, length, ap, refl, arith}
 use Rattle.is_agent.specs.Live.{live_count}
 use Rattle.is_agent.proofs.AgentParts.LiveCandidates.{live-kept}
 use Rattle.is_agent.proofs.agent.Agent.begin.Goals as goal
@@ -8,4 +8,5 @@ invariant_of-self-clause-room_suffices g c =
     let self = c.args.self.now in
     let less : live_count c.args.restart_parts.local.items ≤ live_count self.local.items = rw (c.requires.local) (live-kept c.args.keep c.args.creds.ufrag self.local.items) in
     let none : live_count c.clear.new.self.items ≡ 0 = rw (c.clear.ensures.items) refl in
-    omega (arith, less, none, self.room_suffices)
+    let empty = ap length (c.forget_all_removed.ensures.multiset ∙ c.clear-2.ensures.cleared) in
+    omega (arith, less, none, empty, self.room_suffices)

@@ -2,7 +2,7 @@ use Rattle.std.proofs.Common.{◌≡◌, map, drop, ap, sym, ◌∙◌}
 use Rattle.std.proofs.lemmas.List.{drop-map}
 use Rattle.is_rules.specs.Agent.{AgentRecord}
 use Rattle.is_rules.specs.RequestView.{waiting_view}
-use Rattle.is_rules.specs.Settling as settling
+use Rattle.is_rules.specs.StateUpdates as updates
 use Rattle.is_rules.specs.Timeouts.{start_emitted}
 use Rattle.is_agent.specs.View.{record_of}
 use Rattle.is_agent.proofs.AgentParts.EarlyRequests.{begun, started}
@@ -13,7 +13,7 @@ returns-then-expired-gt0-clause-begun g c =
     let now = c.args.now.0 in let many = c.args.expired in
     let old = record_of c.args.self.now in let mid = c.start_state.new.self in
     let start : start_emitted old ≡ old = started old c.requires.later in
-    let state = c.start_state.ensures.started ∙ ap (λ (s : AgentRecord g.row.H.Denot g.row.P.Denot). settling.started now s) (sym start) in
+    let state = c.start_state.ensures.started ∙ ap (λ (s : AgentRecord g.row.H.Denot g.row.P.Denot). updates.started now s) (sym start) in
     let kept : map waiting_view mid.queue.items ≡ old.queue = ap (λ (s : AgentRecord g.row.H.Denot g.row.P.Denot). s.queue) c.start_state.ensures.started in
     let queue = ap (map waiting_view) c.drop_first.ensures.items ∙ sym (drop-map waiting_view many mid.queue.items) ∙ ap (drop many) kept in
     begun now old (record_of mid) (map waiting_view c.drop_first.new.queue.items) many state queue c.requires.expired

@@ -3,7 +3,7 @@ use Rattle.std.proofs.lemmas.List.{drop-map}
 use Rattle.is_rules.specs.declared.event.IceAgentEvent.{IceAgentEvent}
 use Rattle.is_rules.specs.Agent.{AgentRecord}
 use Rattle.is_rules.specs.RequestView.{waiting_view}
-use Rattle.is_rules.specs.Settling.{started}
+use Rattle.is_rules.specs.StateUpdates.{started}
 use Rattle.is_agent.specs.View.{record_of}
 use Rattle.is_agent.proofs.AgentParts.EarlyRequests.{begun, start-emitted}
 use Rattle.is_agent.proofs.agent.Agent.begin_timeout.Goals as goal

@@ -1,8 +1,10 @@
 use Rattle.is_pair.specs.Checklists.{multiset_of}
 use Rattle.is_rules.proofs.PairLists.PairsInLists.{longer, placed-without}
-use Rattle.std.proofs.Common.{◌+◌, ◌≤◌, arith}
+use Rattle.std.proofs.Common.{◌+◌, ◌≤◌, arith, length, ap, not}
 use Rattle.is_agent.specs.Live.{live_count}
 use Rattle.is_agent.proofs.AgentParts.LiveCandidates.{live-discarded, live-lost}
+use Rattle.is_rules.specs.Discarding.{is_local_at}
+use Rattle.is_agent.proofs.AgentParts.PairCounts.{few-left}
 use Rattle.is_agent.proofs.agent.Agent.discard_local.Goals as goal
 
 pub invariant_of-self-clause-placed : goal.invariant_of-self-clause-placed
@@ -19,16 +21,16 @@ pub invariant_of-self-clause-room_suffices : goal.invariant_of-self-clause-room_
 invariant_of-self-clause-room_suffices g c =
     let self = c.args.self.now in
     let less : live_count c.discard_at.new.candidates.items ≤ live_count self.local.items = rw (c.discard_at.ensures.items) (live-discarded self.local.items c.args.place c.requires) in
-    omega (arith, less, self.room_suffices)
+    omega (arith, less, ap length c.remove_where.ensures.left, few-left (λ p. not (is_local_at c.args.place p)) (multiset_of self.pairs), self.room_suffices)
 
 pub returns-clause-candidate : goal.returns-clause-candidate
-returns-clause-candidate g c = λ room.
+returns-clause-candidate g c = λ n room.
     let self = c.args.self.now in
     let less : live_count c.discard_at.new.candidates.items ≤ live_count self.local.items = rw (c.discard_at.ensures.items) (live-discarded self.local.items c.args.place c.requires) in
-    omega (arith, less, room)
+    omega (arith, less, ap length c.remove_where.ensures.left, few-left (λ p. not (is_local_at c.args.place p)) (multiset_of self.pairs), room)
 
 pub returns-clause-room : goal.returns-clause-room
-returns-clause-room g c = λ live.
+returns-clause-room g c = λ live fewer.
     let self = c.args.self.now in
     let less : live_count c.discard_at.new.candidates.items + 1 ≤ live_count self.local.items = rw (c.discard_at.ensures.items) (live-lost self.local.items c.args.place c.requires live) in
-    omega (arith, less, self.room_suffices)
+    omega (arith, less, fewer, self.room_suffices)

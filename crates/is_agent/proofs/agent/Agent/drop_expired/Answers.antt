@@ -1,4 +1,4 @@
-use Rattle.std.proofs.Common.{◌||◌, is_some, not}
+use Rattle.std.proofs.Common.{◌||◌, is_some, not, length, ap, arith}
 use Rattle.std.specs.List.{list_any}
 use Rattle.is_pair.specs.Checklists.{multiset_of}
 use Rattle.is_rules.specs.Due.{falls_due, may_nominate}
@@ -6,6 +6,7 @@ use Rattle.is_rules.specs.Timeouts.{is_expired}
 use Rattle.is_agent.specs.View.{record_of}
 use Rattle.is_agent.proofs.AgentParts.DuePairsAfterRemoval.{and-third, falls-left, or-second}
 use Rattle.is_rules.proofs.PairLists.PairsInLists.{placed-without}
+use Rattle.is_agent.proofs.AgentParts.PairCounts.{few-left}
 use Rattle.is_agent.proofs.agent.Agent.drop_expired.Goals as goal
 
 pub returns-clause-checks : goal.returns-clause-checks
@@ -22,3 +23,6 @@ pub invariant_of-self-clause-placed : goal.invariant_of-self-clause-placed
 invariant_of-self-clause-placed g c =
     let self = c.args.self.now in
     rw (c.remove_where.ensures.left) (placed-without self.local.items self.remote.items _ (multiset_of self.pairs) self.placed)
+
+pub invariant_of-self-clause-room_suffices : goal.invariant_of-self-clause-room_suffices
+invariant_of-self-clause-room_suffices g c = let self = c.args.self.now in omega (arith, ap length c.remove_where.ensures.left, few-left (λ p. not (is_expired c.args.now.0 (record_of self) p)) (multiset_of self.pairs), self.room_suffices)

@@ -1,7 +1,7 @@
 use Rattle.is_pair.specs.Checklists.{multiset_of}
 use Rattle.is_rules.proofs.PairLists.PairsInLists.{longer}
 use Rattle.is_agent.proofs.AgentParts.PairsInLists.{as-long}
-use Rattle.std.proofs.Common.{◌+◌, ◌≤◌, arith}
+use Rattle.std.proofs.Common.{◌+◌, ◌≤◌, arith, rules, length, ap}
 use Rattle.is_candidate.specs.Candidates.{candidate_at}
 use Rattle.is_rules.specs.Local.{enabled}
 use Rattle.is_agent.specs.Live.{live_count}
@@ -23,3 +23,12 @@ invariant_of-self-clause-room_suffices g c =
     let own = enabled (candidate_at self.local.items c.args.place) in
     let more : live_count c.enable_at.new.candidates.items ≤ live_count self.local.items + 1 = rw (c.enable_at.ensures.items) (live-set self.local.items c.args.place own) in
     omega (arith, more, c.in_ok-reserve_local_room.ensures.room.2)
+
+pub form-requires-clause-room : goal.form-requires-clause-room
+form-requires-clause-room g c =
+    let self = c.reserve_local_room.new.self in
+    let own = enabled (candidate_at self.local.items c.args.place) in
+    let room = c.in_ok-reserve_local_room.ensures.room in
+    let more : live_count c.enable_at.new.candidates.items ≤ live_count self.local.items + 1 = rw (c.enable_at.ensures.items) (live-set self.local.items c.args.place own) in
+    let many = ap length c.deref.ensures.value in
+    (search rules, omega (arith, more, many, room.2))

@@ -1,4 +1,4 @@
-use Rattle.std.proofs.Common.{◌≡◌, ℕ, ◌&&◌, ◌||◌, Bool, true, false, is_some, not, List, [], ◌∷◌, map, ap, refl, sym, ◌∙◌}
+use Rattle.std.proofs.Common.{◌≡◌, ℕ, ◌&&◌, ◌||◌, Bool, true, false, is_some, not, List, [], ◌∷◌, map, ap, refl, sym, ◌∙◌, length, arith}
 use Rattle.std.specs.List.{list_any}
 use Rattle.std.specs.Option.{option_map_or}
 use Rattle.is_pair.specs.Checklists.{multiset_of}
@@ -11,6 +11,8 @@ use Rattle.is_agent.specs.View.{record_of}
 use Rattle.is_agent.proofs.AgentParts.DuePairsAfterRemoval.{and-third, falls-hastened, falls-left, or-second}
 use Rattle.is_agent.proofs.AgentParts.PairsInLists.{hastened-keys, placed-hastened}
 use Rattle.is_rules.proofs.PairLists.PairsInLists.{placed-without}
+use Rattle.std.proofs.lemmas.List.{length-map}
+use Rattle.is_agent.proofs.AgentParts.PairCounts.{few-left}
 use Rattle.is_agent.proofs.agent.Agent.leave_path.Goals as goal
 
 unhastened : (now : ℕ) (ps : List PairRecord) → map (hastened false now) ps ≡ ps
@@ -57,3 +59,10 @@ invariant_of-self-clause-placed g c =
 
 pub change_all-requires : goal.change_all-requires
 change_all-requires g c = record { keys = hastened-keys c.args.self.now.controlling c.args.now.0 }
+
+pub invariant_of-self-clause-room_suffices : goal.invariant_of-self-clause-room_suffices
+invariant_of-self-clause-room_suffices g c =
+    let self = c.args.self.now in
+    let left = multiset_of c.remove.new.self in
+    let fewer = few-left (λ p. not (is_numbered c.in-Some.number p)) (multiset_of self.pairs) in
+    omega (arith, ap length c.change_all.ensures.changed, length-map left (hastened self.controlling c.args.now.0), ap length c.remove.ensures.left, fewer, self.room_suffices)

@@ -13,3 +13,6 @@ returns-clause-pressing g c = c.timeout_is_soon.ensures (record_of c.args.self.n
 
 pub returns-clause-given : goal.returns-clause-given
 returns-clause-given g c = c.timeout_is_given.ensures (record_of c.args.self.now) (record_of c.next_timeout.new.self) (option_map (λ at. at.0) c.next_timeout.result) c.next_timeout.ensures
+
+pub returns-clause-credit : goal.returns-clause-credit
+returns-clause-credit g c = c.timeout_keeps_credit.ensures (record_of c.args.self.now) (record_of c.next_timeout.new.self) (option_map (λ at. at.0) c.next_timeout.result) c.next_timeout.ensures

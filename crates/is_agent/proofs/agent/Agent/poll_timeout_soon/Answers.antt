@@ -1,10 +1,12 @@
-use Rattle.std.proofs.Common.{rules, arith, ◌≡◌, ◌≤◌, ◌*◌, ℕ, Bool, true, false, Option, Some, ap, subst}
+use Rattle.std.proofs.Common.{rules, arith, ◌≡◌, ◌≤◌, ◌*◌, ℕ, Bool, true, false, Option, Some, ap, sym, ◌∙◌, subst}
 use Rattle.std.specs.Prelude.{min, max, MatchBool, option_map}
 use Rattle.is_proto.specs.Times.{SECOND, later}
 use Rattle.is_proto.specs.declared.proto.Instant.{Instant}
-use Rattle.is_rules.specs.Polls.{LEAST_TA, earliest_call, is_idle, is_waiting, soon}
+use Rattle.is_rules.specs.Polls.{LEAST_TA, NextTimeoutFrom, earliest_call, is_idle, is_waiting, soon}
+use Rattle.is_rules.proofs.PollsAndResponses.TimesWithinCredit.{Within, timeouts-within, within-credit}
 use Rattle.is_agent.specs.Polls.{sooner}
 use Rattle.is_agent.specs.View.{record_of}
+use Rattle.is_agent.proofs.AgentParts.TimesWithinCredit.{sooner-within}
 use Rattle.is_agent.proofs.agent.Agent.poll_timeout_soon.Goals as goal
 
 pub returns-in-Some-clause-polled : goal.returns-in-Some-clause-polled
@@ -36,3 +38,13 @@ returns-in-Some-clause-paced g c =
     let here : min (soon a l) (later l LEAST_TA) ≤ c.sooner.result.0 =
     rw (c.sooner.ensures) (sooner-paced c.has_credit-credit.result l at (min (soon a l) (later l LEAST_TA)) by) in
     λ last e. subst (λ (k : ℕ). min (soon a k) (later k LEAST_TA) ≤ c.sooner.result.0) (known c.args.self.now.last_time c.in-Some.last last c.in-Some.is e) here
+
+pub returns-in-Some-clause-credit : goal.returns-in-Some-clause-credit
+returns-in-Some-clause-credit g c = λ modern slow.
+    let a = record_of c.args.self.now in let last = c.in-Some.last.0 in let at = c.timeout_at-at.result.0 in
+    let is : a.last_time ≡ Some last = ap (option_map (λ (at : Instant). at.0)) c.in-Some.is in
+    let polls = subst (λ (o : Option ℕ). NextTimeoutFrom o a (Some at) (record_of c.timeout_at-at.new.self)) (sym is) c.timeout_at-at.ensures in
+    let within = timeouts-within a (record_of c.timeout_at-at.new.self) (Some at) polls slow last is in
+    within-credit last c.sooner.result.0 a is
+    (subst (λ (n : ℕ). Within last a.charged_until n) (sym (c.sooner.ensures ∙ ap (λ (b : Bool). sooner b last at) c.has_credit-credit.ensures))
+    (sooner-within last at a modern within))

@@ -1,9 +1,10 @@
 use Rattle.is_pair.specs.Checklists.{multiset_of}
 use Rattle.is_rules.proofs.PairLists.PairsInLists.{longer}
 use Rattle.is_agent.proofs.AgentParts.PairsInLists.{joined-longer, placed-answered}
-use Rattle.std.proofs.Common.{◌+◌, ◌≤◌, length, arith}
+use Rattle.std.proofs.Common.{◌+◌, ◌≤◌, length, arith, ap}
 use Rattle.is_agent.specs.Live.{live_count}
 use Rattle.is_agent.proofs.AgentParts.LiveCandidates.{live-joined}
+use Rattle.is_agent.proofs.AgentParts.PairCounts.{as-many-answered}
 use Rattle.is_agent.proofs.agent.Agent.record.Goals as goal
 
 pub invariant_of-self-clause-placed : goal.invariant_of-self-clause-placed
@@ -21,4 +22,5 @@ pub invariant_of-self-clause-room_suffices : goal.invariant_of-self-clause-room_
 invariant_of-self-clause-room_suffices g c =
     let self = c.args.self.now in
     let more : live_count c.join.new.local.items ≤ live_count self.local.items + 1 = rw (c.join.ensures.items) (live-joined c.args.mapped self.local.items) in
-    omega (arith, more, c.requires.candidate)
+    let same = as-many-answered c.args.number c.args.now.0 c.args.id.0 (multiset_of self.pairs) _ c.record_binding_response.ensures.answered in
+    omega (arith, more, same, c.requires.candidate)

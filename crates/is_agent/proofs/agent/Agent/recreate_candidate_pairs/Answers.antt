@@ -1,5 +1,4 @@
 use Rattle.std.proofs.Common.{◌≡◌, length, List, rules, subst, ap, sym, ◌∙◌, arith}
-use Rattle.is_pair.specs.Checklists.{HasRoom}
 use Rattle.is_rules.specs.declared.event.IceAgentEvent.{IceAgentEvent}
 use Rattle.is_rules.specs.declared.event.IceConnectionState.{IceConnectionState}
 use Rattle.is_rules.specs.declared.event.IceConnectionState.TheVariants.{Checking}
@@ -8,6 +7,7 @@ use Rattle.is_rules.specs.Forming.{live_combinations, FormsAll}
 use Rattle.is_rules.specs.Restarting.{emptied, unpaired, HasNumbersForAll}
 use Rattle.is_rules.specs.States.{with_state}
 use Rattle.is_agent.specs.View.{record_of}
+use Rattle.is_agent.specs.Room.{HasPairRoom}
 use Rattle.is_agent.proofs.agent.Agent.recreate_candidate_pairs.Goals as goal
 
 -- the agent after the state's event
@@ -28,9 +28,9 @@ invariant_of-self-clause-room_kept g c =
 
 pub form-requires-clause-room : goal.form-requires-clause-room
 form-requires-clause-room g c =
-    let kept : HasRoom c.len.result c.clear_pairs.new.self.pairs = c.clear_pairs.ensures.room c.len.result c.in_ok-reserve_recreation_room.ensures.room.0 in
+    let kept : HasPairRoom c.len.result c.clear_pairs.new.self = c.clear_pairs.ensures.room c.len.result c.in_ok-reserve_recreation_room.ensures.room.0 in
     let many : c.len.result ≡ length c.deref.result.now = search rules in
-    subst (λ n. HasRoom n c.clear_pairs.new.self.pairs) many kept
+    subst (λ n. HasPairRoom n c.clear_pairs.new.self) many kept
 
 pub returns : goal.returns
 returns g c =

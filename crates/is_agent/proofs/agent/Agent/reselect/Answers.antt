@@ -1,5 +1,5 @@
 use Rattle.std.proofs.Common.{◌≡◌, ◌&&◌, true, not, sym, ◌∙◌}
-use Rattle.is_rules.specs.Settling.{has_selected}
+use Rattle.is_rules.specs.StateUpdates.{has_selected}
 use Rattle.is_agent.specs.View.{record_of}
 use Rattle.is_agent.proofs.agent.Agent.reselect.Goals as goal
 

@@ -1,4 +1,4 @@
-use Rattle.std.proofs.Common.{◌≡◌, ℕ, Bool, Option, ap, ◌∙◌}
+use Rattle.std.proofs.Common.{◌≡◌, ℕ, Bool, Option, ap, ◌∙◌, length, arith}
 use Rattle.is_stun.specs.Timing.{is_modern}
 use Rattle.is_pair.specs.Due.{triggered}
 use Rattle.is_pair.specs.Multiset.{change_pair}
@@ -7,6 +7,7 @@ use Rattle.is_agent.specs.View.{record_of}
 use Rattle.is_rules.specs.Request.{RequestRecord}
 use Rattle.is_rules.specs.RequestView.{request_view}
 use Rattle.is_rules.specs.Serving.{after_request, as_taken, nominated_last, sees_number, served, trigger_time}
+use Rattle.is_agent.proofs.AgentParts.PairCounts.{as-many-changed}
 use Rattle.is_agent.proofs.agent.Agent.serve_pair.Goals as goal
 
 -- each of the three fields is that of the request as the agent takes it
@@ -23,3 +24,10 @@ returns-clause-served g c =
     let last = c.nominated_last-self.ensures ∙ ap (λ (r : RequestRecord). nominated_last s.controlling r number s.last_nominated) as_said in
     let seen = c.sees_number-self.ensures ∙ ap (λ (r : RequestRecord). sees_number s.controlling r.nomination s.numbers_seen) as_said in
     cc (pairs, last, seen)
+
+pub invariant_of-self-2-clause-room_suffices : goal.invariant_of-self-2-clause-room_suffices
+invariant_of-self-2-clause-room_suffices g c =
+    omega (arith, ap length c.serve_pair.ensures.served ∙ as-many-changed c.args.number _ _, c.args.self.now.room_suffices)
+
+pub invariant_of-self-2-clause-placed : goal.invariant_of-self-2-clause-placed
+invariant_of-self-2-clause-placed g c = let self = c.args.self.now in c.serve_pair.ensures.placed self.local.items self.remote.items self.placed

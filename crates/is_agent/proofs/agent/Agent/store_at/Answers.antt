@@ -26,3 +26,9 @@ invariant_of-self-clause-room_suffices g c =
     let self = c.args.self.now in
     let more : live_count c.store.new.remote.items ≤ live_count self.remote.items + 1 = rw (c.store.ensures) (live-stored c.args.candidate c.args.place self.remote.items) in
     omega (arith, more, c.requires.room.2)
+
+pub form-requires-clause-room : goal.form-requires-clause-room
+form-requires-clause-room g c =
+    let self = c.args.self.now in
+    let more : live_count c.store.new.remote.items ≤ live_count self.remote.items + 1 = rw (c.store.ensures) (live-stored c.args.candidate c.args.place self.remote.items) in
+    (c.requires.room.1, omega (arith, more, c.requires.room.2))

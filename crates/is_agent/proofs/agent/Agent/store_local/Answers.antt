@@ -17,3 +17,9 @@ invariant_of-self-clause-room_suffices g c =
     let self = c.args.self.now in
     let more : live_count c.append-place.new.local.items ≤ live_count self.local.items + 1 = rw (c.append-place.ensures.items) (live-appended self.local.items c.args.own) in
     omega (arith, more, c.requires.room.2)
+
+pub form-requires-clause-room : goal.form-requires-clause-room
+form-requires-clause-room g c =
+    let self = c.args.self.now in
+    let more : live_count c.append-place.new.local.items ≤ live_count self.local.items + 1 = rw (c.append-place.ensures.items) (live-appended self.local.items c.args.own) in
+    (c.requires.room.1, omega (arith, more, c.requires.room.2))

@@ -39,11 +39,11 @@ use Rattle.std_alloc.proofs.BoxSteps.Form.{D, B, R, τ, word, handle}
 use Rattle.std_alloc.proofs.BoxSteps.Steps.{box_out, box_in}
 use Rattle.std_alloc.proofs.VecSteps.Shapes.{after}
 use Rattle.is_c.proofs.AsBox.{E}
-use Rattle.is_c.specs.Borrowing.{with_home}
+use Rattle.is_c.specs.Borrowing.{with_agent}
 use Rattle.is_c.specs.declared.handle.Handle.{Handle}
-use Rattle.is_c.specs.declared.home.Home.{Home}
+use Rattle.is_c.specs.declared.held.HeldAgent.{HeldAgent}
 use Rattle.is_c.specs.contracts.handle.Handle.{the_row as handle_row}
-use Rattle.is_c.specs.contracts.home.Home.{the_row as home_row}
+use Rattle.is_c.specs.contracts.held.HeldAgent.{the_row as held_row}
 use Rattle.is_c.specs.contracts.handle.Handle.as_mut as F
 use Rattle.is_c.specs.contracts.handle.Handle.as_mut.Key.{name as #self}
 use Rattle.is_c.proofs.handle.Handle.as_mut.Statement as stated
@@ -53,45 +53,45 @@ abbrev stayed : Stays F.ended.signature.params F.ended.kept
 stayed = (stay_dropped (mut_ref_to (0 ∷ []) tt (plain (λ _. handle_row))) no, tt)
 
 -- a handle of this agent, and the box that it came from
-abbrev held : Ptr → Global → Option Home → Handle
-held p alloc home = record { ptr = p; alloc = alloc; home = home }
+abbrev handle_at : Ptr → Global → Option HeldAgent → Handle
+handle_at p alloc held = record { ptr = p; alloc = alloc; held = held }
 
-abbrev box : Ptr → Global → Home → D E
-box p alloc home = record { ptr = p; alloc = alloc; value = home }
+abbrev box : Ptr → Global → HeldAgent → D E
+box p alloc held = record { ptr = p; alloc = alloc; value = held }
 
 module _ {M : Type 1} {𝓤 : Ura M} (𝓛 : Logic 𝓤) (at_mem : Memory → SProp 𝓤) (run : Routine → Fun 𝓤) (𝓣 : Tables 𝓤 𝓛.H) (κ : Lft) (q : Share) (rb ro : ℕ) (γ : GName) (p : Ptr) (alloc : Global) where
   open 𝓛 use {H, A}
 
-  abbrev self : Option Home → MutBor Handle
-  self home = record { ref_ptr = (rb, ro); ghost_name = γ; now = held p alloc home }
+  abbrev self : Option HeldAgent → MutBor Handle
+  self held = record { ref_ptr = (rb, ro); ghost_name = γ; now = handle_at p alloc held }
 
-  abbrev bound : Option Home → (walk_of 𝓛 F.ended stayed (F.clauses 𝓛 at_mem run)).Ghost
-  bound home = (((κ, tt), (q, tt), tt, (self home, tt), (vptr rb ro ∷ [], tt)), tt)
+  abbrev bound : Option HeldAgent → (walk_of 𝓛 F.ended stayed (F.clauses 𝓛 at_mem run)).Ghost
+  bound held = (((κ, tt), (q, tt), tt, (self held, tt), (vptr rb ro ∷ [], tt)), tt)
 
-  abbrev Post : Option Home → Val → SProp 𝓤
-  Post home = (walk_of 𝓛 F.ended stayed (F.clauses 𝓛 at_mem run)).post (bound home)
+  abbrev Post : Option HeldAgent → Val → SProp 𝓤
+  Post held = (walk_of 𝓛 F.ended stayed (F.clauses 𝓛 at_mem run)).post (bound held)
 
-  module _ (x : Home) (b o : ℕ) (hv : Val) where
+  module _ (x : HeldAgent) (b o : ℕ) (hv : Val) where
     -- all of the handle but the agent
     abbrev Rest : Fml
     Rest = fsep (fsep (token E.al alloc (bare (τ E)) (block_ptr b o)) (handle E alloc hv)) (cell_at full_share handle_row.mir (word E hv b o ∷ []) rb ro)
 
-    back : p ≡ block_ptr b o → (w : Home) → ent 𝓤 (sep 𝓤 (sem 𝓛 ((mem home_row).own_at w b o)) (sem 𝓛 Rest)) (sem 𝓛 ((mem handle_row).own_at (with_home (held p alloc (Some x)) w) rb ro))
+    back : p ≡ block_ptr b o → (w : HeldAgent) → ent 𝓤 (sep 𝓤 (sem 𝓛 ((mem held_row).own_at w b o)) (sem 𝓛 Rest)) (sem 𝓛 ((mem handle_row).own_at (with_agent (handle_at p alloc (Some x)) w) rb ro))
     unfolding part_of
     back at_b w =
         qed 𝓛 (‵ (part_at (R E) full_share w b o) ∷ ‵ Rest ∷ []) ∵ move ! (1 ∷ []) $ fsplit ! $ fsplit ! $ move ! (3 ∷ []) $
-        box_in E ! (box p alloc w) b o w at_b refl $ use1 𝓛 (‵ (handle_row.own_val (held p alloc (Some w)) (word E hv b o ∷ []))) (id⊢ 𝓤 _) $ move ! (1 ∷ 0 ∷ []) $ fjoin ! $
-        fpack ! (List Val) (λ us. fsep (cell_at full_share handle_row.mir us rb ro) (handle_row.own_val (held p alloc (Some w)) us)) (word E hv b o ∷ []) $ done !
+        box_in E ! (box p alloc w) b o w at_b refl $ use1 𝓛 (‵ (handle_row.own_val (handle_at p alloc (Some w)) (word E hv b o ∷ []))) (id⊢ 𝓤 _) $ move ! (1 ∷ 0 ∷ []) $ fjoin ! $
+        fpack ! (List Val) (λ us. fsep (cell_at full_share handle_row.mir us rb ro) (handle_row.own_val (handle_at p alloc (Some w)) us)) (word E hv b o ∷ []) $ done !
 
     exits : (γ' : GName)
-        → ent 𝓤 (sep 𝓤 (sem 𝓛 ((MutRef (named 0) κ home_row).own_val (record { ref_ptr = (b, o); ghost_name = γ'; now = x }) (vptr b o ∷ []))) (sep 𝓤 (A.lft κ q) (sem 𝓛 (follows handle_row home_row γ γ' (with_home (held p alloc (Some x))))))) (Post (Some x) (vptr b o))
+        → ent 𝓤 (sep 𝓤 (sem 𝓛 ((MutRef (named 0) κ held_row).own_val (record { ref_ptr = (b, o); ghost_name = γ'; now = x }) (vptr b o ∷ []))) (sep 𝓤 (A.lft κ q) (sem 𝓛 (follows handle_row held_row γ γ' (with_agent (handle_at p alloc (Some x))))))) (Post (Some x) (vptr b o))
     exits γ' =
-        qed 𝓛 (‵ ((MutRef (named 0) κ home_row).own_val (record { ref_ptr = (b, o); ghost_name = γ'; now = x }) (vptr b o ∷ [])) ∷ ‵ (flft κ q) ∷ ‵ (follows handle_row home_row γ γ' (with_home (held p alloc (Some x)))) ∷ []) ∵
+        qed 𝓛 (‵ ((MutRef (named 0) κ held_row).own_val (record { ref_ptr = (b, o); ghost_name = γ'; now = x }) (vptr b o ∷ [])) ∷ ‵ (flft κ q) ∷ ‵ (follows handle_row held_row γ γ' (with_agent (handle_at p alloc (Some x)))) ∷ []) ∵
         suffices ! _ (ends_at 𝓛 F.ended stayed (F.clauses 𝓛 at_mem run) (bound (Some x)) (vptr b o) (record { ref_ptr = (b, o); ghost_name = γ'; now = x }) (tt, tt) (tt, tt)) $
         nothing ! $ nothing ! $ fjoin ! $ join ! $ nothing ! $ move ! (2 ∷ 0 ∷ []) $ join ! $ join ! $ frame ! $ says ! refl $ done !
 
-  walk : (home : Option Home) → ent 𝓤 (sep 𝓤 (on_entry 𝓛 F.ended.signature (κ, tt) (q, tt) (self home, tt) (vptr rb ro ∷ [], tt)) (fact 𝓤 (home ≢ None)))
-      (WpFn 𝓤 H 𝓣.C 𝓣.Λ code.function (vptr rb ro ∷ []) (Post home))
+  walk : (held : Option HeldAgent) → ent 𝓤 (sep 𝓤 (on_entry 𝓛 F.ended.signature (κ, tt) (q, tt) (self held, tt) (vptr rb ro ∷ [], tt)) (fact 𝓤 (held ≢ None)))
+      (WpFn 𝓤 H 𝓣.C 𝓣.Λ code.function (vptr rb ro ∷ []) (Post held))
   walk None =
       qed 𝓛 (((‵ (flft κ q) ⊛ ‵ ftrue) ⊛ ‵ (owns (MutRef (named 0) κ handle_row ∷ []) (self None, tt) (vptr rb ro ∷ [], tt))) ∷ raw (fact 𝓤 (None ≢ None)) ∷ []) ∵
       move ! (1 ∷ []) $ heard ! (None ≢ None) (λ e. absurd (e refl))
@@ -112,8 +112,8 @@ module _ {M : Type 1} {𝓤 : Ura M} (𝓛 : Logic 𝓤) (at_mem : Memory → SP
       exec ! 𝓣.C 𝓣.Λ En (after 1 code.function.body) (at_ret En (Post (Some x))) $
       sets ! (of_opd ! (get ! refl)) refl (tt, tt) $
       move ! (1 ∷ 2 ∷ []) $ fjoin ! $ move ! (2 ∷ 3 ∷ 4 ∷ 1 ∷ 0 ∷ []) $ group ! 5 $
-      use1 𝓛 (later (some (λ (γ' : GName). raw (Part 𝓛 handle_row home_row (with_home (held p alloc (Some x))) (named 0) κ q rb ro b o γ (sem 𝓛 (Rest x b o hv)) (back x b o hv at_b) x γ'))))
-      (lends_Part 𝓛 handle_row home_row (with_home (held p alloc (Some x))) (named 0) κ q rb ro b o γ (sem 𝓛 (Rest x b o hv)) (back x b o hv at_b) (handle_row.coded.code (held p alloc (Some x))) (handle_row.coded.code (held p alloc (Some x))) x) $ await ! tt $ pick ! (λ γ'.
+      use1 𝓛 (later (some (λ (γ' : GName). raw (Part 𝓛 handle_row held_row (with_agent (handle_at p alloc (Some x))) (named 0) κ q rb ro b o γ (sem 𝓛 (Rest x b o hv)) (back x b o hv at_b) x γ'))))
+      (lends_Part 𝓛 handle_row held_row (with_agent (handle_at p alloc (Some x))) (named 0) κ q rb ro b o γ (sem 𝓛 (Rest x b o hv)) (back x b o hv at_b) (handle_row.coded.code (handle_at p alloc (Some x))) (handle_row.coded.code (handle_at p alloc (Some x))) x) $ await ! tt $ pick ! (λ γ'.
       returns ! (look_at ! 0 refl) $ free_all ! refl $
       keep ! (0 ∷ []) $ by ! (exits x b o hv γ'))))))
 
@@ -126,4 +126,4 @@ as_mut_spec 𝓤 𝓛 𝓜 𝓡 wired =
     entered 𝓤 𝓛.H (triple_of 𝓛 F.signature (F.spec 𝓛 𝓜.mem 𝓡.returns)) 𝓣.C 𝓣.Λ #self code.function (code.unfolded 𝓤 𝓛.H 𝓜 𝓡 wired)
     (walk_Meets 𝓛 F.ended stayed (Goes-spent_ref 𝓛 1 (0 ∷ []) tt (plain (λ _. handle_row)), tt) c runs (WpFn-mono 𝓤 𝓛.H 𝓛.laws 𝓣 code.function)
     (walked 𝓛 F.ended stayed c runs (λ κs. (mut_vals, tt)) (λ κs. (mut_Tells (named 0) κs.0 handle_row, tt))
-    (λ κs qs bounds a g are. walk 𝓛 𝓜.mem 𝓡.returns 𝓣 κs.0 qs.0 a.0.ref_ptr.0 a.0.ref_ptr.1 a.0.ghost_name a.0.now.ptr a.0.now.alloc a.0.now.home)))
+    (λ κs qs bounds a g are. walk 𝓛 𝓜.mem 𝓡.returns 𝓣 κs.0 qs.0 a.0.ref_ptr.0 a.0.ref_ptr.1 a.0.ghost_name a.0.now.ptr a.0.now.alloc a.0.now.held)))

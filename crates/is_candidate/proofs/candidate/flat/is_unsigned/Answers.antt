@@ -1,6 +1,4 @@
-use Rattle.std.proofs.Common.{◌^◌, ◌<◌, IsTrue, sym, ap, ◌∙◌, subst}
-use Rattle.fast_float.specs.Text.{scan, digits_of, IsInteger}
-use Rattle.serde_json.specs.Read.{number_of}
+use Rattle.is_candidate.proofs.Common.{◌<◌, ◌^◌, ◌∙◌, ap, digits_of, IsInteger, IsTrue, number_of, scan, subst, sym}
 use Rattle.is_candidate.proofs.CandidateJson.WholeNumbers.{where_some, unsigned_number}
 use Rattle.is_candidate.proofs.candidate.flat.is_unsigned.Goals as goal
 

@@ -1,10 +1,8 @@
-use Rattle.std.proofs.Common.{◌≡◌, ◌-◌, ◌∷◌, length, Some, option_copied, refl, sym, subst, arith, rules}
-use Rattle.json.specs.Token.{Token}
-use Rattle.json.specs.Json.{read_key}
-use Rattle.json.proofs.Grammar.{read_key-shorter}
-use Rattle.serde_json.specs.Data.{object, no_members, put}
-use Rattle.is_candidate.specs.Flat.{BeginsWith}
-use Rattle.is_candidate.proofs.CandidateJson.MembersSoFar.{Kept, kept_none, kept_line, kept_ufrag, kept_other, reported, goes_on, goes_to_the_end}
+use Rattle.std.proofs.Common.{option_copied}
+use Rattle.is_candidate.proofs.Common.{◌-◌, ◌∷◌, ◌≡◌, arith, BeginsWith, length, no_members, object, put, read_key, read_key-shorter, refl}
+use Rattle.is_candidate.proofs.Common.{rules, Some, subst, sym, Token}
+use Rattle.is_candidate.proofs.CandidateJson.MembersSoFar.{Kept, kept_none, kept_line, kept_ufrag, kept_other, reported, goes_on}
+use Rattle.is_candidate.proofs.CandidateJson.MembersSoFar.{goes_to_the_end}
 use Rattle.is_candidate.proofs.candidate.flat.read_object.Goals as goal
 
 pub members-init : goal.members-init

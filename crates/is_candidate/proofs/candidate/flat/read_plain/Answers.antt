@@ -1,10 +1,6 @@
-use Rattle.std.proofs.Common.{◌≡◌, ◌∷◌, refl, ap, ◌∙◌, arith}
-use Rattle.json.specs.Token.{Token}
 use Rattle.json.specs.Json as Json
-use Rattle.json.specs.Json.{value}
 use Rattle.json.specs.Reads.{token_of}
-use Rattle.json.proofs.Grammar.{value_is}
-use Rattle.serde_json.specs.Data.{null, boolean, number, string, unsigned}
+use Rattle.is_candidate.proofs.Common.{◌∙◌, ◌∷◌, ◌≡◌, ap, arith, boolean, null, number, refl, string, Token, unsigned, value, value_is}
 use Rattle.is_candidate.proofs.candidate.flat.read_plain.Goals as goal
 
 pub returns-in-String-clause-plain : goal.returns-in-String-clause-plain

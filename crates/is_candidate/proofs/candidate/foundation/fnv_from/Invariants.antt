@@ -1,5 +1,4 @@
-use Rattle.std.proofs.Common.{◌≡◌, take}
-use Rattle.is_candidate.specs.Foundations.{fnv_from}
+use Rattle.is_candidate.proofs.Common.{◌≡◌, fnv_from, take}
 use Rattle.is_candidate.proofs.candidate.foundation.fnv_from.Given as goal
 
 abbrev pub invariant-loop-byte : goal.invariant-loop-byte

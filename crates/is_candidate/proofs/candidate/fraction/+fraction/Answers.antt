@@ -1,11 +1,10 @@
-use Rattle.std.proofs.Common.{◌≡◌, ℕ, ◌+◌, ◌<◌, List, [], ◌∷◌, ◌++◌, length, get_or, take, Bool, true, false, ◌||◌, refl, sym, ap, ◌∙◌, append_assoc}
-use Rattle.std.proofs.lemmas.List.{take_more}
-use Rattle.serde_json.specs.View.{view, items_view, members_view}
-use Rattle.serde_json.specs.Written.{has_float, items_have_float, members_have_float}
 use Rattle.serde_json.specs.declared.value.Value.{Value}
-use Rattle.serde_json.proofs.Views.{Entry}
+use Rattle.is_candidate.proofs.Common.{[], ◌++◌, ◌+◌, ◌<◌, ◌||◌, ◌∙◌, ◌∷◌, ◌≡◌, ap, append_assoc, Bool, Entry, false, get_or, has_float}
+use Rattle.is_candidate.proofs.Common.{items_have_float, items_view, length, List, members_have_float, members_view, refl, sym, take}
+use Rattle.is_candidate.proofs.Common.{take_more, true, view, ℕ}
 use Rattle.is_candidate.proofs.candidate.fraction.+fraction.Goals as goal
-use Rattle.is_candidate.proofs.candidate.fraction.+fraction.Goals.{items_hold_fraction-then-holds_fraction, items_hold_fraction-else-holds_fraction}
+use Rattle.is_candidate.proofs.candidate.fraction.+fraction.Goals.{items_hold_fraction-then-holds_fraction}
+use Rattle.is_candidate.proofs.candidate.fraction.+fraction.Goals.{items_hold_fraction-else-holds_fraction}
 
 swapped : (a b c : Bool) → (a || (b || c)) ≡ (b || (a || c))
 swapped true true c = refl

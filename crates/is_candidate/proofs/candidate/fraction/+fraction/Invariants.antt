@@ -1,7 +1,4 @@
-use Rattle.std.proofs.Common.{◌≡◌, List, ◌++◌, take}
-use Rattle.serde_json.specs.View.{items_view, members_view}
-use Rattle.serde_json.specs.Written.{items_have_float, members_have_float}
-use Rattle.serde_json.proofs.Views.{Entry}
+use Rattle.is_candidate.proofs.Common.{◌++◌, ◌≡◌, Entry, items_have_float, items_view, List, members_have_float, members_view, take}
 use Rattle.is_candidate.proofs.candidate.fraction.+fraction.Given as goal
 
 abbrev pub invariant-items_hold_fraction-loop-item : goal.invariant-items_hold_fraction-loop-item

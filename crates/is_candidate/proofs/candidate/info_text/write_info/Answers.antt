@@ -1,4 +1,3 @@
-use Rattle.std.proofs.Common.{◌++◌, ◌∙◌, ap, append_assoc}
 use Rattle.is_candidate.proofs.CandidateJson.PrintedJson.{on_ok, ten_more}
 use Rattle.is_candidate.proofs.candidate.info_text.write_info.Goals as goal
 

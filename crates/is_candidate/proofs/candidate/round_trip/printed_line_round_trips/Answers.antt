@@ -1,8 +1,5 @@
-use Rattle.std.proofs.Common.{◌^◌, ◌<◌, Option, IfSome, ap, subst, arith}
-use Rattle.std.specs.declared.net.socket_addr.SocketAddr.{SocketAddr}
-use Rattle.is_candidate.specs.Candidates.{CandidateRecord}
-use Rattle.is_candidate.specs.Priorities.{candidate_priority}
-use Rattle.is_candidate.specs.RoundTrips.{PartsFit}
+use Rattle.is_candidate.proofs.Common.{◌<◌, ◌^◌, ap, arith, candidate_priority, CandidateRecord, IfSome, Option, PartsFit, SocketAddr}
+use Rattle.is_candidate.proofs.Common.{subst}
 use Rattle.is_candidate.proofs.AttributeTexts.PrintedAttributes.{reads_back}
 use Rattle.is_candidate.proofs.candidate.round_trip.printed_line_round_trips.Goals as goal
 

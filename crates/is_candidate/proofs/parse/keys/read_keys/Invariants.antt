@@ -1,7 +1,4 @@
-use Rattle.std.proofs.Common.{◌-◌, length, drop}
-use Rattle.std.specs.Option.{option_copied}
-use Rattle.is_candidate.specs.Lines.{Answer, Keys, ReadsKeys, no_keys}
-use Rattle.is_candidate.specs.Scanned.{texts}
+use Rattle.is_candidate.proofs.Common.{◌-◌, Answer, drop, Keys, length, no_keys, option_copied, ReadsKeys, texts}
 use Rattle.is_candidate.proofs.parse.keys.read_keys.Given as goal
 
 -- what the rest answers from the keys so far is the answer of all

@@ -1,6 +1,5 @@
-use Rattle.std.proofs.Common.{◌≡◌, ℕ, ◌-◌, List, length, take, drop, min, sym, ap, ◌∙◌, arith}
-use Rattle.std.proofs.lemmas.List.{take_all, drop_min, drop-map, length-drop}
-use Rattle.is_candidate.specs.Scanned.{texts}
+use Rattle.is_candidate.proofs.Common.{◌-◌, ◌∙◌, ◌≡◌, ap, arith, drop, drop-map, drop_min, length, length-drop, List, min, sym, take}
+use Rattle.is_candidate.proofs.Common.{take_all, texts, ℕ}
 use Rattle.is_candidate.proofs.parse.line.following.Goals as goal
 
 whole-rest : {X : Type 0} (xs : List X) (n : ℕ) → take (length xs - n) (drop n xs) ≡ drop n xs

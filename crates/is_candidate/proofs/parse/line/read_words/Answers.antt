@@ -1,7 +1,6 @@
-use Rattle.std.proofs.Common.{◌≡◌, ℕ, List, Ok, Err, refl, subst}
 use Rattle.is_candidate.specs.Faults.{fault_text}
-use Rattle.is_candidate.specs.Lines.{Answer, Place, Keys, ReadsPlace, ReadsKeys, no_keys}
-use Rattle.is_candidate.specs.Scanned.{place_of, keys_of}
+use Rattle.is_candidate.proofs.Common.{◌≡◌, Answer, Err, Keys, keys_of, List, no_keys, Ok, Place, place_of, ReadsKeys, ReadsPlace, refl}
+use Rattle.is_candidate.proofs.Common.{subst, ℕ}
 use Rattle.is_candidate.proofs.parse.line.read_words.Goals as goal
 
 at-place : (r : Answer Place) {ws vs : List (List ℕ)} → ws ≡ vs → ReadsPlace ws r → ReadsPlace vs r

@@ -1,5 +1,4 @@
-use Rattle.std.proofs.Common.{◌≡◌, Bool, true, refl, sym, subst, inl, inr, ◌∙◌}
-use Rattle.std.specs.Bool.{MatchBool}
+use Rattle.is_candidate.proofs.Common.{◌∙◌, ◌≡◌, Bool, inl, inr, MatchBool, refl, subst, sym, true}
 use Rattle.is_candidate.proofs.parse.place.read_place.Goals as goal
 
 taken : {P : Type 0} (Q : Type 0) (b : Bool) → b ≡ true → P → MatchBool b P Q

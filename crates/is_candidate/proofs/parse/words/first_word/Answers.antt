@@ -1,6 +1,5 @@
-use Rattle.std.proofs.Common.{◌≡◌, ℕ, ◌<◌, ◌≤◌, List, length, take, get_or, All, ap, subst, arith, rules}
 use Rattle.std.proofs.lemmas.Str.{IsUtf8-drop}
-use Rattle.is_candidate.specs.Words.{IsVisible}
+use Rattle.is_candidate.proofs.Common.{◌<◌, ◌≡◌, ◌≤◌, All, ap, arith, get_or, IsVisible, length, List, rules, subst, take, ℕ}
 use Rattle.is_candidate.proofs.AttributeTexts.SpacedWords.{cut_word}
 use Rattle.is_candidate.proofs.parse.words.first_word.Goals as goal
 

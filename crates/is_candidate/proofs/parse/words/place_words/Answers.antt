@@ -1,8 +1,5 @@
-use Rattle.std.proofs.Common.{ℕ, ◌≡◌, ◌<◌, length, take, List, [], ◌∷◌, ◌++◌, sym, ap, ◌∙◌, subst, arith}
-use Rattle.std.proofs.lemmas.Bool.Decides.{nat_tests}
-use Rattle.std.proofs.lemmas.List.{take_more_set, length-set}
-use Rattle.is_candidate.specs.Scanned.{texts}
-use Rattle.is_candidate.specs.Words.{HasWords}
+use Rattle.is_candidate.proofs.Common.{[], ◌++◌, ◌<◌, ◌∙◌, ◌∷◌, ◌≡◌, ap, arith, HasWords, length, length-set, List, nat_tests, subst, sym}
+use Rattle.is_candidate.proofs.Common.{take, take_more_set, texts, ℕ}
 use Rattle.is_candidate.proofs.AttributeTexts.SpacedWords.{no_word}
 use Rattle.is_candidate.proofs.AttributeTexts.GrowingTexts.{texts-push, texts-end}
 use Rattle.is_candidate.proofs.parse.words.place_words.Goals as goal

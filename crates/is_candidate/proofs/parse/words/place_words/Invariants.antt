@@ -1,8 +1,6 @@
-use Rattle.std.proofs.Common.{◌≡◌, ℕ, ◌≤◌, List, ◌++◌, length, take}
 use denote.Text.{Utf8}
 use denote.Shadow.{shadow}
-use Rattle.is_candidate.specs.Scanned.{texts}
-use Rattle.is_candidate.specs.Words.{HasWords}
+use Rattle.is_candidate.proofs.Common.{◌++◌, ◌≡◌, ◌≤◌, HasWords, length, List, take, texts, ℕ}
 use Rattle.is_candidate.proofs.parse.words.place_words.Given as goal
 
 -- the words so far and those of the rest are the words of the text

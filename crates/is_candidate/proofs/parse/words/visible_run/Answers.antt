@@ -1,6 +1,5 @@
-use Rattle.std.proofs.Common.{arith}
 use Rattle.std.proofs.lemmas.List.Elements.{All-more}
-use Rattle.is_candidate.specs.Words.{IsVisible}
+use Rattle.is_candidate.proofs.Common.{arith, IsVisible}
 use Rattle.is_candidate.proofs.parse.words.visible_run.Goals as goal
 
 pub loop-count-preserved : goal.loop-count-preserved

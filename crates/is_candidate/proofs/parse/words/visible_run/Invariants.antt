@@ -1,5 +1,4 @@
-use Rattle.std.proofs.Common.{length, ◌-◌, ◌≤◌, take, All}
-use Rattle.is_candidate.specs.Words.{IsVisible}
+use Rattle.is_candidate.proofs.Common.{◌-◌, ◌≤◌, All, IsVisible, length, take}
 use Rattle.is_candidate.proofs.parse.words.visible_run.Given as goal
 
 -- the bytes so far are visible

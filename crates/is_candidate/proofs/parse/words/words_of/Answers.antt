@@ -1,6 +1,4 @@
-use Rattle.std.proofs.Common.{ℕ, List, [], ◌∷◌, subst}
-use Rattle.std.specs.Str.Iter.{split_whitespace_rest}
-use Rattle.is_candidate.specs.Words.{HasWords}
+use Rattle.is_candidate.proofs.Common.{[], ◌∷◌, HasWords, List, split_whitespace_rest, subst, ℕ}
 use Rattle.is_candidate.proofs.AttributeTexts.GrowingTexts.{texts-push, texts-end}
 use Rattle.is_candidate.proofs.parse.words.words_of.Goals as goal
 

@@ -1,7 +1,4 @@
-use Rattle.std.proofs.Common.{ℕ, List, ◌++◌}
-use Rattle.std.specs.Str.Iter.{split_whitespace_rest}
-use Rattle.is_candidate.specs.Scanned.{texts}
-use Rattle.is_candidate.specs.Words.{HasWords}
+use Rattle.is_candidate.proofs.Common.{◌++◌, HasWords, List, split_whitespace_rest, texts, ℕ}
 use Rattle.is_candidate.proofs.parse.words.words_of.Given as goal
 
 -- the words so far and those of the rest are the words of the text

@@ -1,8 +1,4 @@
-use Rattle.std.proofs.Common.{◌==◌, ℕ, ◌+◌, ap, sym, ◌∙◌}
-use Rattle.std.specs.List.{list_any}
-use Rattle.is_pair.specs.declared.checklist.entries.Rank.{Rank}
-use Rattle.is_pair.specs.Multiset.{are_below, keeps, ranks, rises}
-use Rattle.is_pair.specs.Entries.{is_rank}
+use Rattle.is_pair.proofs.Common.{◌+◌, ◌==◌, ◌∙◌, ap, are_below, is_rank, keeps, list_any, Rank, ranks, rises, sym, ℕ}
 use Rattle.is_pair.proofs.PairEntries.ChangedEntry.{below-added, rises-last}
 use Rattle.is_pair.proofs.PairEntries.AddedAndRemovedPairs.{keeps-more, ranks-more}
 use Rattle.is_pair.proofs.PriorityOrder.RecomputedPriorities.{has-none}

@@ -1,7 +1,4 @@
-use Rattle.std.proofs.Common.{rules, ◌≡◌, Some, Option, find, sym, ap, subst, ◌∙◌}
-use Rattle.is_pair.specs.Pairs.{PairRecord}
-use Rattle.is_pair.specs.Multiset.{pair_numbered, IsAwaiting}
-use Rattle.is_pair.specs.Entries.{names_passing}
+use Rattle.is_pair.proofs.Common.{◌∙◌, ◌≡◌, ap, find, IsAwaiting, names_passing, Option, pair_numbered, PairRecord, rules, Some, subst, sym}
 use Rattle.is_pair.proofs.ChecklistIndex.AwaitingPair.{awaiting-found, awaiting-keeps, none-awaiting}
 use Rattle.is_pair.proofs.checklist.Checklist.awaiting.Goals as goal
 

@@ -1,6 +1,4 @@
-use Rattle.std.proofs.Common.{◌++◌}
-use Rattle.is_pair.specs.declared.checklist.removed.Removal.TheVariants.{Evicted}
-use Rattle.is_pair.specs.Checklists.{multiset_of, removed_of}
+use Rattle.is_pair.proofs.Common.{◌++◌, Evicted, multiset_of, removed_of}
 use Rattle.is_pair.proofs.RemovedPairs.{after-some}
 use Rattle.is_pair.proofs.checklist.Checklist.evict.Goals as goal
 

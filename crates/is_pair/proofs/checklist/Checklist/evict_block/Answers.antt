@@ -1,8 +1,5 @@
-use Rattle.std.proofs.Common.{◌≡◌, ◌+◌, ◌≤◌, List, count_by, filter, length, ap, subst, ◌∙◌, arith}
-use Rattle.std.proofs.lemmas.List.Sums.{length-filter}
-use Rattle.is_pair.specs.Pairs.{PairRecord}
-use Rattle.is_pair.specs.Multiset.{EvictsInTurn}
-use Rattle.is_pair.specs.Lowest.{is_low, pairs_of}
+use Rattle.is_pair.proofs.Common.{◌+◌, ◌∙◌, ◌≡◌, ◌≤◌, ap, arith, count_by, EvictsInTurn, filter, is_low, length, length-filter, List}
+use Rattle.is_pair.proofs.Common.{PairRecord, pairs_of, subst}
 use Rattle.is_pair.proofs.EvictedBlock.{low-ones, ranked-go}
 use Rattle.is_pair.proofs.PriorityOrder.RankedPairs.{agree, have-ranks}
 use Rattle.is_pair.proofs.checklist.Checklist.evict_block.Goals as goal

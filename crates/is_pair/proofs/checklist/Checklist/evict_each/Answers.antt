@@ -1,10 +1,5 @@
-use Rattle.std.proofs.Common.{◌≡◌, ◌∷◌, ◌++◌, [], List, length, refl, rules, ap, sym, subst, ◌∙◌, arith, append_assoc}
-use Rattle.std.proofs.lemmas.List.{append-nil}
-use Rattle.is_pair.specs.declared.checklist.removed.Removal.TheVariants.{Evicted}
-use Rattle.is_pair.specs.Pairs.{PairRecord}
-use Rattle.is_pair.specs.Multiset.{EvictsInTurn, IsLeast}
-use Rattle.is_pair.specs.Checklists.{multiset_of, removed_of}
-use Rattle.is_pair.specs.Removed.{removed_after}
+use Rattle.is_pair.proofs.Common.{[], ◌++◌, ◌∙◌, ◌∷◌, ap, append-nil, append_assoc, arith, Evicted, EvictsInTurn, IsLeast, length, List}
+use Rattle.is_pair.proofs.Common.{multiset_of, PairRecord, refl, removed_after, removed_of, rules, subst, sym}
 use Rattle.is_pair.proofs.PriorityOrder.LeastPair.{shrinks}
 use Rattle.is_pair.proofs.RemovedPairs.{after-none, after-some, filter-only}
 use Rattle.is_pair.proofs.checklist.Checklist.evict_each.Goals as goal

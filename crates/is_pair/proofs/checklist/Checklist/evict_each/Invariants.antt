@@ -1,9 +1,4 @@
-use Rattle.std.proofs.Common.{List, ◌≡◌, ◌∷◌, ◌++◌, ℕ, true, length}
-use Rattle.is_pair.specs.declared.checklist.removed.Removal.TheVariants.{Evicted}
-use Rattle.is_pair.specs.Pairs.{PairRecord}
-use Rattle.is_pair.specs.Multiset.{are_below}
-use Rattle.is_pair.specs.Lowest.{EvictsSome}
-use Rattle.is_pair.specs.Checklists.{multiset_of, removed_of, HasRoom, HasCheckRoom}
+use Rattle.is_pair.proofs.Common.{◌≡◌, are_below, EvictsSome, HasCheckRoom, HasRoom, length, multiset_of, removed_of, true, ℕ}
 use Rattle.is_pair.proofs.checklist.Checklist.evict_each.Given as goal
 
 abbrev pub invariant-loop-self : goal.invariant-loop-self

@@ -1,6 +1,4 @@
-use Rattle.std.proofs.Common.{◌==◌, rules, not}
-use Rattle.std.proofs.lemmas.Fn.{filter_same}
-use Rattle.is_pair.specs.declared.checklist.removed.RemovedPair.{RemovedPair}
+use Rattle.is_pair.proofs.Common.{◌==◌, filter_same, not, RemovedPair, rules}
 use Rattle.is_pair.proofs.checklist.Checklist.forget_removed.Goals as goal
 
 pub returns-clause-removed : goal.returns-clause-removed

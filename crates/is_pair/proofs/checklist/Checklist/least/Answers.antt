@@ -1,6 +1,4 @@
-use Rattle.std.proofs.Common.{rules, ◌≡◌, Some, None, Option, slice_get, sym, ap, subst, ◌∙◌}
-use Rattle.is_pair.specs.Pairs.{PairRecord}
-use Rattle.is_pair.specs.Multiset.{pair_numbered, IsLowest}
+use Rattle.is_pair.proofs.Common.{◌∙◌, ◌≡◌, ap, IsLowest, None, Option, pair_numbered, PairRecord, rules, slice_get, Some, subst, sym}
 use Rattle.is_pair.proofs.PriorityOrder.LeastPair.{least-found, none-least}
 use Rattle.is_pair.proofs.checklist.Checklist.least.Goals as goal
 

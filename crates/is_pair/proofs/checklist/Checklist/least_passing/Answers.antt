@@ -1,7 +1,5 @@
-use Rattle.std.proofs.Common.{rules, ◌≡◌, Some, Option, find, sym, ap, subst, ◌∙◌}
-use Rattle.is_pair.specs.Pairs.{PairRecord}
-use Rattle.is_pair.specs.Multiset.{pair_numbered, IsLeastPassing}
-use Rattle.is_pair.specs.Entries.{has_passing}
+use Rattle.is_pair.proofs.Common.{◌∙◌, ◌≡◌, ap, find, has_passing, IsLeastPassing, Option, pair_numbered, PairRecord, rules, Some, subst}
+use Rattle.is_pair.proofs.Common.{sym}
 use Rattle.is_pair.proofs.PriorityOrder.LeastPair.{least-passing-found, none-passing}
 use Rattle.is_pair.proofs.checklist.Checklist.least_passing.Goals as goal
 

@@ -1,8 +1,5 @@
-use Rattle.std.proofs.Common.{rules, ◌≡◌, ap, refl, ◌∙◌, slice_get, Some, length}
-use Rattle.std.proofs.lemmas.Option.{slice_get_read}
-use Rattle.is_pair.specs.Pairs.{PairRecord, checked, check_of}
-use Rattle.is_pair.specs.Multiset.{pair_numbered}
-use Rattle.is_pair.specs.Entries.{named_after}
+use Rattle.is_pair.proofs.Common.{◌∙◌, ◌≡◌, ap, check_of, checked, length, named_after, pair_numbered, PairRecord, refl, rules, slice_get}
+use Rattle.is_pair.proofs.Common.{slice_get_read, Some}
 use Rattle.is_pair.proofs.PairEntries.ChangedEntry.{found-number, writes}
 use Rattle.is_pair.proofs.PairEntries.PlaceOfNumber.{place-found}
 use Rattle.is_pair.proofs.ChecklistIndex.IndexAfterCut.{leaves}

@@ -1,10 +1,5 @@
-use Rattle.std.proofs.Common.{◌<◌, List, Some, refl, subst, arith}
-use Rattle.std.proofs.lemmas.Bool.{eq-eqb}
-use Rattle.std.proofs.lemmas.Bool.Decides.{nat_tests}
-use Rattle.is_pair.specs.Pairs.{PairRecord}
-use Rattle.is_pair.specs.Due.{due_time_of, IsEarliest}
-use Rattle.is_pair.specs.Multiset.{is_numbered}
-use Rattle.is_pair.specs.Checklists.{multiset_of}
+use Rattle.is_pair.proofs.Common.{◌<◌, arith, due_time_of, eq-eqb, is_numbered, IsEarliest, List, multiset_of, nat_tests, PairRecord, refl}
+use Rattle.is_pair.proofs.Common.{Some, subst}
 use Rattle.is_pair.proofs.DueTimes.FirstDuePair.{none-due}
 use Rattle.is_pair.proofs.PriorityOrder.GreatestPair.{has-any}
 use Rattle.is_pair.proofs.checklist.Checklist.next_due.Goals as goal

@@ -1,5 +1,4 @@
-use Rattle.std.proofs.Common.{rules, ◌≡◌, slice_get, Some, None, ap, sym, ◌∙◌}
-use Rattle.is_pair.specs.Multiset.{pair_numbered}
+use Rattle.is_pair.proofs.Common.{◌∙◌, ◌≡◌, ap, None, pair_numbered, rules, slice_get, Some, sym}
 use Rattle.is_pair.proofs.PriorityOrder.RankedPairs.{is-found, ranked-at, ranked-past}
 use Rattle.is_pair.proofs.checklist.Checklist.ranked.Goals as goal
 

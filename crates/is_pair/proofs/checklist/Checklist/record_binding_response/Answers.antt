@@ -1,7 +1,5 @@
-use Rattle.std.proofs.Common.{rules, ◌≡◌, ap, sym, refl, ◌∙◌, slice_get, Some, length}
-use Rattle.std.proofs.lemmas.Option.{slice_get_read}
-use Rattle.is_pair.specs.Checks.{is_kept}
-use Rattle.is_pair.specs.Multiset.{change_pair, pair_numbered}
+use Rattle.is_pair.proofs.Common.{◌∙◌, ◌≡◌, ap, change_pair, is_kept, length, pair_numbered, refl, rules, slice_get, slice_get_read, Some}
+use Rattle.is_pair.proofs.Common.{sym}
 use Rattle.is_pair.proofs.PairEntries.AnsweredPair.{answer-checks, answer-keeps, answer-number, answer-priority}
 use Rattle.is_pair.proofs.PairEntries.ChangedEntry.{found-number, none-passes, one-passes, writes}
 use Rattle.is_pair.proofs.PairEntries.PlaceOfNumber.{place-found, place-none}

@@ -1,10 +1,6 @@
-use Rattle.std.proofs.Common.{◌==◌, ◌≡◌, ◌+◌, ◌≤◌, ℕ, Bool, List, ap, filter, not, ◌∙◌, nat_lt, length, vec_len, arith}
-use Rattle.std.specs.VecDeque.{deque_len, deque_capacity}
-use Rattle.is_pair.specs.Pairs.{PairRecord}
-use Rattle.is_pair.specs.declared.checklist.entries.Kept.{Kept}
-use Rattle.is_pair.specs.declared.checklist.entries.Rank.{Rank}
-use Rattle.is_pair.specs.Multiset.{are_below, are_fewer, is_numbered, keep_fewer, rises}
-use Rattle.is_pair.specs.Entries.{are_ordered, are_single, ids_rise}
+use Rattle.is_pair.proofs.Common.{◌+◌, ◌==◌, ◌∙◌, ◌≡◌, ◌≤◌, ap, are_below, are_fewer, are_ordered, are_single, arith, Bool, deque_capacity}
+use Rattle.is_pair.proofs.Common.{deque_len, filter, ids_rise, is_numbered, keep_fewer, Kept, length, List, nat_lt, not, PairRecord, Rank}
+use Rattle.is_pair.proofs.Common.{rises, vec_len, ℕ}
 use Rattle.is_pair.proofs.ChecklistIndex.SortedById.{rising-filter}
 use Rattle.is_pair.proofs.PairEntries.ChangedEntry.{all-filter, rises-filter}
 use Rattle.is_pair.proofs.PairEntries.RemovedPair.{index-without, ranking-without}

@@ -1,16 +1,11 @@
-use Rattle.std.proofs.Common.{◌≡◌, ◌+◌, ◌≤◌, ℕ, Bool, List, ap, filter, not, subst, sym, ◌∙◌, nat_lt, length, vec_len, arith}
-use Rattle.std.specs.VecDeque.{deque_len, deque_capacity}
-use Rattle.is_pair.specs.Pairs.{PairRecord}
-use Rattle.is_pair.specs.declared.checklist.entries.Rank.{Rank}
-use Rattle.is_pair.specs.Multiset.{are_below, are_fewer, has_number, keep_fewer, rises}
-use Rattle.is_pair.specs.declared.checklist.entries.Kept.{Kept}
-use Rattle.is_pair.specs.Entries.{are_ordered, are_single, ids_rise}
+use Rattle.is_pair.proofs.Common.{◌+◌, ◌∙◌, ◌≡◌, ◌≤◌, ap, are_below, are_fewer, are_ordered, are_single, arith, Bool, deque_capacity}
+use Rattle.is_pair.proofs.Common.{deque_len, filter, has_number, ids_rise, keep_fewer, Kept, length, List, listed_by, nat_lt, not}
+use Rattle.is_pair.proofs.Common.{PairRecord, pairs_of, Rank, rises, subst, sym, vec_len, ℕ}
 use Rattle.is_pair.proofs.ChecklistIndex.SortedById.{rising-filter}
 use Rattle.is_pair.proofs.PairEntries.ChangedEntry.{all-filter, rises-filter}
 use Rattle.is_pair.proofs.PairEntries.AddedAndRemovedPairs.{index-left, ranking-left}
 use Rattle.is_pair.proofs.PriorityOrder.OrderedPairs.{ordered-filter}
 use Rattle.is_pair.proofs.PriorityOrder.SingleEntries.{single-filter}
-use Rattle.is_pair.specs.Lowest.{listed_by, pairs_of}
 use Rattle.is_pair.proofs.PriorityOrder.RankedPairs.{count-ranked, have-ranks}
 use Rattle.is_pair.proofs.RemovedPairs.{few-pass, fit-after, fit-more-after, listed-counts, split-lengths}
 use Rattle.is_pair.proofs.checklist.Checklist.remove_passing.Goals as goal

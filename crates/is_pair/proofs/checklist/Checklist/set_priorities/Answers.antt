@@ -1,8 +1,4 @@
-use Rattle.std.proofs.Common.{List, ap, map, refl, ◌∙◌}
-use Rattle.std.specs.List.{list_any}
-use Rattle.is_pair.specs.Pairs.{PairRecord}
-use Rattle.is_pair.specs.Multiset.{rises, with_priority}
-use Rattle.is_pair.specs.Entries.{is_rank, rank_now}
+use Rattle.is_pair.proofs.Common.{◌∙◌, ap, is_rank, List, list_any, map, PairRecord, rank_now, refl, rises, with_priority}
 use Rattle.is_pair.proofs.PriorityOrder.RecomputedPriorities.{recomputed}
 use Rattle.is_pair.proofs.PairEntries.ChangedPairs.{changed-below, changed-fewer, changed-index, changed-rises}
 use Rattle.is_pair.proofs.checklist.Checklist.set_priorities.Goals as goal

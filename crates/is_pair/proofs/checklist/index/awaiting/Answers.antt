@@ -1,8 +1,4 @@
-use Rattle.std.proofs.Common.{ap, find, take, drop, ◌-◌, length, ◌∙◌}
-use Rattle.std.specs.List.{list_any}
-use Rattle.is_pair.specs.declared.checklist.entries.Kept.{Kept}
-use Rattle.is_pair.specs.Multiset.{passes_at}
-use Rattle.is_pair.specs.Entries.{ids_rise, names_passing}
+use Rattle.is_pair.proofs.Common.{◌-◌, ◌∙◌, ap, drop, find, ids_rise, Kept, length, list_any, names_passing, passes_at, take}
 use Rattle.is_pair.proofs.ChecklistIndex.SortedById.{find-following, find-within, from-here, rising-drop}
 use Rattle.is_pair.proofs.checklist.index.awaiting.Goals as goal
 

@@ -1,7 +1,4 @@
-use Rattle.std.proofs.Common.{rules, tests, not}
-use Rattle.std.proofs.lemmas.List.Sorted.{IsPartitionPoint-from_clause}
-use Rattle.is_pair.specs.declared.checklist.entries.Kept.{Kept}
-use Rattle.is_pair.specs.Entries.{is_before}
+use Rattle.is_pair.proofs.Common.{is_before, IsPartitionPoint-from_clause, Kept, not, rules, tests}
 use Rattle.is_pair.proofs.ChecklistIndex.SortedById.{parted-through}
 use Rattle.is_pair.proofs.checklist.index.count_through.Goals as goal
 

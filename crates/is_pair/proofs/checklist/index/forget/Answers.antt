@@ -1,7 +1,4 @@
-use Rattle.std.proofs.Common.{subst, sym}
-use Rattle.is_pair.specs.declared.pair.cut.Cut.{Cut}
-use Rattle.is_pair.specs.Cutting.{LeavesCurrent}
-use Rattle.is_pair.specs.Entries.{is_current}
+use Rattle.is_pair.proofs.Common.{Cut, is_current, LeavesCurrent, subst, sym}
 use Rattle.is_pair.proofs.PairEntries.ChangedEntry.{filter-whole}
 use Rattle.is_pair.proofs.checklist.index.forget.Goals as goal
 

@@ -1,6 +1,4 @@
-use Rattle.std.proofs.Common.{rules}
-use Rattle.std.proofs.lemmas.Fn.{filter_same}
-use Rattle.is_pair.specs.Entries.{is_current}
+use Rattle.is_pair.proofs.Common.{filter_same, is_current, rules}
 use Rattle.is_pair.proofs.checklist.index.forget_all.Goals as goal
 
 pub returns-clause-items : goal.returns-clause-items

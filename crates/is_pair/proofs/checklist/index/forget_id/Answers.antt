@@ -1,7 +1,5 @@
-use Rattle.std.proofs.Common.{◌≡◌, ◌<◌, ◌≤◌, ◌-◌, ℕ, List, arith, drop, length, rules, take, ap, subst, sym, ◌∙◌}
-use Rattle.std.proofs.lemmas.List.{length-drop}
-use Rattle.is_pair.specs.declared.checklist.entries.Kept.{Kept}
-use Rattle.is_pair.specs.Entries.{ids_rise}
+use Rattle.is_pair.proofs.Common.{◌-◌, ◌<◌, ◌∙◌, ◌≡◌, ◌≤◌, ap, arith, drop, ids_rise, Kept, length, length-drop, List, rules, subst, sym}
+use Rattle.is_pair.proofs.Common.{take, ℕ}
 use Rattle.is_pair.proofs.ChecklistIndex.IndexAfterCut.{filter-around}
 use Rattle.is_pair.proofs.ChecklistIndex.SortedById.{IsEnd, IsPoint, from-here, rising-drop}
 use Rattle.is_pair.proofs.checklist.index.forget_id.Goals as goal

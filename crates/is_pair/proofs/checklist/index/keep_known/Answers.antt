@@ -1,7 +1,4 @@
-use Rattle.std.proofs.Common.{rules}
-use Rattle.std.proofs.lemmas.Fn.{filter_same}
-use Rattle.is_pair.specs.declared.checklist.entries.Kept.{Kept}
-use Rattle.is_pair.specs.Multiset.{has_number}
+use Rattle.is_pair.proofs.Common.{filter_same, has_number, Kept, rules}
 use Rattle.is_pair.proofs.checklist.index.keep_known.Goals as goal
 
 pub returns-clause-items : goal.returns-clause-items

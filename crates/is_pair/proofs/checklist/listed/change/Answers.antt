@@ -1,6 +1,4 @@
-use Rattle.std.proofs.Common.{rules, ◌≡◌, Some, slice_get, sym, ◌∙◌, arith}
-use Rattle.std.proofs.lemmas.Option.{slice_get_read}
-use Rattle.is_pair.specs.Multiset.{pair_numbered}
+use Rattle.is_pair.proofs.Common.{◌∙◌, ◌≡◌, arith, pair_numbered, rules, slice_get, slice_get_read, Some, sym}
 use Rattle.is_pair.proofs.PairEntries.ChangedEntry.{found-number, unwritten, writes}
 use Rattle.is_pair.proofs.PairEntries.PlaceOfNumber.{place-found, place-none}
 use Rattle.is_pair.proofs.checklist.listed.change.Goals as goal

@@ -1,5 +1,4 @@
-use Rattle.std.proofs.Common.{arith}
-use Rattle.std.proofs.lemmas.List.Edits.{map_over_more}
+use Rattle.is_pair.proofs.Common.{arith, map_over_more}
 use Rattle.is_pair.proofs.checklist.listed.change_all.Goals as goal
 
 pub loop-place-preserved : goal.loop-place-preserved

@@ -1,6 +1,4 @@
-use Rattle.std.proofs.Common.{rules, not}
-use Rattle.std.proofs.lemmas.Fn.{filter_same}
-use Rattle.is_pair.specs.Pairs.{PairRecord}
+use Rattle.is_pair.proofs.Common.{filter_same, not, PairRecord, rules}
 use Rattle.is_pair.proofs.checklist.listed.drop_passing.Goals as goal
 
 pub returns-clause-left : goal.returns-clause-left

@@ -1,5 +1,4 @@
-use Rattle.std.proofs.Common.{◌∷◌, []}
-use Rattle.std.proofs.lemmas.List.{drop_all}
+use Rattle.is_pair.proofs.Common.{[], ◌∷◌, drop_all}
 use Rattle.is_pair.proofs.DueTimes.FirstDuePair.{seen-all, seen-more, seen-none}
 use Rattle.is_pair.proofs.PairEntries.VisitedPairs.{left-more}
 use Rattle.is_pair.proofs.checklist.listed.earliest.Goals as goal

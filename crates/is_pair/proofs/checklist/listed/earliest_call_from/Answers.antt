@@ -1,8 +1,5 @@
-use Rattle.std.proofs.Common.{◌≡◌, ℕ, ◌+◌, ◌≤◌, List, [], ◌∷◌, drop, fold, map, max, min, rules, ap, sym, ◌∙◌, arith}
-use Rattle.std.proofs.lemmas.List.{drop_all}
-use Rattle.is_proto.specs.Times.{MAX}
-use Rattle.is_pair.specs.Pairs.{PairRecord}
-use Rattle.is_pair.specs.Due.{call_time_of}
+use Rattle.is_pair.proofs.Common.{[], ◌+◌, ◌∙◌, ◌∷◌, ◌≡◌, ◌≤◌, ap, arith, call_time_of, drop, drop_all, fold, List, map, MAX, min}
+use Rattle.is_pair.proofs.Common.{PairRecord, rules, sym, ℕ}
 use Rattle.is_pair.proofs.PairEntries.VisitedPairs.{left-more}
 use Rattle.is_pair.proofs.checklist.listed.earliest_call_from.Goals as goal
 

@@ -1,7 +1,4 @@
-use Rattle.std.proofs.Common.{ℕ, ◌+◌, List, drop, fold, map, min, rules, ap, sym, ◌∙◌}
-use Rattle.std.proofs.lemmas.List.{drop_all}
-use Rattle.is_pair.specs.Pairs.{PairRecord}
-use Rattle.is_pair.specs.Due.{call_time_of}
+use Rattle.is_pair.proofs.Common.{◌+◌, ◌∙◌, ap, call_time_of, drop, drop_all, fold, List, map, min, PairRecord, rules, sym, ℕ}
 use Rattle.is_pair.proofs.PairEntries.VisitedPairs.{left-more}
 use Rattle.is_pair.proofs.checklist.listed.earliest_call_with.Goals as goal
 

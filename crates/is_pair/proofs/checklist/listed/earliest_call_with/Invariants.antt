@@ -1,6 +1,4 @@
-use Rattle.std.proofs.Common.{◌≡◌, map, fold, min, drop}
-use Rattle.is_proto.specs.Times.{MAX}
-use Rattle.is_pair.specs.Due.{call_time_of}
+use Rattle.is_pair.proofs.Common.{◌≡◌, call_time_of, drop, fold, map, MAX, min}
 use Rattle.is_pair.proofs.checklist.listed.earliest_call_with.Given as goal
 
 -- the least of what is left and of what was visited is the least of all

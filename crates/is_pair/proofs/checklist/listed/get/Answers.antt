@@ -1,5 +1,4 @@
-use Rattle.std.proofs.Common.{rules, length, refl, sym, ◌∙◌}
-use Rattle.std.proofs.lemmas.Option.{slice_get_read}
+use Rattle.is_pair.proofs.Common.{◌∙◌, length, refl, rules, slice_get_read, sym}
 use Rattle.is_pair.proofs.PairEntries.PlaceOfNumber.{place-found, place-none}
 use Rattle.is_pair.proofs.checklist.listed.get.Goals as goal
 

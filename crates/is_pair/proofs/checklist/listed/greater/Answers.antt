@@ -1,6 +1,4 @@
-use Rattle.std.proofs.Common.{◌≡◌, ◌<◌, ◌∙◌, subst, sym, rules, arith}
-use Rattle.std.specs.Option.{option_copied}
-use Rattle.is_pair.specs.Multiset.{IsGreatest}
+use Rattle.is_pair.proofs.Common.{◌∙◌, IsGreatest, option_copied, rules, subst, sym}
 use Rattle.is_pair.proofs.PriorityOrder.VisitedGreatest.{greatest-first, greatest-kept, greatest-past, greatest-replaced}
 use Rattle.is_pair.proofs.checklist.listed.greater.Goals as goal
 use Rattle.is_pair.proofs.checklist.listed.greater.Goals.{in_default-via-in-Some+else-prio, in_default-via-in_default}

@@ -1,6 +1,4 @@
-use Rattle.std.proofs.Common.{List, drop}
-use Rattle.std.specs.Option.{option_copied}
-use Rattle.is_pair.specs.Pairs.{PairRecord}
+use Rattle.is_pair.proofs.Common.{drop, List, option_copied, PairRecord}
 use Rattle.is_pair.proofs.PriorityOrder.VisitedGreatest.{IsVisited}
 use Rattle.is_pair.proofs.checklist.listed.greatest.Given as goal
 

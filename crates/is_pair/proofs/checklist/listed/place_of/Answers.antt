@@ -1,13 +1,11 @@
-use Rattle.std.proofs.Common.{rules, tests, ◌≡◌, ◌==◌, ℕ, false, true, List, Some, get_or, length, nat_lt, slice_get, is_some, refl, sym, ap, ◌∙◌, arith}
-use Rattle.std.proofs.lemmas.Bool.{eqb-true}
-use Rattle.std.proofs.lemmas.List.Sorted.{IsPartitionPoint-from_clause}
-use Rattle.std.proofs.lemmas.Option.{get_or_from_slice_get, slice_get_read, slice_get_within}
-use Rattle.is_pair.specs.Pairs.{PairRecord}
-use Rattle.is_pair.specs.Multiset.{is_numbered}
+use Rattle.is_pair.proofs.Common.{◌==◌, ◌∙◌, ◌≡◌, ap, arith, eqb-true, false, get_or, get_or_from_slice_get, is_numbered, is_some}
+use Rattle.is_pair.proofs.Common.{IsPartitionPoint-from_clause, length, List, nat_lt, PairRecord, refl, rules, slice_get, slice_get_read}
+use Rattle.is_pair.proofs.Common.{slice_get_within, Some, sym, tests, true, ℕ}
 use Rattle.is_pair.proofs.PairEntries.PlaceOfNumber.{parted, place-here, place-none, place-nowhere}
 use Rattle.is_pair.proofs.StoredChecks.LastChecks.{is_some-find}
 use Rattle.is_pair.proofs.checklist.listed.place_of.Goals as goal
-use Rattle.is_pair.proofs.checklist.listed.place_of.Goals.{else-place-pairs-via-then-place-pairs+else-id-number, else-place-pairs-via-else-place-pairs}
+use Rattle.is_pair.proofs.checklist.listed.place_of.Goals.{else-place-pairs-via-then-place-pairs+else-id-number}
+use Rattle.is_pair.proofs.checklist.listed.place_of.Goals.{else-place-pairs-via-else-place-pairs}
 
 -- the pair at the index has another number
 other-at : (n : ℕ) (ps : List PairRecord) (i : ℕ) (x : PairRecord) → x ≡ get_or ps i x → (x.number ≡ n → ⊥) → (q : PairRecord) → slice_get ps i ≡ Some q → q.number == n ≡ false

@@ -1,5 +1,4 @@
-use Rattle.std.proofs.Common.{◌≡◌, ℕ, ◌<◌, true, drop}
-use Rattle.is_pair.specs.Multiset.{keep_fewer}
+use Rattle.is_pair.proofs.Common.{◌<◌, ◌≡◌, drop, keep_fewer, true, ℕ}
 use Rattle.is_pair.proofs.checklist.listed.reserve_beyond_all.Given as goal
 
 -- if the pairs that are left store fewer, all do

@@ -1,6 +1,4 @@
-use Rattle.std.proofs.Common.{arith}
-use Rattle.std.proofs.lemmas.List.Edits.{map_over_more}
-use Rattle.is_pair.specs.Multiset.{with_priority}
+use Rattle.is_pair.proofs.Common.{arith, map_over_more, with_priority}
 use Rattle.is_pair.proofs.checklist.listed.set_priorities.Goals as goal
 
 pub loop-place-preserved : goal.loop-place-preserved

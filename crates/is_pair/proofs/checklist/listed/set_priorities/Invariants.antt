@@ -1,5 +1,4 @@
-use Rattle.std.proofs.Common.{◌≡◌, ◌++◌, map, take, drop, vec_len, vec_capacity}
-use Rattle.is_pair.specs.Multiset.{with_priority}
+use Rattle.is_pair.proofs.Common.{◌++◌, ◌≡◌, drop, map, take, vec_capacity, vec_len, with_priority}
 use Rattle.is_pair.proofs.checklist.listed.set_priorities.Given as goal
 
 abbrev pub invariant-loop-place : goal.invariant-loop-place

@@ -1,7 +1,4 @@
-use Rattle.std.proofs.Common.{rules, not}
-use Rattle.std.proofs.lemmas.Fn.{filter_same}
-use Rattle.is_pair.specs.Pairs.{PairRecord}
-use Rattle.is_pair.specs.Multiset.{is_numbered}
+use Rattle.is_pair.proofs.Common.{filter_same, is_numbered, not, PairRecord, rules}
 use Rattle.is_pair.proofs.checklist.listed.take_out.Goals as goal
 
 pub returns-clause-left : goal.returns-clause-left

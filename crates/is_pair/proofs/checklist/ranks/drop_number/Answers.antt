@@ -1,6 +1,4 @@
-use Rattle.std.proofs.Common.{rules, ◌==◌, not}
-use Rattle.std.proofs.lemmas.Fn.{filter_same}
-use Rattle.is_pair.specs.declared.checklist.entries.Rank.{Rank}
+use Rattle.is_pair.proofs.Common.{◌==◌, filter_same, not, Rank, rules}
 use Rattle.is_pair.proofs.checklist.ranks.drop_number.Goals as goal
 
 pub returns-clause-items : goal.returns-clause-items

@@ -1,7 +1,4 @@
-use Rattle.std.proofs.Common.{rules, tests}
-use Rattle.std.proofs.lemmas.Iterator.{YieldsList-from_slice}
-use Rattle.std.proofs.lemmas.Iterator.Search.{find_from_yields_List}
-use Rattle.is_pair.specs.Entries.{has_passing}
+use Rattle.is_pair.proofs.Common.{find_from_yields_List, has_passing, rules, tests, YieldsList-from_slice}
 use Rattle.is_pair.proofs.checklist.ranks.first_passing.Goals as goal
 
 pub returns : goal.returns

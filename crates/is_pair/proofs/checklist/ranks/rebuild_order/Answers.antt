@@ -1,8 +1,5 @@
-use Rattle.std.proofs.Common.{rules, tests, ap, sym, ◌∙◌}
-use Rattle.std.proofs.lemmas.List.Sorted.{list_any-IsPermutation, IsNonDecreasingBy-from_sort_by_key}
-use Rattle.std.specs.List.{list_any}
-use Rattle.is_pair.specs.declared.checklist.entries.Rank.{Rank}
-use Rattle.is_pair.specs.Entries.{are_single}
+use Rattle.is_pair.proofs.Common.{◌∙◌, ap, are_single, IsNonDecreasingBy-from_sort_by_key, list_any, list_any-IsPermutation, Rank, rules}
+use Rattle.is_pair.proofs.Common.{sym, tests}
 use Rattle.is_pair.proofs.PriorityOrder.SingleEntries.{single-now, single-permuted}
 use Rattle.is_pair.proofs.PriorityOrder.OrderedPairs.{ordered-from}
 use Rattle.is_pair.proofs.checklist.ranks.rebuild_order.Goals as goal

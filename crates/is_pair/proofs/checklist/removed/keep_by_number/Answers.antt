@@ -1,7 +1,5 @@
-use Rattle.std.proofs.Common.{rules, ◌≡◌, ◌+◌, ◌≤◌, ◌∷◌, [], ap, length, filter, take, sym, ◌∙◌, arith}
-use Rattle.std.proofs.lemmas.List.{length-append}
-use Rattle.is_pair.specs.Pairs.{PairRecord}
-use Rattle.is_pair.proofs.RemovedPairs.{after-more, after-none, few-taken, filter-more, filter-other}
+use Rattle.is_pair.proofs.Common.{[], ◌∷◌, ◌≤◌, arith, filter, length, length-append, rules, take}
+use Rattle.is_pair.proofs.RemovedPairs.{after-more, few-taken, filter-more, filter-other}
 use Rattle.is_pair.proofs.checklist.removed.keep_by_number.Goals as goal
 use Rattle.is_pair.proofs.checklist.removed.keep_by_number.Goals.{then-passes, else-passes}
 

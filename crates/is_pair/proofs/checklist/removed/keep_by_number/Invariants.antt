@@ -1,6 +1,4 @@
-use Rattle.std.proofs.Common.{◌≡◌, ◌+◌, ◌≤◌, filter, length, take}
-use Rattle.std.specs.VecDeque.{deque_len, deque_capacity}
-use Rattle.is_pair.specs.Removed.{REMOVED_LIMIT, removed_passing}
+use Rattle.is_pair.proofs.Common.{◌+◌, ◌≡◌, ◌≤◌, deque_capacity, deque_len, filter, length, REMOVED_LIMIT, removed_passing, take}
 use Rattle.is_pair.proofs.checklist.removed.keep_by_number.Given as goal
 
 abbrev pub invariant-loop-pair : goal.invariant-loop-pair

@@ -1,9 +1,5 @@
-use Rattle.std.proofs.Common.{◌≡◌, ◌∷◌, ◌++◌, [], List, ap, filter, length, sym, ◌∙◌, rules, arith}
-use Rattle.std.specs.Option.{option_to_list}
-use Rattle.is_pair.specs.declared.checklist.removed.RemovedPair.{RemovedPair}
-use Rattle.is_pair.specs.Pairs.{PairRecord}
-use Rattle.is_pair.specs.Multiset.{is_numbered, pair_numbered}
-use Rattle.is_pair.specs.Removed.{kept_as, last_removed, removed_after}
+use Rattle.is_pair.proofs.Common.{[], ◌++◌, ◌∙◌, ◌∷◌, ◌≡◌, ap, arith, filter, is_numbered, last_removed, length, List, option_to_list}
+use Rattle.is_pair.proofs.Common.{pair_numbered, PairRecord, removed_after, RemovedPair, rules, sym}
 use Rattle.is_pair.proofs.RemovedPairs.{after-none, few-pass, filter-one}
 use Rattle.is_pair.proofs.checklist.removed.keep_numbered.Goals as goal
 

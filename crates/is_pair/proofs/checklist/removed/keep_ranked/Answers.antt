@@ -1,11 +1,5 @@
-use Rattle.std.proofs.Common.{rules, ◌≡◌, ◌+◌, ◌≤◌, ◌++◌, ◌∷◌, [], List, ap, length, filter, take, drop, get_or, refl, sym, ◌∙◌, arith}
-use Rattle.std.proofs.lemmas.List.{length-append, take_more}
-use Rattle.std.proofs.lemmas.List.Elements.{filter-append, filter_map-append}
-use Rattle.std.specs.Option.{option_to_list}
-use Rattle.is_pair.specs.declared.checklist.entries.Rank.{Rank}
-use Rattle.is_pair.specs.Pairs.{PairRecord}
-use Rattle.is_pair.specs.Multiset.{pair_numbered}
-use Rattle.is_pair.specs.Lowest.{pairs_of}
+use Rattle.is_pair.proofs.Common.{◌∙◌, arith, filter, get_or, length-append, option_to_list, pair_numbered, pairs_of, Rank, refl, rules}
+use Rattle.is_pair.proofs.Common.{take}
 use Rattle.is_pair.proofs.RemovedPairs.{after-some, few-so-far, pairs-more}
 use Rattle.is_pair.proofs.checklist.removed.keep_ranked.Goals as goal
 

@@ -1,7 +1,4 @@
-use Rattle.std.proofs.Common.{◌≡◌, ◌+◌, ◌≤◌, filter, length, take}
-use Rattle.std.specs.VecDeque.{deque_len, deque_capacity}
-use Rattle.is_pair.specs.Lowest.{pairs_of}
-use Rattle.is_pair.specs.Removed.{REMOVED_LIMIT, removed_passing}
+use Rattle.is_pair.proofs.Common.{◌+◌, ◌≡◌, ◌≤◌, deque_capacity, deque_len, filter, length, pairs_of, REMOVED_LIMIT, removed_passing, take}
 use Rattle.is_pair.proofs.checklist.removed.keep_ranked.Given as goal
 
 abbrev pub invariant-loop-rank : goal.invariant-loop-rank

@@ -1,6 +1,4 @@
-use Rattle.std.proofs.Common.{is_some, sym, ◌∙◌, ap}
-use Rattle.is_pair.specs.Checks.{has_id, is_kept}
-use Rattle.is_pair.specs.Pairs.{PairRecord}
+use Rattle.is_pair.proofs.Common.{◌∙◌, ap, has_id, is_kept, is_some, PairRecord, sym}
 use Rattle.is_pair.proofs.StoredChecks.LastChecks.{is_some-find, is_some-option_copied}
 use Rattle.is_pair.proofs.pair.CandidatePair.binding_attempt.Goals as goal
 

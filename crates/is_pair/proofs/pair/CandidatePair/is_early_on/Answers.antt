@@ -1,5 +1,4 @@
-use Rattle.std.proofs.Common.{sym, ◌∙◌}
-use Rattle.is_pair.specs.Due.{EARLY_TIME, early_span}
+use Rattle.is_pair.proofs.Common.{◌∙◌, early_span, EARLY_TIME, sym}
 use Rattle.is_pair.proofs.DueTimes.EarlyTime.{past-early, span-within}
 use Rattle.is_pair.proofs.pair.CandidatePair.is_early_on.Goals as goal
 

@@ -1,5 +1,4 @@
-use Rattle.std.proofs.Common.{ap}
-use Rattle.is_pair.specs.Pairs.{PairRecord}
+use Rattle.is_pair.proofs.Common.{ap, PairRecord}
 use Rattle.is_pair.proofs.StoredChecks.LastChecks.{found_at, found_where_kept}
 use Rattle.is_pair.proofs.pair.CandidatePair.record_binding_response.Goals as goal
 

@@ -1,5 +1,4 @@
-use Rattle.std.proofs.Common.{ap, ◌∙◌, rules, arith}
-use Rattle.is_pair.specs.Checks.{last_checks}
+use Rattle.is_pair.proofs.Common.{◌∙◌, ap, arith, last_checks, rules}
 use Rattle.is_pair.proofs.StoredChecks.LastChecks.{last_checks-drop}
 use Rattle.is_pair.proofs.pair.attempts.keep_last.Goals as goal
 

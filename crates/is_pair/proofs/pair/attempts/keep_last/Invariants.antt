@@ -1,6 +1,4 @@
-use Rattle.std.proofs.Common.{◌≡◌}
-use Rattle.std.specs.VecDeque.{deque_len, deque_capacity}
-use Rattle.is_pair.specs.Checks.{last_checks}
+use Rattle.is_pair.proofs.Common.{◌≡◌, deque_capacity, deque_len, last_checks}
 use Rattle.is_pair.proofs.pair.attempts.keep_last.Given as goal
 
 abbrev pub invariant-loop-attempts : goal.invariant-loop-attempts

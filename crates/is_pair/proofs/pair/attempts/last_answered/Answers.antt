@@ -1,6 +1,4 @@
-use Rattle.std.proofs.Common.{rules, tests}
-use Rattle.std.proofs.lemmas.Iterator.Search.{find_from_yields_List}
-use Rattle.is_pair.specs.Checks.{is_answered}
+use Rattle.is_pair.proofs.Common.{find_from_yields_List, is_answered, rules, tests}
 use Rattle.is_pair.proofs.StoredChecks.QueueFromBack.{YieldsList-from_rev_deque}
 use Rattle.is_pair.proofs.pair.attempts.last_answered.Goals as goal
 

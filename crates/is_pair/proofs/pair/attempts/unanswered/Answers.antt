@@ -1,7 +1,4 @@
-use Rattle.std.proofs.Common.{rules, tests, reverse}
-use Rattle.std.proofs.lemmas.Iterator.Search.{position_from_yields_List}
-use Rattle.std.proofs.lemmas.Iterator.Adapters.{position_from-zero}
-use Rattle.is_pair.specs.Checks.{is_answered}
+use Rattle.is_pair.proofs.Common.{is_answered, position_from-zero, position_from_yields_List, reverse, rules, tests}
 use Rattle.is_pair.proofs.StoredChecks.QueueFromBack.{YieldsList-from_rev_deque}
 use Rattle.is_pair.proofs.pair.attempts.unanswered.Goals as goal
 

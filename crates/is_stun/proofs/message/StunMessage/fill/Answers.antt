@@ -1,5 +1,4 @@
-use Rattle.std.proofs.Common.{refl, ◌∙◌, ap, sym}
-use Rattle.is_stun.specs.Reading.{demand_fault}
+use Rattle.is_stun.proofs.Common.{◌∙◌, ap, demand_fault, refl, sym}
 use Rattle.is_stun.proofs.MessageReading.MalformedMessages.{fault_of-form}
 use Rattle.is_stun.proofs.message.StunMessage.fill.Goals as goal
 

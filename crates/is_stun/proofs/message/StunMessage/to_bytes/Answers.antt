@@ -1,6 +1,4 @@
-use Rattle.std.proofs.Common.{refl, length}
-use Rattle.std.specs.Option.{option_copied}
-use Rattle.is_stun.specs.MessageView.{message_view}
+use Rattle.is_stun.proofs.Common.{length, message_view, option_copied, refl}
 use Rattle.is_stun.proofs.WrittenMessages.MessagesByParts.{rejection_at_once}
 use Rattle.is_stun.proofs.message.StunMessage.to_bytes.Goals as goal
 

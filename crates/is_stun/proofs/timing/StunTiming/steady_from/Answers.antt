@@ -1,5 +1,4 @@
-use Rattle.std.proofs.Common.{◌≡◌, ◌+◌, ◌-◌, ◌^◌, ap, arith}
-use Rattle.std.proofs.lemmas.Nat.{leading_length}
+use Rattle.is_stun.proofs.Common.{◌+◌, ◌-◌, ◌^◌, ◌≡◌, ap, arith, leading_length}
 use Rattle.is_stun.proofs.timing.StunTiming.steady_from.Goals as goal
 use lib.Count.{count_leading_zeros}
 

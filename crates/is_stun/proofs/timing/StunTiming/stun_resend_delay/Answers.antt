@@ -1,5 +1,4 @@
-use Rattle.std.proofs.Common.{◌≡◌, ◌*◌, ◌^◌, arith}
-use Rattle.is_stun.specs.Timing.{resend_delay}
+use Rattle.is_stun.proofs.Common.{◌*◌, ◌^◌, ◌≡◌, arith, resend_delay}
 use Rattle.is_stun.proofs.BitsOfNumbers.RetransmissionDelays.{millis_fit, resend_delay-pos, resend_delay-bounded, resend_delay-rising}
 use Rattle.is_stun.proofs.timing.StunTiming.stun_resend_delay.Goals as goal
 

@@ -1,6 +1,4 @@
-use Rattle.std.proofs.Common.{◌≡◌, ◌+◌, ◌-◌, sum_by, ap, arith}
-use Rattle.std.specs.List.{range_with_len}
-use Rattle.is_stun.specs.Timing.{resend_delay}
+use Rattle.is_stun.proofs.Common.{◌+◌, ◌-◌, ◌≡◌, ap, arith, range_with_len, resend_delay, sum_by}
 use Rattle.is_stun.proofs.BitsOfNumbers.RetransmissionDelays.{timeout_by_parts, sum_by-range_more}
 use Rattle.is_stun.proofs.timing.StunTiming.timeout.Goals as goal
 

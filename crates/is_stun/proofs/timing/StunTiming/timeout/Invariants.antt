@@ -1,7 +1,4 @@
-use Rattle.std.proofs.Common.{◌≡◌, ◌+◌, ◌-◌, ◌≤◌, min, max, sum_by}
-use Rattle.std.specs.List.{range_with_len}
-use Rattle.is_proto.specs.Times.{MAX}
-use Rattle.is_stun.specs.Timing.{resend_delay}
+use Rattle.is_stun.proofs.Common.{◌+◌, ◌-◌, ◌≡◌, ◌≤◌, MAX, max, min, range_with_len, resend_delay, sum_by}
 use Rattle.is_stun.proofs.timing.StunTiming.timeout.Given as goal
 
 -- the delays so far

@@ -1,5 +1,4 @@
-use Rattle.std.proofs.Common.{ℕ, ◌-◌, length, take, drop, List, ap, arith}
-use Rattle.std.proofs.lemmas.List.{take_rest}
+use Rattle.is_stun.proofs.Common.{◌-◌, ap, arith, drop, length, List, take, take_rest, ℕ}
 use Rattle.is_stun.proofs.MessageReading.AttributeSequence.{tlvs_short, next_tlv}
 use Rattle.is_stun.proofs.tlv.TlvsIterator.next.Goals as goal
 

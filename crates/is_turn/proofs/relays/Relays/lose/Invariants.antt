@@ -1,5 +1,4 @@
-use Rattle.std.proofs.Common.{◌≡◌, length}
-use Rattle.is_turn.specs.AllRelays.{ChangesFirst, LosesAt}
+use Rattle.is_turn.proofs.Common.{◌≡◌, ChangesFirst, length, LosesAt}
 use Rattle.is_turn.proofs.relays.Relays.lose.Given as goal
 
 -- the clients before this place are changed

@@ -1,5 +1,4 @@
-use Rattle.std.proofs.Common.{◌≡◌, length}
-use Rattle.is_turn.specs.AllRelays.{ChangesFirst, RequestsPermission}
+use Rattle.is_turn.proofs.Common.{◌≡◌, ChangesFirst, length, RequestsPermission}
 use Rattle.is_turn.proofs.relays.Relays.permit_each.Given as goal
 
 -- the clients before this place are changed

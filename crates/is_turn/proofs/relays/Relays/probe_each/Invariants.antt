@@ -1,6 +1,5 @@
-use Rattle.std.proofs.Common.{◌≡◌, length}
 use Rattle.is_turn.specs.OneRelay.{Probes}
-use Rattle.is_turn.specs.AllRelays.{ChangesFirst}
+use Rattle.is_turn.proofs.Common.{◌≡◌, ChangesFirst, length}
 use Rattle.is_turn.proofs.relays.Relays.probe_each.Given as goal
 
 -- the clients before this place are changed

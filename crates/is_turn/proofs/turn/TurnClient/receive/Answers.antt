@@ -1,9 +1,5 @@
-use Rattle.std.proofs.Common.{rules, ◌≡◌, position, refl, sym, ap, ◌∙◌}
-use Rattle.is_stun.specs.MessageView.{message_view}
-use Rattle.is_turn.specs.Incoming.{datagram_of, response, incoming_view}
-use Rattle.is_turn.specs.Leases.{is_answered_by}
-use Rattle.is_turn.specs.Receipts.{received_view}
-use Rattle.is_turn.specs.Turn.{known}
+use Rattle.is_turn.proofs.Common.{◌∙◌, ◌≡◌, ap, datagram_of, incoming_view, is_answered_by, known, message_view, position, received_view}
+use Rattle.is_turn.proofs.Common.{refl, response, rules, sym}
 use Rattle.is_turn.proofs.RequestedData.{asked_responded}
 use Rattle.is_turn.proofs.Receiving.{responded_answers, responded_genuine, responded_pin}
 use Rattle.is_turn.proofs.turn.TurnClient.receive.Goals as goal

@@ -68,7 +68,7 @@ module _ {M : Type 1} {𝓤 : Ura M} (𝓛 : Logic 𝓤) (at_mem : Memory → SP
       let Post = (walk_of 𝓛 F.ended stayed (F.clauses 𝓛 at_mem run)).post z in
       let a = z.0.3.0 in let p : Ptr = z.0.3.1.0 in
       let To = ServersHandle.the_row in
-      let made : To.Denot = record { ptr = p; alloc = a; home = None } in
+      let made : To.Denot = record { ptr = p; alloc = a; held = None } in
       qed 𝓛 ((‵ ftrue ⊛ ‵ (owns (Heap.the_row ∷ RawPtr ∷ []) (a, (p, tt)) (z.0.4.0, (z.0.4.1.0, tt)))) ∷ raw (emp 𝓤) ∷ []) ∵ split ! $ drop ! $ fsplit ! $
       handle_tells E.al ! a z.0.4.0 (λ hv ea fa. move ! (1 ∷ []) $ fsplit ! $ feq_l ! (λ ev. drop ! $ move ! (1 ∷ []) $ drop ! $
       let w : Val = word_of p hv in

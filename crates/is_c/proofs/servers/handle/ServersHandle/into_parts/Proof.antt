@@ -3,7 +3,7 @@ use mathlib.Core.Path.{refl, sym, subst}
 use Rattle.std.specs.Prelude.{Option, Some, None, ◌≢◌}
 use Rattle.std.specs.Global.{Global}
 use denote.RawPtr.{Ptr}
-use Rattle.is_c.specs.contracts.servers.home.ServersHome as ServersHome
+use Rattle.is_c.specs.contracts.servers.held.HeldServers as HeldServers
 use mathlib.Core.List.{List, [], ◌∷◌, ◌++◌}
 use seplogic.Ra.Ura.{Ura}
 use mir.Val.{Val}
@@ -40,11 +40,11 @@ stayed = (stay_dropped From yes, tt)
 module _ {M : Type 1} {𝓤 : Ura M} (𝓛 : Logic 𝓤) (at_mem : Memory → SProp 𝓤) (run : Routine → Fun 𝓤) (𝓣 : Tables 𝓤 𝓛.H) where
   open 𝓛 use {H}
 
-  abbrev bound : Ptr → Global → Option ServersHome.the_row.Denot → List Val → (walk_of 𝓛 F.ended stayed (F.clauses 𝓛 at_mem run)).Ghost
-  bound p alloc home vs = ((tt, tt, tt, (record { ptr = p; alloc = alloc; home = home }, tt), (vs, tt)), tt)
+  abbrev bound : Ptr → Global → Option HeldServers.the_row.Denot → List Val → (walk_of 𝓛 F.ended stayed (F.clauses 𝓛 at_mem run)).Ghost
+  bound p alloc held vs = ((tt, tt, tt, (record { ptr = p; alloc = alloc; held = held }, tt), (vs, tt)), tt)
 
-  walk : (p : Ptr) (alloc : Global) (home : Option ServersHome.the_row.Denot) (vs : List Val)
-      → ent 𝓤 ((walk_of 𝓛 F.ended stayed (F.clauses 𝓛 at_mem run)).pre (bound p alloc home vs)) (WpFn 𝓤 H 𝓣.C 𝓣.Λ code.function (vs ++ []) ((walk_of 𝓛 F.ended stayed (F.clauses 𝓛 at_mem run)).post (bound p alloc home vs)))
+  walk : (p : Ptr) (alloc : Global) (held : Option HeldServers.the_row.Denot) (vs : List Val)
+      → ent 𝓤 ((walk_of 𝓛 F.ended stayed (F.clauses 𝓛 at_mem run)).pre (bound p alloc held vs)) (WpFn 𝓤 H 𝓣.C 𝓣.Λ code.function (vs ++ []) ((walk_of 𝓛 F.ended stayed (F.clauses 𝓛 at_mem run)).post (bound p alloc held vs)))
   walk p alloc None vs =
       let z = bound p alloc None vs in
       qed 𝓛 ((‵ ftrue ⊛ ‵ (fsep ((type_at From tt).own_val z.0.3.0 vs) ftrue)) ∷ raw (fact 𝓤 (None ≢ None)) ∷ []) ∵ move ! (1 ∷ []) $ heard ! (None ≢ None) (λ e. absurd (e refl))
@@ -71,4 +71,4 @@ into_parts_spec 𝓤 𝓛 𝓜 𝓡 wired =
     let 𝓣 : Tables 𝓤 𝓛.H = tables_of 𝓤 𝓛.H 𝓜 (tables 𝓤 𝓛.H 𝓜 𝓡 𝓡.env) in
     entered 𝓤 𝓛.H (triple_of 𝓛 F.signature (F.spec 𝓛 𝓜.mem 𝓡.returns)) 𝓣.C 𝓣.Λ #self code.function (code.unfolded 𝓤 𝓛.H 𝓜 𝓡 wired)
     (walk_Meets 𝓛 F.ended stayed (Goes-dropped 𝓛 0 From yes (λ κs x f. refl), tt) (F.clauses 𝓛 𝓜.mem 𝓡.returns) (WpFn 𝓤 𝓛.H 𝓣.C 𝓣.Λ code.function) (WpFn-mono 𝓤 𝓛.H 𝓛.laws 𝓣 code.function)
-    (λ z. walk 𝓛 𝓜.mem 𝓡.returns 𝓣 z.0.3.0.ptr z.0.3.0.alloc z.0.3.0.home z.0.4.0))
+    (λ z. walk 𝓛 𝓜.mem 𝓡.returns 𝓣 z.0.3.0.ptr z.0.3.0.alloc z.0.3.0.held z.0.4.0))

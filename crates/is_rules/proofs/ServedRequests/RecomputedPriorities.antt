@@ -1,18 +1,9 @@
 -- The pair with two indices and the place of a sender stay the same if priorities are computed again.
-use Rattle.std.proofs.Common.{◌≡◌, ℕ, ◌&&◌, Bool, true, false, not, List, [], ◌∷◌, length, Option, Some, None, map, filter, cond, inl, inr, refl, ap, ◌∙◌}
-use Rattle.std.specs.Prelude.{MatchBool}
-use Rattle.std.specs.List.{list_any}
-use Rattle.is_proto.specs.Lists.{Has, NonePass}
-use Rattle.is_pair.specs.Pairs.{PairRecord}
-use Rattle.is_candidate.specs.Candidates.{CandidateRecord, candidate_at}
 use Rattle.is_candidate.specs.Equality.{is_temporary}
-use Rattle.is_rules.specs.declared.places.RemotePlace.{RemotePlace}
-use Rattle.is_rules.specs.declared.places.RemotePlace.TheVariants.{Known, Barred, Unknown, Vacant, Full}
-use Rattle.is_rules.specs.Request.{RequestRecord}
-use Rattle.is_rules.specs.Limit.{has_room, is_on, is_vacant, NoneVacantBelow, IsVacancy, Settles, IsPlaceOf}
-use Rattle.is_rules.specs.Forming.{SidesRecord}
-use Rattle.is_pair.specs.Multiset.{is_between, IsPairBetween}
-use Rattle.is_rules.specs.Roles.{with_priority_in}
+use Rattle.is_rules.proofs.Common.{[], ◌&&◌, ◌∙◌, ◌∷◌, ◌≡◌, ap, Barred, Bool, candidate_at, CandidateRecord, cond, false, filter, Full, Has}
+use Rattle.is_rules.proofs.Common.{has_room, inl, inr, is_between, is_on, is_vacant, IsPairBetween, IsPlaceOf, IsVacancy, Known, length}
+use Rattle.is_rules.proofs.Common.{List, list_any, map, MatchBool, None, NonePass, NoneVacantBelow, not, Option, PairRecord, refl}
+use Rattle.is_rules.proofs.Common.{RemotePlace, RequestRecord, IsPlaceAtLimit, SidesRecord, Some, true, Unknown, Vacant, with_priority_in, ℕ}
 
 has-mapped : {X Y : Type 0} (f : X → Y) (xs : List X) (x : X) → Has xs x → Has (map f xs) (f x)
 has-mapped f [] x h = absurd h
@@ -54,7 +45,7 @@ vacancy-reprioritized s remote pairs Barred h = h
 vacancy-reprioritized s remote pairs Unknown h = h
 
 settles-reprioritized : (s : SidesRecord) (limit : Option ℕ) (remote : List CandidateRecord) (pairs : List PairRecord) (found place : RemotePlace)
-    → Settles limit remote pairs found place → Settles limit remote (map (with_priority_in s) pairs) found place
+    → IsPlaceAtLimit limit remote pairs found place → IsPlaceAtLimit limit remote (map (with_priority_in s) pairs) found place
 settles-reprioritized s limit remote pairs Unknown place h = by (has_room limit remote) h where
   by : (b : Bool) → MatchBool b (place ≡ Unknown) (IsVacancy remote pairs place) → MatchBool b (place ≡ Unknown) (IsVacancy remote (map (with_priority_in s) pairs) place)
   by true same = same

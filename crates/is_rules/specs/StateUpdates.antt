@@ -12,9 +12,9 @@ use Rattle.is_rules.specs.Nominating.{pair_selected, Nominates}
 use Rattle.is_rules.specs.States.{same_state, next_state, has_nominated, has_possible, with_state, evaluated}
 
 module _ {H P : Type 0} where
-  -- The agent has the rule, and its session has begun.
-  abbrev pub settles : AgentRecord H P → Bool
-  settles a = is_modern a.timing && not (same_state a.state New)
+  -- The profile is `Modern`, and the session has begun.
+  abbrev pub updates_late : AgentRecord H P → Bool
+  updates_late a = is_modern a.timing && not (same_state a.state New)
 
   -- the state as it follows from the pairs at this time
   abbrev pub state_at : ℕ → AgentRecord H P → IceConnectionState
@@ -22,17 +22,17 @@ module _ {H P : Type 0} where
 
   -- when a `handle_timeout` call starts: with `Modern` only New changes, to Checking
   abbrev pub state_at_start : ℕ → AgentRecord H P → IceConnectionState
-  state_at_start now a = if settles a then a.state else state_at now a
+  state_at_start now a = if updates_late a then a.state else state_at now a
 
   abbrev pub started : ℕ → AgentRecord H P → AgentRecord H P
   started now a = with_state (state_at_start now a) a
 
   -- after nomination: with `Modern` it is evaluated if `changes` is true
-  abbrev pub state_settled : Bool → ℕ → AgentRecord H P → IceConnectionState
-  state_settled changes now a = if changes && settles a then state_at now a else a.state
+  abbrev pub updated_state : Bool → ℕ → AgentRecord H P → IceConnectionState
+  updated_state changes now a = if changes && updates_late a then state_at now a else a.state
 
-  abbrev pub settled : Bool → ℕ → AgentRecord H P → AgentRecord H P
-  settled changes now a = with_state (state_settled changes now a) a
+  abbrev pub state_updated : Bool → ℕ → AgentRecord H P → AgentRecord H P
+  state_updated changes now a = with_state (updated_state changes now a) a
 
   -- ---- calls that may remove the selected pair: a candidate is added or invalidated
 
@@ -40,18 +40,18 @@ module _ {H P : Type 0} where
   abbrev pub has_selected : AgentRecord H P → Bool
   has_selected a = is_some (pair_selected a.selected_pair a.pairs)
 
-  -- With `Modern`, it matters if it exists before the call, and not after it.
+  -- With `Modern`, in a session that has begun: the pair that was selected last exists before the call, and not after it.
   abbrev pub loses_selected : AgentRecord H P → AgentRecord H P → Bool
-  loses_selected old new = settles old && has_selected old && not (has_selected new)
+  loses_selected old new = updates_late old && has_selected old && not (has_selected new)
 
-  -- Then nomination is evaluated, and after it the state, as of the last `handle_timeout` call.
+  -- If the selected pair is lost, nomination is evaluated, and after it the state, as of the last `handle_timeout` call.
   abbrev pub Reselects : Bool → AgentRecord H P → Option Path → AgentRecord H P → Type 0
   Reselects loses old path new =
       MatchBool loses
       ((mid : AgentRecord H P) × Nominates old path mid × (new ≡ evaluated (unwrap_or old.last_time 0) mid))
       ((path ≡ None) × (new ≡ old))
 
-  -- what the call does, and then that
+  -- what the call does, and then a new selection if it loses the selected pair
   abbrev pub ReselectsAfter : (AgentRecord H P → Type 0) → AgentRecord H P → Emitted → AgentRecord H P → Type 0
   ReselectsAfter Does old emitted new =
       (path : Option Path) × (mid : AgentRecord H P) × Does mid × Reselects (loses_selected old mid) mid path new × (emitted ≡ selected_only path)

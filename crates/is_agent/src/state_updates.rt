@@ -8,7 +8,7 @@ ghost use Rattle.is_rules.specs.Emitted.{nothing_emitted, selected_only};
 ghost use Rattle.is_rules.specs.Nominating.{Nominates};
 ghost use Rattle.is_rules.specs.States.{evaluated};
 ghost use Rattle.is_rules.specs.declared.emitted.Path.{Path};
-ghost use Rattle.is_rules.specs.Settling.{settles, started, settled, has_selected, Reselects};
+ghost use Rattle.is_rules.specs.StateUpdates.{updates_late, started, state_updated, has_selected, Reselects};
 
 use crate::agent::Agent;
 use crate::room::reserve_events;
@@ -21,8 +21,8 @@ use std::alloc::AllocError;
 
 impl<H: Sha1HmacProvider + Drop, P: LocalPreference> Agent<H, P> {
     /// The profile is `Modern`, and the session has begun.
-    fn settles(&self) -> bool
-        ensures { result ≡ settles (record_of self.now) }
+    fn updates_late(&self) -> bool
+        ensures { result ≡ updates_late (record_of self.now) }
     {
         self.timing.is_modern() && !same_state(self.state, IceConnectionState::New)
     }
@@ -35,20 +35,20 @@ impl<H: Sha1HmacProvider + Drop, P: LocalPreference> Agent<H, P> {
         ensures discovery { UsesDiscoveryRoom 1 self.old self.new }
         ensures checks { (t : ℕ) → HasCheckRoomAt t self.old → HasCheckRoomAt t self.new }
     {
-        if !self.settles() {
+        if !self.updates_late() {
             self.evaluate_state(now);
         }
     }
 
     /// The state after nomination: with `Modern` it is evaluated, if nomination may have changed it.
-    pub(crate) fn settle_state(&mut self, changes: bool, now: Instant)
+    pub(crate) fn update_state(&mut self, changes: bool, now: Instant)
         requires room { HasEventRoom 1 self.old }
-        ensures settled { record_of self.new ≡ settled changes now.0 (record_of self.old) }
+        ensures updated { record_of self.new ≡ state_updated changes now.0 (record_of self.old) }
         ensures packets { HasPacketRoom self.old → HasPacketRoom self.new }
         ensures discovery { UsesDiscoveryRoom 1 self.old self.new }
         ensures checks { (t : ℕ) → HasCheckRoomAt t self.old → HasCheckRoomAt t self.new }
     {
-        if changes && self.settles() {
+        if changes && self.updates_late() {
             self.evaluate_state(now);
         }
     }
@@ -59,16 +59,16 @@ impl<H: Sha1HmacProvider + Drop, P: LocalPreference> Agent<H, P> {
 impl<H: Sha1HmacProvider + Drop, P: LocalPreference> Agent<H, P> {
     /// The pair that was selected last exists, and with `Modern` another one is selected if it is removed.
     pub(crate) fn keeps_selected(&self) -> bool
-        ensures { result ≡ (settles (record_of self.now) && has_selected (record_of self.now)) }
+        ensures { result ≡ (updates_late (record_of self.now) && has_selected (record_of self.now)) }
     {
-        self.settles() && self.has_selected()
+        self.updates_late() && self.has_selected()
     }
 
-    /// Reserves capacity for what that emits.
+    /// Reserves capacity for the two events of a new selection, if another pair is selected once the selected one is removed.
     pub(crate) fn reserve_selection_room(&mut self) -> Result<(), AllocError>
         ensures record { record_of self.new ≡ record_of self.old }
         ensures room { OnOk result (HasSelectionRoom (record_of self.old) self.new) }
-        ensures candidate { HasCandidateRoom self.old → HasCandidateRoom self.new }
+        ensures candidate { (n : ℕ) → HasCandidateRoom n self.old → HasCandidateRoom n self.new }
     {
         if self.keeps_selected() {
             reserve_events(&mut self.events, self.kept_room, 2)?;
@@ -88,7 +88,7 @@ impl<H: Sha1HmacProvider + Drop, P: LocalPreference> Agent<H, P> {
 
     /// Evaluates nomination and then the state, as of the last `handle_timeout` call.
     #[inline(never)]
-    fn select_again(&mut self)
+    pub(crate) fn select_again(&mut self)
         requires room { HasEventRoom 2 self.old }
         ensures { (path : Option Path) × (mid : AgentRecord H P) × Nominates (record_of self.old) path mid
             × (record_of self.new ≡ evaluated (unwrap_or (record_of self.old).last_time 0) mid) × (emitted_of self.new ≡ selected_only path) }
@@ -100,7 +100,7 @@ impl<H: Sha1HmacProvider + Drop, P: LocalPreference> Agent<H, P> {
     }
 
     /// The selected pair was kept before the call, and is gone.
-    fn is_lost(&self, kept: bool) -> bool
+    pub(crate) fn is_lost(&self, kept: bool) -> bool
         ensures { result ≡ (kept && not (has_selected (record_of self.now))) }
     {
         kept && !self.has_selected()

@@ -5,7 +5,7 @@ use is_servers::Servers;
 
 /// The clients of servers. They sign with HMAC-SHA1.
 #[derive(Drop)]
-pub struct ServersHome {
+pub struct HeldServers {
     pub(crate) servers: Servers<DefaultSha1HmacProvider>,
 }
 
@@ -13,6 +13,6 @@ pub struct ServersHome {
 fn may_move<T: Send>() {}
 
 /// What a slot owns may move to another thread. So C may use clients on any thread, one call at a time.
-fn homes_may_move() {
-    may_move::<Box<ServersHome>>()
+fn held_agents_may_move() {
+    may_move::<Box<HeldServers>>()
 }

@@ -1,10 +1,10 @@
-use Rattle.std.proofs.Common.{◌+◌, ◌≤◌, arith}
+use Rattle.std.proofs.Common.{◌+◌, ◌≤◌, arith, length, ap}
 use Rattle.is_pair.specs.Checklists.{multiset_of}
 use Rattle.is_rules.proofs.PairLists.PairsInLists.{longer}
 use Rattle.is_agent.proofs.AgentParts.PairsInLists.{as-long, one-longer}
 use Rattle.is_agent.specs.Live.{live_count}
 use Rattle.is_agent.proofs.AgentParts.LiveCandidates.{live-appended, live-set}
-use Rattle.is_agent.proofs.agent.Agent.add_unknown_sender.Goals as goal
+use Rattle.is_agent.proofs.agent.Agent.add_sender.Goals as goal
 
 pub invariant_of-self-clause-placed : goal.invariant_of-self-clause-placed
 invariant_of-self-clause-placed g c =
@@ -22,9 +22,6 @@ invariant_of-self-in-Vacant-Some-clause-placed g c =
 pub invariant_of-self-in-Vacant-Some-clause-numbered : goal.invariant_of-self-in-Vacant-Some-clause-numbered
 invariant_of-self-in-Vacant-Some-clause-numbered g c = rw (c.forget_removed.ensures.multiset) c.args.self.now.numbered
 
-pub find_or_add_pair-requires-in-Vacant-Some-clause-pairs : goal.find_or_add_pair-requires-in-Vacant-Some-clause-pairs
-find_or_add_pair-requires-in-Vacant-Some-clause-pairs g c = c.forget_removed.ensures.room 1 c.requires.room.1
-
 pub invariant_of-self-clause-room_suffices : goal.invariant_of-self-clause-room_suffices
 invariant_of-self-clause-room_suffices g c =
     let self = c.args.self.now in
@@ -35,4 +32,24 @@ pub invariant_of-self-in-Vacant-Some-clause-room_suffices : goal.invariant_of-se
 invariant_of-self-in-Vacant-Some-clause-room_suffices g c =
     let self = c.args.self.now in let r = c.in-Vacant-Some.r in let sender = c.in-Vacant-Some.sender in
     let more : live_count c.put.new.list.items ≤ live_count self.remote.items + 1 = rw (c.put.ensures) (live-set self.remote.items r sender) in
-    omega (arith, more, c.requires.room.3)
+    omega (arith, more, ap length c.forget_removed.ensures.multiset, c.requires.room.3)
+
+pub returns-in-Known-default-clause-pairs : goal.returns-in-Known-default-clause-pairs
+returns-in-Known-default-clause-pairs g c = (c.requires.room.1, omega (arith, c.requires.room.3))
+
+pub returns-in_default-clause-pairs : goal.returns-in_default-clause-pairs
+returns-in_default-clause-pairs g c = (c.requires.room.1, omega (arith, c.requires.room.3))
+
+pub returns-in-Unknown-Some-clause-pairs : goal.returns-in-Unknown-Some-clause-pairs
+returns-in-Unknown-Some-clause-pairs g c =
+    let self = c.args.self.now in
+    let more : live_count c.push_reserved.new.self.items ≤ live_count self.remote.items + 1 = rw (c.push_reserved.ensures.items) (live-appended self.remote.items c.in-Unknown-Some.sender) in
+    (c.requires.room.1, omega (arith, more, c.requires.room.3))
+
+pub returns-in-Vacant-Some-clause-pairs : goal.returns-in-Vacant-Some-clause-pairs
+returns-in-Vacant-Some-clause-pairs g c =
+    let self = c.args.self.now in let r = c.in-Vacant-Some.r in let sender = c.in-Vacant-Some.sender in
+    let more : live_count c.put.new.list.items ≤ live_count self.remote.items + 1 = rw (c.put.ensures) (live-set self.remote.items r sender) in (
+      c.forget_removed.ensures.room 1 c.requires.room.1,
+      omega (arith, more, ap length c.forget_removed.ensures.multiset, c.requires.room.3),
+    )

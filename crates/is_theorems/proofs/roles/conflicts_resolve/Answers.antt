@@ -1,5 +1,5 @@
 use Rattle.is_theorems.proofs.CheckExchanges.RoleConflicts.{carried-settle, conflicts-settle}
-use Rattle.is_theorems.proofs.roles.conflicts_settle.Goals as goal
+use Rattle.is_theorems.proofs.roles.conflicts_resolve.Goals as goal
 
 pub returns-clause-same : goal.returns-clause-same
 returns-clause-same g c =

@@ -1,0 +1,3 @@
+-- Requests that are served.
+pub mod RecomputedPriorities
+pub mod RulesInTurn
