@@ -63,7 +63,7 @@ class Endpoint:
         self._pending: set[tuple[SocketAddress, SocketAddress, bool]] = set()
         self._unsignaled: list[str] = []
         self._timeout: int | None = None
-        self._peers: set[str] = set()
+        self._peers: dict[str, None] = {}  # in order, so that a session repeats
         self._trickle = True
         self._configure()
 
@@ -221,7 +221,7 @@ class Endpoint:
 
     def _let_in(self, peer: SocketAddress) -> None:
         if peer.ip not in self._peers:
-            self._peers.add(peer.ip)
+            self._peers[peer.ip] = None
             for relay in self.relays:
                 self._permit(relay, peer.ip)
 

@@ -10,7 +10,7 @@ from dataclasses import dataclass, field
 
 from is_ice.stun import StunMessage
 
-from .clauses import along, bounded, deliveries, new_agents, settings_set, uses
+from .clauses import along, bounded, deliveries, frugal, new_agents, settings_set, uses
 from .clauses.found import Found, Records, other
 from .clauses.seen import CLEARING
 from .clock import SECOND
@@ -252,7 +252,7 @@ ONE: dict[str, Callable[[Record], Found]] = {
     "PathsAreAnswered": along.paths_are_answered, "PathsAreNominatedByPeer": along.paths_are_nominated_by_peer,
     "PathsAreFirstChoice": along.paths_are_first_choice, "EachQueuesOne": bounded.each_queues_one,
     "ConnectedAreAlive": connected_are_alive, "ConnectedHavePath": along.connected_have_path, "StaysBounded": bounded.stays_bounded,
-    "ResponsesConnect": deliveries.responses_connect}
+    "ResponsesConnect": deliveries.responses_connect, "FrugalSecondsHaveFewChecks": frugal.frugal_seconds_have_few_checks}
 LOGGED: dict[str, Callable[[Log], Found]] = {"SessionsAreRuns": uses.sessions_are_runs}
 TWO: dict[str, Callable[[Records], Found]] = {
     "GreaterKeepsRole": greater_keeps_role, "LesserSwitchesOnce": lesser_switches_once, "RolesStayOpposite": roles_stay_opposite,

@@ -13,7 +13,7 @@ from .pairs import Pair, Place
 
 # How many kinds of pairs there are.
 COUNT = 9
-# The kind of pairs whose packets do not reach the outside.
+# The kind of all inner pairs.
 INNER_KIND = 8
 # Peer-reflexive candidates come first, since the peer sent a packet from there. Host candidates come last.
 RANKS = {"prflx": 0, "srflx": 1, "relay": 2, "host": 3}
@@ -36,22 +36,32 @@ def counted_kind(candidate: Place) -> str:
     return "srflx" if candidate.kind == "host" and is_public(candidate.address.ip) else candidate.kind
 
 
-def reaches_out(local: Sequence[Place], base: SocketAddress) -> bool:
-    """Whether packets from this base reach the outside: a live candidate that counts as server-reflexive has it, or none has a base of its
-    IP version."""
-    bases = {c.base for c in local if counted_kind(c) == "srflx" and not c.is_discarded}
-    return base in bases or all(other.version != base.version for other in bases)
+def reflexive_bases(local: Sequence[Place]) -> set[SocketAddress]:
+    """Returns the bases of live candidates that count as server-reflexive: packets from these reach the outside."""
+    return {c.base for c in local if counted_kind(c) == "srflx" and not c.is_discarded}
 
 
-def is_outer(local: Sequence[Place], candidate: Place) -> bool:
-    """Whether packets of the local candidate reach the outside: from its base, or from a relay."""
-    return candidate.kind == "relay" or reaches_out(local, candidate.base)
+@lru_cache(maxsize=1 << 14)
+def network_of(ip: str) -> tuple[int, int]:
+    """Returns the IP version and the network of an address, as most are numbered: a subnet of 24 bits of IPv4, or a site of 48 bits of IPv6
+    (RFC 4193, section 3.1)."""
+    address = ip_address(ip)
+    return address.version, int(address) >> (128 - 48 if address.version == 6 else 32 - 24)
+
+
+def is_inner(local: Sequence[Place], own: Place, other: Place) -> bool:
+    """Whether packets of the local candidate stay inside: it is not relayed, and bases of its IP version reach the outside, but not its
+    own. As long as none of them is known to reach it, the pairs whose addresses are of one network count so."""
+    bases = reflexive_bases(local)
+    if own.kind == "relay" or own.base in bases:
+        return False
+    return any(base.version == own.base.version for base in bases) or network_of(own.base.ip) == network_of(other.address.ip)
 
 
 def kind_between(local: Sequence[Place], own: Place, other: Place) -> int:
-    """Returns the kind of a pair of two candidates: the kind that the remote one counts as, and the IP version. All pairs whose packets
-    do not reach the outside are of one kind."""
-    return 2 * RANKS[counted_kind(other)] + (1 if other.address.version == 4 else 0) if is_outer(local, own) else INNER_KIND
+    """Returns the kind of a pair of two candidates: the kind that the remote one counts as, and the IP version. All inner pairs are of one
+    kind."""
+    return INNER_KIND if is_inner(local, own, other) else 2 * RANKS[counted_kind(other)] + (1 if other.address.version == 4 else 0)
 
 
 def kind_of(local: Sequence[Place], remote: Sequence[Place], pair: Pair) -> int:

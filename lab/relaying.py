@@ -145,7 +145,7 @@ class RelayedEndpoint(Endpoint):
         self._signal_candidates()
 
     def _let_in(self, peer: SocketAddress) -> None:
-        self._peers.add(peer.ip)
+        self._peers[peer.ip] = None
         self.servers.permit(self._clock.now, peer)
 
     # ---- the loop

@@ -162,7 +162,7 @@ class Story:
     def evict(self, side: str, time: float = 0) -> None:
         """The side limits its pairs to one, and adds a remote candidate whose pair may remove the present one."""
         self.limit(side, 1, time)
-        self.remote(side, LINE.format(126 << 24 | 65535 << 8 | 255, "10.9.9.9", 9, "host"), time)
+        self.remote(side, LINE.format(126 << 24 | 65535 << 8 | 255, "10.0.0.9", 9, "host"), time)
 
     def remote(self, side: str, line: str, time: float = 0) -> None:
         """The side gets a remote candidate."""

@@ -3,10 +3,12 @@
 import unittest
 from collections.abc import Callable
 from dataclasses import replace
+from itertools import pairwise
 from typing import Any
 
-from is_ice import Candidate, IceAgent, Profile, SocketAddress
+from is_ice import Candidate, IceAgent, Profile, Settings, SocketAddress
 from lab import headline, scenario
+from lab.clauses import frugal
 from lab.clauses.found import Found, Records
 from lab.clauses.seen import CLEARING
 from lab.clock import MILLISECOND, SECOND, Clock
@@ -135,6 +137,39 @@ class Faults(AlteredSessions):
             altered = Stray(stray.path, stray.contents, is_ok, is_changed)
             witness = replace(self.controlled.witness, strays=[altered])
             self.assert_fault(headline.unaccepted_change_nothing(replace(self.controlled, witness=witness)))
+
+    def test_frugal_seconds_have_few_checks(self) -> None:
+        def calls(checks: int, apart: int, is_frugal: bool = True) -> list[frugal.Timed]:
+            return [frugal.Timed(apart * n, checks, is_frugal) for n in range(8)]
+
+        for apart in (142 * MILLISECOND, SECOND // 7):  # eight calls in the first second, and in it seven
+            self.assert_holds(frugal.have_few_checks(calls(6, apart)))
+        self.assert_fault(frugal.have_few_checks(calls(7, 142 * MILLISECOND)))
+        self.assert_holds(frugal.have_few_checks(calls(7, SECOND // 7 + 1)))
+        self.assertEqual(frugal.have_few_checks(calls(7, 142 * MILLISECOND, False)).held, 1)  # the second in which no other one comes
+
+    def test_which_calls_are_frugal(self) -> None:
+        def held(record: Record) -> int:
+            found = frugal.frugal_seconds_have_few_checks(record)
+            self.assertEqual(found.faults, [])
+            return found.held
+
+        self.assertTrue(all(call.is_frugal for call in frugal.timed(self.controlled)[1:]))
+        self.assertEqual(held(self.controlled), len(frugal.timed(self.controlled)))
+        unasked = without(self.controlled, lambda e: e.call == "poll_timeout")  # then those are frugal that come 25 ms after the last one
+        apart = [second.time - first.time for first, second in pairwise(frugal.timed(unasked))]
+        self.assertEqual([call.is_frugal for call in frugal.timed(unasked)[1:]], [time >= 25 * MILLISECOND for time in apart])
+        self.assertLess(held(unasked), held(self.controlled))
+
+    def test_a_program_that_changes_the_pace(self) -> None:
+        first = self.controlled.entries[0]
+        for call, given in (("set_timing_advance", 49 * MILLISECOND), ("set_settings", Settings.original()),
+                            ("set_settings", replace(Settings.modern(), timing_advance=49 * MILLISECOND))):
+            entries = [(-1, Entry(0, "b", call, (given,))), first, *self.controlled.entries[1:]]
+            self.assertEqual(frugal.frugal_seconds_have_few_checks(replace(self.controlled, entries=entries)).held, 0)
+        late = [(at, replace(e, given=(10**12, *e.given[1:])) if at == first[0] else e) for at, e in self.controlled.entries]
+        back = [(-1, Entry(0, "b", "handle_timeout", (10**15, b""))), *late]
+        self.assertEqual(frugal.frugal_seconds_have_few_checks(replace(self.controlled, entries=back)).held, 0)
 
     def test_connected_are_alive(self) -> None:
         late = max(at for at, is_connected in self.controlled.witness.connected.items() if is_connected)

@@ -5,20 +5,22 @@ from dataclasses import replace
 from itertools import product
 
 from is_ice import Candidate, IceAgent, IceConnectionState, IceCreds, Settings, SocketAddress, line_fields
-from lab import kinds
+from lab import scenario
 from lab.clauses.progress import are_as_many_as_due, are_open_enough, checks_for
 from lab.clauses.staying import combines_with, most_pairs, rank_count
 from lab.clock import MILLISECOND, Clock
-from lab.kinds import counted_kind, is_public, kind_between, kind_of, reaches_out, turn_of
+from lab.kinds import counted_kind, is_inner, is_public, kind_between, kind_of, network_of, turn_of
 from lab.log import Beginning, Log, LoggedAgent
 from lab.pairs import Place, Timing
 from lab.replay import replay
+from lab.session import Session
 from lab.states import CHECKING, COMPLETED, CONNECTED, DISCONNECTED, NEW, has_possible, next_state
 from lab.tests.stories import LINE, MODERN, ORIGINAL, TO_B, A, B, Story
 
 V6, OUTSIDE, MAPPED = SocketAddress("fd00::1", 1), SocketAddress("203.0.113.2", 9), SocketAddress("203.0.113.1", 9)
 OWN, THEIRS, OWN_V6 = SocketAddress("192.0.2.1", 9), SocketAddress("192.0.2.2", 9), SocketAddress("2001:db8::1", 1)  # public hosts
 SECOND_A, SECOND_B = A._replace(port=A.port + 1), B._replace(port=B.port + 1)
+FAR, FAR_V6 = SocketAddress("172.16.0.1", 9), SocketAddress("fd00:0:1::1", 1)  # of other networks than A, B and V6
 # The first and the last address of each range of IPv4 that is not public (RFC 1918, RFC 6598, loopback, link-local).
 INNER = ("10.0.0.0", "10.255.255.255", "172.16.0.0", "172.31.255.255", "192.168.0.0", "192.168.255.255",
          "100.64.0.0", "100.127.255.255", "127.0.0.0", "127.255.255.255", "169.254.0.0", "169.254.255.255")
@@ -40,20 +42,20 @@ def place(kind: str, address: SocketAddress, base: SocketAddress | None = None) 
 
 class Numbers(unittest.TestCase):
     def test_the_remote_kind_and_the_ip_version(self) -> None:
-        numbers = {kind: kind_between((), place("host", A), place(kind, B)) for kind in ("prflx", "srflx", "relay", "host")}
+        numbers = {kind: kind_between((), place("host", A), place(kind, FAR)) for kind in ("prflx", "srflx", "relay", "host")}
         self.assertEqual(numbers, {"prflx": 1, "srflx": 3, "relay": 5, "host": 7})
-        self.assertEqual([kind_between((), place("host", V6), place(kind, V6)) for kind in numbers], [0, 2, 4, 6])
+        self.assertEqual([kind_between((), place("host", V6), place(kind, FAR_V6)) for kind in numbers], [0, 2, 4, 6])
 
-    def test_inner_bases_come_last(self) -> None:
+    def test_inner_pairs_are_of_one_kind(self) -> None:
         local = (place("host", A), place("srflx", MAPPED, A), place("host", SECOND_A), place("relay", MAPPED), place("host", V6))
-        outer = [kinds.is_outer(local, candidate) for candidate in local]
-        self.assertEqual(outer, [True, True, False, True, True])  # no base of IPv6 has a candidate that counts as server-reflexive
-        self.assertEqual([kind_between(local, local[2], place(kind, B)) for kind in ("prflx", "host")], [8, 8])
+        inner = [is_inner(local, candidate, place("host", FAR)) for candidate in local]
+        self.assertEqual(inner, [False, False, True, False, False])  # no base of IPv6 has a candidate that counts as server-reflexive
+        self.assertEqual([kind_between(local, local[2], place(kind, FAR)) for kind in ("prflx", "host")], [8, 8])
 
     def test_a_discarded_candidate_does_not_count(self) -> None:
         for candidate in (place("srflx", MAPPED, A), place("host", OWN)):
             local = (place("host", A), replace(candidate, is_discarded=True), place("host", SECOND_A))
-            self.assertTrue(all(kinds.is_outer(local, candidate) for candidate in local))
+            self.assertFalse(any(is_inner(local, candidate, place("host", FAR)) for candidate in local))
 
     def test_the_round_of_the_kinds(self) -> None:
         self.assertEqual(sorted(range(9), key=lambda kind: turn_of(5, kind)), [*range(5, 9), *range(5)])
@@ -72,30 +74,31 @@ class Public(unittest.TestCase):
             self.assertEqual([counted_kind(place(kind, address)) for kind in ("host", "srflx", "prflx", "relay")],
                              [expected, "srflx", "prflx", "relay"])
 
-    def test_a_public_base_reaches_out_and_a_private_one_does_not(self) -> None:
+    def inner(self, *local: Place) -> list[bool]:
+        return [is_inner(local, c, place("host", FAR_V6 if c.base.version == 6 else FAR)) for c in local]
+
+    def test_packets_of_a_private_base_stay_inside_if_another_one_is_public(self) -> None:
         local = (place("host", A), place("host", OWN), place("host", SECOND_A))
-        self.assertEqual([reaches_out(local, c.base) for c in local], [False, True, False])
+        self.assertEqual(self.inner(*local), [True, False, True])
         self.assertEqual([kind_between(local, c, place("host", B)) for c in local], [8, 7, 8])
 
-    def test_so_does_a_private_one_with_a_server_reflexive_candidate(self) -> None:
+    def test_those_of_a_base_with_a_server_reflexive_candidate_do_not(self) -> None:
         local = (place("host", A), place("srflx", MAPPED, A), place("host", OWN), place("host", SECOND_A))
-        self.assertEqual([reaches_out(local, c.base) for c in local], [True, True, True, False])
+        self.assertEqual(self.inner(*local), [False, False, False, True])
 
-    def test_with_private_bases_only_all_reach_out(self) -> None:
-        local = tuple(place("host", SocketAddress(ip, 1)) for ip in INNER)
-        self.assertEqual([reaches_out(local, c.base) for c in local], [True] * 12)
+    def test_of_private_bases_alone_nothing_is_known(self) -> None:
+        private = [place("host", SocketAddress(ip, 1)) for ip in INNER if network_of(ip) != network_of(FAR.ip)]
+        self.assertEqual(self.inner(*private), [False] * 11)
 
-    def test_a_relay_reaches_out_from_a_private_base(self) -> None:
-        local = (place("host", OWN), place("relay", MAPPED), place("host", A))
-        self.assertEqual([kinds.is_outer(local, c) for c in local], [True, True, False])
+    def test_packets_of_a_relay_reach_the_outside(self) -> None:
+        self.assertEqual(self.inner(place("host", OWN), place("relay", MAPPED), place("host", A)), [False, False, True])
 
     def test_another_ip_version_is_not_concerned(self) -> None:
-        for own, expected in ((OWN, [False, True]), (OWN_V6, [True, False])):
-            local = (place("host", A), place("host", V6), place("host", own))
-            self.assertEqual([reaches_out(local, c.base) for c in local], [*expected, True])
+        for own, expected in ((OWN, [True, False]), (OWN_V6, [False, True])):
+            self.assertEqual(self.inner(place("host", A), place("host", V6), place("host", own)), [*expected, False])
 
     def test_a_remote_one_has_the_rank_of_a_server_reflexive_one(self) -> None:
-        for address, expected in ((THEIRS, 3), (B, 7), (OWN_V6, 2), (V6, 6)):
+        for address, expected in ((THEIRS, 3), (FAR, 7), (OWN_V6, 2), (V6, 6)):
             for other in (place("host", address), replace(place("host", address), is_discarded=True)):
                 self.assertEqual(kind_between((), place("host", A), other), expected)
         self.assertEqual([kind_between((), place("host", A), place(kind, THEIRS)) for kind in ("prflx", "srflx", "relay")], [1, 3, 5])
@@ -113,7 +116,33 @@ class Public(unittest.TestCase):
         note()
         story.invalidate("a", Candidate.host(OWN))
         note()
-        self.assertEqual(found, [[7], [8, 7], [7]])
+        self.assertEqual(found, [[8], [8, 7], [8]])  # at first and at last the addresses are of one network
+
+
+class Near(unittest.TestCase):
+    """As long as no base of an IP version is known to reach the outside, pairs whose addresses are of one network are inner ones."""
+
+    def test_which_addresses_are_near(self) -> None:
+        for ip, other, expected in (
+                ("10.0.0.0", "10.0.0.255", True), ("10.0.0.1", "10.0.1.1", False), ("10.0.0.1", "10.1.0.1", False),
+                ("10.0.0.1", "11.0.0.1", False),
+                ("fd00:1:2::", "fd00:1:2:ffff:ffff:ffff:ffff:ffff", True), ("fd00:1:2::1", "fd00:1:3::1", False),
+                ("fd00:1:2::1", "fd00:2:2::1", False), ("fd00:1:2::1", "fd01:1:2::1", False),
+                ("10.0.0.1", "::10.0.0.1", False), ("0.10.0.0", "0:0:a00::", False)):
+            with self.subTest(ip=ip, other=other):
+                self.assertEqual(network_of(ip) == network_of(other), expected)
+
+    def test_only_without_a_candidate_that_counts_as_server_reflexive(self) -> None:
+        near = place("host", B)
+        self.assertEqual(kind_between((place("host", A),), place("host", A), near), 8)
+        self.assertEqual(kind_between((place("host", A), place("srflx", MAPPED, A)), place("host", A), near), 7)
+        self.assertEqual(kind_between((place("host", A), place("host", OWN_V6)), place("host", A), near), 8)  # of another IP version
+        self.assertEqual(kind_between((place("relay", A),), place("relay", A), near), 7)
+
+    def test_by_the_base(self) -> None:
+        own = place("prflx", OUTSIDE, A)
+        self.assertEqual(kind_between((own,), own, place("host", B)), 8)
+        self.assertEqual(kind_between((own,), own, place("host", OUTSIDE._replace(port=7))), 3)
 
 
 class Library(unittest.TestCase):
@@ -148,13 +177,23 @@ class Library(unittest.TestCase):
         # link-local addresses of IPv4 are no candidates
         inner = [ip for ip in INNER if not ip.startswith("169.254.")]
         for first, second, other, addresses, is_outer in (
-                ("10.0.0.1", "10.0.0.2", "10.0.0.3", inner, False), ("10.0.0.1", "10.0.0.2", "10.0.0.3", OUTER, True),
-                ("fd00::1", "fd00::2", "fd00::3", INNER_V6, False), ("fd00::1", "fd00::2", "fd00::3", OUTER_V6, True)):
+                ("10.0.0.1", "10.0.0.2", "172.20.0.1", inner, False), ("10.0.0.1", "10.0.0.2", "172.20.0.1", OUTER, True),
+                ("fd00::1", "fd00::2", FAR_V6.ip, INNER_V6, False), ("fd00::1", "fd00::2", FAR_V6.ip, OUTER_V6, True)):
             for ip in addresses:
                 with self.subTest(ip=ip):
                     expected = ip if is_outer else second
                     self.assertEqual(self.checks([first, second, ip], [other]), [(first, other), (expected, other)])
                     self.assertEqual(self.checks([other], [first, second, ip]), [(other, first), (other, expected)])
+
+
+class Sessions(unittest.TestCase):
+    def test_one_of_a_hundred_pairs_is_found_soon(self) -> None:
+        """The pair of two public addresses, or of two within a network, has the least priority; packets take 20 ms."""
+        for name, seed in product(("many_interfaces", "private_interfaces"), range(3)):
+            with self.subTest(scenario=name, seed=seed):
+                first = Session(scenario.load(name), seed).run().first
+                assert first is not None
+                self.assertLess(first, 300 * MILLISECOND)
 
 
 class Turns(unittest.TestCase):
@@ -216,16 +255,16 @@ class Turns(unittest.TestCase):
         for n in range(4):
             story.timeout("a", 50 * n)
             seen.append((story.agents["a"].ahead_turn, story.agents["a"].next_kind))
-        self.assertEqual(seen, [(True, 0), (False, 4), (True, 4), (False, 8)])
+        self.assertEqual(seen, [(True, 0), (False, 4), (True, 4), (False, 9)])
 
     def test_no_turn_once_a_path_is_selected(self) -> None:
         story = self.story()
         story.exchange("a", 0)
         story.exchange("a", 50)  # the nomination, which goes ahead
-        self.assertEqual((story.agents["a"].state, story.agents["a"].next_kind), (CONNECTED, 8))
+        self.assertEqual((story.agents["a"].state, story.agents["a"].next_kind), (CONNECTED, 9))
         # Both are in order of due times and priorities: the second one is not of the next kind.
         self.assertEqual(self.checks(story, 2, 100), [(A, SECOND_B), (SECOND_A, B)])
-        self.assertEqual((story.agents["a"].ahead_turn, story.agents["a"].next_kind), (True, 8))
+        self.assertEqual((story.agents["a"].ahead_turn, story.agents["a"].next_kind), (True, 9))
 
     def test_a_restart_keeps_the_turn(self) -> None:
         story = self.story()

@@ -79,7 +79,7 @@ class Turns(unittest.TestCase):
     def test_the_pair_keeps_its_kind(self) -> None:
         story = self.story()
         order, second = self.order(story), story.moments["a"][2]
-        places = tuple(replace(c, kind="srflx") for c in story.network().x.state(second, "a").remote)
+        places = tuple(replace(c, address=c.address._replace(ip="172.16.0.1")) for c in story.network().x.state(second, "a").remote)
         x = story.altered(second, "a", remote=places).x
         self.assertEqual(self.lacking(x, self.choice(story, order[3], 4)), ["TakesTurns.keeps"])
 

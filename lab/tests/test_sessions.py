@@ -1,5 +1,8 @@
 """Tests that scenarios load, that sessions have the required outcomes and repeat, and that broken guarantees are detected."""
 
+import os
+import subprocess
+import sys
 import unittest
 from typing import Any
 
@@ -42,6 +45,14 @@ class Scenarios(unittest.TestCase):
         lossy = scenario.load("lossy_mobile")
         self.assertEqual(Session(lossy, 5).run(), Session(lossy, 5, Trace()).run())
         self.assertNotEqual(Session(lossy, 5).run().first, Session(lossy, 6).run().first)
+
+    def test_a_seed_repeats_in_another_process(self) -> None:
+        """Python hashes texts otherwise in each process, unless PYTHONHASHSEED is set."""
+        program = ("from lab import scenario; from lab.session import Session\n"
+                   "print([Session(scenario.load('symmetric_relay_far'), seed).run() for seed in range(4, 6)])")
+        printed = [subprocess.run([sys.executable, "-c", program], env={**os.environ, "PYTHONHASHSEED": str(n)}, capture_output=True,
+                                  text=True, check=True).stdout for n in range(4)]
+        self.assertEqual(set(printed), {printed[0]})
 
     def test_kinds_of_paths(self) -> None:
         for name, kind in (("same_lan", "host"), ("two_homes", "reflexive"), ("symmetric_both_relay", "relayed")):

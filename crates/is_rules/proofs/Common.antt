@@ -44,8 +44,8 @@ pub use Rattle.is_rules.specs.Forming.{local_combinations, pair_of, partners, re
 pub use Rattle.is_rules.specs.Forming.{with_pair}
 pub use Rattle.is_rules.specs.FormingView.{sides_view}
 pub use Rattle.is_rules.specs.Kept.{are_placed, is_placed, NoneTooHigh}
-pub use Rattle.is_rules.specs.Kinds.{counted_kind, INNER, is_reflexive, is_reflexive_like, is_reflexive_of, IsNextAhead, kind_of, kind_rank}
-pub use Rattle.is_rules.specs.Kinds.{KINDS, remote_rank, side_of, TurnsBefore}
+pub use Rattle.is_rules.specs.Kinds.{base_network, counted_kind, INNER, is_inner, is_reflexive, is_reflexive_like, is_reflexive_of, IsNextAhead, kind_of}
+pub use Rattle.is_rules.specs.Kinds.{kind_rank, KINDS, own_network, reach_of, remote_rank, TurnsBefore}
 pub use Rattle.is_rules.specs.Leaving.{gives_way, is_asked_along, is_silent_enough, IsAskedNext, may_replace, path_left, silent_gone}
 pub use Rattle.is_rules.specs.Limit.{has_room, is_on, is_vacant, IsPlaceOf, IsSenderPlace, IsVacancy, NoneVacantBelow, IsPlaceAtLimit}
 pub use Rattle.is_rules.specs.Nominating.{eligible_numbered, favored, first_after, first_numbered, followed, if_eligible, is_eligible}

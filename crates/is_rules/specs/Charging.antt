@@ -1,5 +1,5 @@
 -- How checks are charged, so that an agent with the profile `Modern` sends at most 49 in a second, whatever signaling names and whoever asks.
-use Rattle.std.specs.Prelude.{ℕ, ◌+◌, ◌*◌, ◌&&◌, ◌||◌, max, not, Bool, nat_le}
+use Rattle.std.specs.Prelude.{ℕ, ◌*◌, ◌&&◌, ◌||◌, max, not, Bool, nat_le}
 use Rattle.std.specs.List.{list_any}
 use Rattle.is_proto.specs.Times.{MILLISECOND, later}
 use Rattle.is_pair.specs.Due.{is_urgent_by}

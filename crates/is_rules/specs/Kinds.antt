@@ -1,8 +1,11 @@
 -- Which pair is checked ahead of those that are due earlier: the selected one, then urgent pairs, and else those of the next kind, since
 -- kinds of pairs take turns (RFC 8445, section 6.1.4.2; RFC 8421, section 4).
-use Rattle.std.specs.Prelude.{◌≡◌, ℕ, ◌+◌, ◌*◌, ◌==◌, ◌<◌, ◌&&◌, ◌||◌, ◌⊎◌, Bool, true, not, nat_le, List, Option, Some, None, if◌then◌else◌}
+use Rattle.std.specs.Prelude.{◌≡◌, ℕ, ◌+◌, ◌*◌, ◌==◌, ◌<◌, ◌&&◌, ◌||◌, ◌⊎◌, Bool, true, not, nat_le, List, slice_index, Option, Some, None, if◌then◌else◌}
 use Rattle.std.specs.List.{list_any}
+use Rattle.std.specs.Net.Addr.{ipv4_octets, ipv6_segments}
 use Rattle.std.specs.Net.Socket.{socket_ip}
+use Rattle.std.specs.declared.net.ip_addr.IpAddr.{IpAddr}
+use Rattle.std.specs.declared.net.ip_addr.IpAddr.TheVariants as Ip
 use Rattle.std.specs.declared.net.socket_addr.SocketAddr.{SocketAddr}
 use Rattle.is_proto.specs.Lists.{Has, NonePass}
 use Rattle.is_candidate.specs.Addresses.{is_public, is_v4, same_address, same_version}
@@ -35,13 +38,36 @@ is_reflexive_of base c = is_reflexive c && same_address (base_of c) base
 abbrev pub is_reflexive_like : SocketAddr → CandidateRecord → Bool
 is_reflexive_like base c = is_reflexive c && same_version (base_of c) base
 
--- Packets from this base reach the outside: a candidate that counts as server-reflexive has it, or none has a base of its IP version.
-abbrev pub reaches_out : List CandidateRecord → SocketAddr → Bool
-reaches_out local base = list_any (is_reflexive_of base) local || not (list_any (is_reflexive_like base) local)
+-- What is known of packets from a candidate. They reach the outside: it is a relayed one, or a candidate that counts as server-reflexive has
+-- its base.
+abbrev pub OUTSIDE : ℕ
+OUTSIDE = 0
 
--- Packets of the candidate reach the outside: it is a relayed one, or packets from its base do.
-abbrev pub is_outer : List CandidateRecord → CandidateRecord → Bool
-is_outer local c = same_kind c.kind Relayed || reaches_out local (base_of c)
+-- They stay inside: such a candidate has a base of the IP version, and none has its base.
+abbrev pub INSIDE : ℕ
+INSIDE = 1
+
+-- Nothing is known: no such candidate has a base of the IP version.
+abbrev pub UNKNOWN : ℕ
+UNKNOWN = 2
+
+abbrev pub reach_of : List CandidateRecord → CandidateRecord → ℕ
+reach_of local c =
+    if same_kind c.kind Relayed || list_any (is_reflexive_of (base_of c)) local then OUTSIDE
+    else (if list_any (is_reflexive_like (base_of c)) local then INSIDE else UNKNOWN)
+
+-- The network of an address by its number, as most are numbered: a subnet of 24 bits of IPv4, or a site of 48 bits of IPv6 (RFC 4193,
+-- section 3.1). Those of IPv4 come after all of IPv6.
+abbrev pub network_of : IpAddr → ℕ
+network_of (Ip.V4 a) = 281474976710656 + 65536 * slice_index (ipv4_octets a) 0 + 256 * slice_index (ipv4_octets a) 1 + slice_index (ipv4_octets a) 2
+network_of (Ip.V6 a) = 4294967296 * slice_index (ipv6_segments a) 0 + 65536 * slice_index (ipv6_segments a) 1 + slice_index (ipv6_segments a) 2
+
+-- that of the base, and that of the address
+abbrev pub base_network : CandidateRecord → ℕ
+base_network c = network_of (socket_ip (base_of c))
+
+abbrev pub own_network : CandidateRecord → ℕ
+own_network c = network_of (socket_ip c.addr)
 
 -- Peer-reflexive candidates come first, since the peer sent a packet from there. Host candidates come last, since they have the
 -- greatest priorities.
@@ -54,20 +80,21 @@ kind_rank Host = 3
 abbrev pub version_rank : SocketAddr → ℕ
 version_rank addr = if is_v4 addr then 1 else 0
 
--- All pairs whose packets do not reach the outside are of one kind, so that they take few turns.
-abbrev pub INNER : ℕ
-INNER = 8
-
--- the local candidate's part: whether it is an outer one
-abbrev pub side_of : List CandidateRecord → CandidateRecord → ℕ
-side_of local l = if is_outer local l then 0 else INNER
-
 -- the remote candidate's part: the kind that it counts as, and the IP version
 abbrev pub remote_rank : CandidateRecord → ℕ
 remote_rank r = 2 * kind_rank (counted_kind r) + version_rank r.addr
 
+-- The pair is an inner one: packets of its local candidate stay inside; or, as long as nothing is known of them, its addresses are of one
+-- network.
+abbrev pub is_inner : ℕ → CandidateRecord → CandidateRecord → Bool
+is_inner reach l r = reach == INSIDE || (reach == UNKNOWN && base_network l == own_network r)
+
+-- All inner pairs are of one kind, so that they take few turns.
+abbrev pub INNER : ℕ
+INNER = 8
+
 abbrev pub kind_between : List CandidateRecord → CandidateRecord → CandidateRecord → ℕ
-kind_between local l r = if side_of local l == 0 then remote_rank r else INNER
+kind_between local l r = if is_inner (reach_of local l) l r then INNER else remote_rank r
 
 -- the kind of a pair, a number from 0 to 8
 abbrev pub kind_of : List CandidateRecord → List CandidateRecord → PairRecord → ℕ

@@ -1,32 +1,38 @@
 //! The kinds of many pairs: what a candidate contributes is decided once, and not for each pair.
 
-ghost use Rattle.std.specs.Prelude.{◌≡◌, ◌<◌, ◌≤◌, ℕ, true, false, length, slice_index};
+ghost use Rattle.std.specs.Prelude.{◌≡◌, ◌<◌, ◌≤◌, ℕ, true, false, [], length, slice_index};
 ghost use Rattle.std.specs.List.{list_any};
 ghost use Rattle.is_candidate.specs.Candidates.{CandidateRecord, candidate_at};
 ghost use Rattle.is_rules.specs.Kept.{is_placed};
-ghost use Rattle.is_rules.specs.Kinds.{is_reflexive, kind_of, remote_rank, side_of, KINDS};
+ghost use Rattle.is_rules.specs.Kinds.{base_network, is_inner, is_reflexive, kind_of, own_network, reach_of, remote_rank, KINDS};
 
-use crate::kinds::{INNER_KIND, is_reflexive, remote_rank, side_of};
+use crate::kinds::{
+    INNER_KIND, INSIDE, UNKNOWN, base_network, is_reflexive, own_network, reach_of, reach_without,
+    remote_rank,
+};
 use crate::places::candidate_at;
 use is_candidate::Candidate;
 use is_pair::pair::CandidatePair;
 
-/// The parts of the candidates in the kinds of their pairs, in tables: those of the first 64 local candidates, and of remote ones if these are
-/// no more than the pairs.
+/// The parts of the candidates in the kinds of their pairs, in tables: those of the first 128 local candidates, and of remote ones if these
+/// are no more than the pairs.
 #[derive(Drop)]
 pub(crate) struct KindTable<'a> {
     pub(crate) local: &'a [Candidate],
     pub(crate) remote: &'a [Candidate],
-    /// Packets of every local candidate reach the outside.
-    all_outer: bool,
-    sides: [u8; 64],
-    /// So many remote candidates have their ranks in the table, the first ones.
+    /// What is known of packets from each of the first local candidates.
+    reaches: [u8; 128],
+    /// The networks of their bases.
+    networks: [u64; 128],
+    /// So many remote candidates have their ranks in the table, the first ones, and the networks of their addresses.
     ranked: usize,
     ranks: [u8; 128],
-    ghost outer: { all_outer ≡ true → (c : CandidateRecord) → side_of local.now c ≡ 0 },
-    ghost right: { all_outer ≡ false → (place : ℕ) → place < 64 → place < length local.now → slice_index sides place ≡ side_of local.now (candidate_at local.now place) },
+    remote_networks: [u64; 128],
+    ghost right: { (place : ℕ) → place < 128 → place < length local.now → slice_index reaches place ≡ reach_of local.now (candidate_at local.now place) },
+    ghost near: { (place : ℕ) → place < 128 → place < length local.now → slice_index networks place ≡ base_network (candidate_at local.now place) },
     ghost few: { ranked ≤ 128 },
     ghost known: { (place : ℕ) → place < ranked → slice_index ranks place ≡ remote_rank (candidate_at remote.now place) },
+    ghost far: { (place : ℕ) → place < ranked → slice_index remote_networks place ≡ own_network (candidate_at remote.now place) },
 }
 
 /// A live candidate counts as server-reflexive.
@@ -36,29 +42,47 @@ fn has_any_reflexive(local: &[Candidate]) -> bool
     local.iter().any(|c| is_reflexive(c))
 }
 
-/// No live candidate counts as server-reflexive: then packets of each candidate reach the outside.
-fn are_all_outer(local: &[Candidate]) -> bool
-    ensures { result ≡ true → (c : CandidateRecord) → side_of local.now c ≡ 0 }
+/// No live candidate counts as server-reflexive: then what is known of packets from a candidate depends on no other.
+fn is_none_reflexive(local: &[Candidate]) -> bool
+    ensures { result ≡ true → (c : CandidateRecord) → reach_of local.now c ≡ reach_of [] c }
 {
     !has_any_reflexive(local)
 }
 
-/// The parts of the first 64 local candidates in the kinds of their pairs.
-fn sides_of(local: &[Candidate]) -> [u8; 64]
-    ensures { (place : ℕ) → place < 64 → place < length local.now → slice_index result place ≡ side_of local.now (candidate_at local.now place) }
+/// What is known of packets from a local candidate, if it is known whether any candidate counts as server-reflexive.
+#[inline(always)]
+fn known_reach(local: &[Candidate], none_reflexive: bool, candidate: &Candidate) -> u8
+    requires none { none_reflexive ≡ true → (c : CandidateRecord) → reach_of local.now c ≡ reach_of [] c }
+    ensures { result ≡ reach_of local.now candidate.now }
 {
-    let mut sides = [0; 64];
-    for place in 0..local.len().min(64) {
-        sides[place] = side_of(local, candidate_at(local, place));
+    if none_reflexive {
+        reach_without(candidate)
+    } else {
+        reach_of(local, candidate)
     }
-    sides
 }
 
-/// The parts of the first 64 local candidates in the kinds of their pairs, unless packets of all candidates reach the outside.
-fn sides_unless(all_outer: bool, local: &[Candidate]) -> [u8; 64]
-    ensures { all_outer ≡ false → (place : ℕ) → place < 64 → place < length local.now → slice_index result place ≡ side_of local.now (candidate_at local.now place) }
+/// What is known of packets from each of the first 128 local candidates.
+fn reaches_of(local: &[Candidate]) -> [u8; 128]
+    ensures { (place : ℕ) → place < 128 → place < length local.now → slice_index result place ≡ reach_of local.now (candidate_at local.now place) }
 {
-    if all_outer { [0; 64] } else { sides_of(local) }
+    let none_reflexive = is_none_reflexive(local);
+    let mut reaches = [0; 128];
+    for place in 0..local.len().min(128) {
+        reaches[place] = known_reach(local, none_reflexive, candidate_at(local, place));
+    }
+    reaches
+}
+
+/// The networks of the bases of the first 128 local candidates.
+fn networks_of(local: &[Candidate]) -> [u64; 128]
+    ensures { (place : ℕ) → place < 128 → place < length local.now → slice_index result place ≡ base_network (candidate_at local.now place) }
+{
+    let mut networks = [0; 128];
+    for place in 0..local.len().min(128) {
+        networks[place] = base_network(candidate_at(local, place));
+    }
+    networks
 }
 
 /// How many ranks are computed first: none if there are more remote candidates than pairs, since that would cost more than it saves.
@@ -86,6 +110,19 @@ fn ranks_of(remote: &[Candidate], many: usize) -> [u8; 128]
     ranks
 }
 
+/// The networks of the addresses of so many candidates.
+fn remote_networks_of(remote: &[Candidate], many: usize) -> [u64; 128]
+    requires few { many ≤ 128 }
+    requires there { many ≤ length remote.now }
+    ensures { (place : ℕ) → place < many → slice_index result place ≡ own_network (candidate_at remote.now place) }
+{
+    let mut networks = [0; 128];
+    for place in 0..many {
+        networks[place] = own_network(candidate_at(remote, place));
+    }
+    networks
+}
+
 impl<'a> KindTable<'a> {
     /// The table for a caller that needs the kinds of so many pairs, or of more.
     pub(crate) fn new(
@@ -96,31 +133,67 @@ impl<'a> KindTable<'a> {
         ensures local { result.local.now ≡ local.now }
         ensures remote { result.remote.now ≡ remote.now }
     {
-        let all_outer = are_all_outer(local);
         let ranked = ranked_first(remote, pairs);
         KindTable {
             local,
             remote,
-            all_outer,
-            sides: sides_unless(all_outer, local),
+            reaches: reaches_of(local),
+            networks: networks_of(local),
             ranked,
             ranks: ranks_of(remote, ranked),
+            remote_networks: remote_networks_of(remote, ranked),
         }
     }
 
-    /// The part of the local candidate at this place.
+    /// What is known of packets from the local candidate at this place.
     #[inline(always)]
-    fn side_at(&self, place: usize) -> u8
+    fn reach_at(&self, place: usize) -> u8
         requires { place < length self.now.local.now }
-        ensures { result ≡ side_of self.now.local.now (candidate_at self.now.local.now place) }
+        ensures { result ≡ reach_of self.now.local.now (candidate_at self.now.local.now place) }
     {
-        if self.all_outer {
-            0
-        } else if place < 64 {
-            self.sides[place]
+        if place < 128 {
+            self.reaches[place]
         } else {
-            side_of(self.local, candidate_at(self.local, place))
+            reach_of(self.local, candidate_at(self.local, place))
         }
+    }
+
+    /// The network of the base of the local candidate at this place.
+    #[inline(always)]
+    fn network_at(&self, place: usize) -> u64
+        requires { place < length self.now.local.now }
+        ensures { result ≡ base_network (candidate_at self.now.local.now place) }
+    {
+        if place < 128 {
+            self.networks[place]
+        } else {
+            base_network(candidate_at(self.local, place))
+        }
+    }
+
+    /// The network of the address of the remote candidate at this place.
+    #[inline(always)]
+    fn remote_network_at(&self, place: usize) -> u64
+        requires { place < length self.now.remote.now }
+        ensures { result ≡ own_network (candidate_at self.now.remote.now place) }
+    {
+        if place < self.ranked {
+            self.remote_networks[place]
+        } else {
+            own_network(candidate_at(self.remote, place))
+        }
+    }
+
+    /// The pair is an inner one.
+    #[inline(always)]
+    fn is_inner(&self, pair: &CandidatePair) -> bool
+        requires placed { is_placed self.now.local.now self.now.remote.now pair.now ≡ true }
+        ensures { result ≡ is_inner (reach_of self.now.local.now (candidate_at self.now.local.now pair.now.local)) (candidate_at self.now.local.now pair.now.local) (candidate_at self.now.remote.now pair.now.remote) }
+    {
+        let reach = self.reach_at(pair.local_idx());
+        reach == INSIDE
+            || (reach == UNKNOWN
+                && self.network_at(pair.local_idx()) == self.remote_network_at(pair.remote_idx()))
     }
 
     /// The rank of the remote candidate at this place.
@@ -151,10 +224,10 @@ impl<'a> KindTable<'a> {
         ensures kind { result ≡ kind_of self.now.local.now self.now.remote.now pair.now }
         ensures within { result < KINDS }
     {
-        if self.side_at(pair.local_idx()) == 0 {
-            self.rank_at(pair.remote_idx())
-        } else {
+        if self.is_inner(pair) {
             INNER_KIND
+        } else {
+            self.rank_at(pair.remote_idx())
         }
     }
 }

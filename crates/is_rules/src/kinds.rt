@@ -1,15 +1,15 @@
 //! The pairs that go ahead of those that are due earlier: the selected pair, urgent pairs, and kinds of pairs, which take turns; the
 //! agent's part: `is_agent::next_check`.
 
-ghost use Rattle.std.specs.Prelude.{◌≡◌, ◌<◌, ◌≤◌, ◌*◌, ◌&&◌, true, false, List, ◌∷◌, length, IfSome};
+ghost use Rattle.std.specs.Prelude.{◌≡◌, ◌<◌, ◌≤◌, ◌*◌, ◌&&◌, true, false, List, [], ◌∷◌, length, IfSome, if◌then◌else◌};
 ghost use Rattle.std.specs.List.{list_any};
 ghost use Rattle.std.specs.Option.{option_copied};
 ghost use Rattle.is_pair.specs.Pairs.{PairRecord};
 ghost use Rattle.is_pair.specs.Due.{is_due};
 ghost use Rattle.is_pair.specs.Checklists.{multiset_of};
 ghost use Rattle.is_rules.specs.Kept.{is_placed, are_placed};
-ghost use Rattle.is_rules.specs.Kinds.{counted_kind, is_reflexive, is_reflexive_of, is_reflexive_like, reaches_out, is_outer, kind_rank, version_rank};
-ghost use Rattle.is_rules.specs.Kinds.{is_brought, kind_of, remote_rank, side_of, turn_of, turn_of_pair, goes_first, is_first_due, KINDS, TurnsBefore, IsNextAhead};
+ghost use Rattle.is_rules.specs.Kinds.{counted_kind, is_reflexive, is_reflexive_of, is_reflexive_like, reach_of, network_of, base_network, own_network, is_inner, kind_rank, version_rank};
+ghost use Rattle.is_rules.specs.Kinds.{OUTSIDE, INSIDE, UNKNOWN, is_brought, kind_of, remote_rank, turn_of, turn_of_pair, goes_first, is_first_due, KINDS, TurnsBefore, IsNextAhead};
 
 use crate::kind_table::KindTable;
 use crate::nomination::is_named_by;
@@ -23,7 +23,7 @@ use is_pair::pair::{CandidatePair, CheckState};
 use is_pair::{due_time_of, is_urgent};
 use is_proto::Instant;
 use is_stun::stun::StunTiming;
-use std::net::SocketAddr;
+use std::net::{IpAddr, SocketAddr};
 
 // ---- the kind of a pair
 
@@ -75,18 +75,89 @@ fn has_reflexive_like(local: &[Candidate], address: SocketAddr) -> bool
     local.iter().any(|c| is_reflexive_like(address, c))
 }
 
-/// Packets from this base reach the outside: a candidate that counts as server-reflexive has it, or none has a base of its IP version.
-fn reaches_out(local: &[Candidate], address: SocketAddr) -> bool
-    ensures { result ≡ reaches_out local.now address }
+/// What is known of packets from a candidate: they reach the outside.
+const OUTSIDE: u8 = 0;
+
+/// They stay inside.
+pub(crate) const INSIDE: u8 = 1;
+
+/// Nothing is known.
+pub(crate) const UNKNOWN: u8 = 2;
+
+/// What is known of packets from a base, by candidates that count as server-reflexive.
+fn reach_of_base(local: &[Candidate], address: SocketAddr) -> u8
+    ensures { result ≡ (if list_any (is_reflexive_of address) local.now then OUTSIDE else (if list_any (is_reflexive_like address) local.now then INSIDE else UNKNOWN)) }
 {
-    has_reflexive(local, address) || !has_reflexive_like(local, address)
+    if has_reflexive(local, address) {
+        OUTSIDE
+    } else if has_reflexive_like(local, address) {
+        INSIDE
+    } else {
+        UNKNOWN
+    }
 }
 
-/// Packets of the local candidate reach the outside.
-fn is_outer(local: &[Candidate], candidate: &Candidate) -> bool
-    ensures { result ≡ is_outer local.now candidate.now }
+/// What is known of packets from a local candidate. Those of a relayed one reach the outside.
+pub(crate) fn reach_of(local: &[Candidate], candidate: &Candidate) -> u8
+    ensures { result ≡ reach_of local.now candidate.now }
 {
-    same_kind(candidate.kind(), CandidateKind::Relayed) || reaches_out(local, base(candidate))
+    if same_kind(candidate.kind(), CandidateKind::Relayed) {
+        OUTSIDE
+    } else {
+        reach_of_base(local, base(candidate))
+    }
+}
+
+/// What is known of packets from a candidate if no candidate counts as server-reflexive.
+#[inline(always)]
+pub(crate) fn reach_without(candidate: &Candidate) -> u8
+    ensures { result ≡ reach_of [] candidate.now }
+{
+    if same_kind(candidate.kind(), CandidateKind::Relayed) {
+        OUTSIDE
+    } else {
+        UNKNOWN
+    }
+}
+
+/// The network of an address by its number, as most are numbered: a subnet of 24 bits of IPv4, or a site of 48 bits of IPv6 (RFC 4193,
+/// section 3.1). Those of IPv4 come after all of IPv6.
+fn network_of(ip: IpAddr) -> u64
+    ensures { result ≡ network_of ip }
+{
+    match ip {
+        IpAddr::V4(ip) => {
+            let octets = ip.octets();
+            281474976710656 + 65536 * octets[0] as u64 + 256 * octets[1] as u64 + octets[2] as u64
+        }
+        IpAddr::V6(ip) => {
+            let segments = ip.segments();
+            4294967296 * segments[0] as u64 + 65536 * segments[1] as u64 + segments[2] as u64
+        }
+    }
+}
+
+/// The network of a candidate's base.
+pub(crate) fn base_network(candidate: &Candidate) -> u64
+    ensures { result ≡ base_network candidate.now }
+{
+    network_of(base(candidate).ip())
+}
+
+/// The network of a candidate's address.
+pub(crate) fn own_network(candidate: &Candidate) -> u64
+    ensures { result ≡ own_network candidate.now }
+{
+    network_of(candidate.addr().ip())
+}
+
+/// The pair is an inner one: packets of its local candidate stay inside; or, as long as nothing is known of them, its addresses are of one
+/// network.
+#[inline(always)]
+fn is_inner(reach: u8, ours: &Candidate, theirs: &Candidate) -> bool
+    ensures { result ≡ is_inner reach ours.now theirs.now }
+{
+    reach == INSIDE || (reach == UNKNOWN && base_network(ours) == own_network(theirs))
 }
 
 /// The place of the kind that a remote candidate counts as in a round. Peer-reflexive candidates come first, since the peer sent a packet from
@@ -113,16 +184,8 @@ fn version_rank(address: SocketAddr) -> u8
     if address.is_ipv4() { 1 } else { 0 }
 }
 
-/// The kind of all pairs whose packets do not reach the outside.
+/// The kind of all inner pairs.
 pub(crate) const INNER_KIND: u8 = 8;
-
-/// The local candidate's part of a kind: whether its packets reach the outside.
-pub(crate) fn side_of(local: &[Candidate], ours: &Candidate) -> u8
-    ensures side { result ≡ side_of local.now ours.now }
-    ensures within { result ≤ 8 }
-{
-    if is_outer(local, ours) { 0 } else { INNER_KIND }
-}
 
 /// The remote candidate's part of a kind: the kind that it counts as, and the IP version.
 #[inline(always)]
@@ -141,10 +204,10 @@ pub fn kind_of(local: &[Candidate], remote: &[Candidate], pair: &CandidatePair) 
 {
     let ours = candidate_at(local, pair.local_idx());
     let theirs = candidate_at(remote, pair.remote_idx());
-    if side_of(local, ours) == 0 {
-        remote_rank(theirs)
-    } else {
+    if is_inner(reach_of(local, ours), ours, theirs) {
         INNER_KIND
+    } else {
+        remote_rank(theirs)
     }
 }
 

@@ -120,8 +120,8 @@ pub use Rattle.is_rules.specs.Forming.{Combination, combined_priority, EvictsFor
 pub use Rattle.is_rules.specs.Forming.{is_redundant, live_combinations, live_places, local_combinations, pair_of, priority_between}
 pub use Rattle.is_rules.specs.Forming.{remote_combinations, sides_of, SidesRecord, Tries, with_pair}
 pub use Rattle.is_rules.specs.Issuing.{IsIssued, IsQueued, key_for, QueuesPackets, Says, via_out, Waits, WaitsPast, WaitsWith}
-pub use Rattle.is_rules.specs.Kinds.{counted_kind, goes_first, INNER, is_brought, is_first_due, IsNextAhead, kind_between, kind_of}
-pub use Rattle.is_rules.specs.Kinds.{kind_rank, KINDS, remote_rank, side_of, turn_of, TurnsBefore, version_rank}
+pub use Rattle.is_rules.specs.Kinds.{counted_kind, goes_first, INNER, is_brought, is_first_due, is_inner, IsNextAhead, kind_between, kind_of}
+pub use Rattle.is_rules.specs.Kinds.{kind_rank, KINDS, reach_of, remote_rank, turn_of, TurnsBefore, version_rank}
 pub use Rattle.is_rules.specs.Leaving.{gives_way, has_urgent, hastened, is_asked_along, is_silent_enough, IsAskedAlong, IsAskedNext}
 pub use Rattle.is_rules.specs.Leaving.{late_since, may_replace, path_left, silent_gone}
 pub use Rattle.is_rules.specs.Limit.{discovered_count, has_local_room, has_room, HasPlaceFor, is_below, is_mapped, is_on, is_vacant}

@@ -150,8 +150,8 @@ const FIRST: At = At(2, 2000);
 
 const SECOND: At = At(3, 2000);
 
-/// A server-reflexive candidate of the peer, at 10.0.0.60:6000, of less priority than the others.
-const REFLEXIVE: &str = "candidate:1 1 udp 100 10.0.0.60 6000 typ srflx";
+/// A server-reflexive candidate of the peer, of less priority than the others.
+const REFLEXIVE: &str = "candidate:1 1 udp 100 198.51.100.2 6000 typ srflx";
 
 const URGENT: [Story; 5] = [
     Story(
@@ -230,7 +230,7 @@ const URGENT: [Story; 5] = [
             Takes(Served(5, At(6, 2000))),
             Does(CheckTo(10, At(6, 2000), false)),
             Does(CheckTo(20, SECOND, false)),
-            Does(CheckTo(30, At(60, 6000), false)),
+            Does(CheckOn(30, "10.0.0.1:1000", "198.51.100.2:6000")),
             Does(CheckTo(40, At(4, 2000), false)),
             Does(CheckTo(50, At(5, 2000), false)),
         ],

@@ -27,6 +27,11 @@ const PRIVATE: &str = "candidate:1 1 udp 100 172.16.0.1 1000 typ host";
 
 const INNER: &str = "172.16.0.1:1000";
 
+/// One in the subnet of the peer's candidates.
+const NEAR: &str = "candidate:1 1 udp 100 10.0.0.202 1000 typ host";
+
+const NEIGHBOR: &str = "10.0.0.202:1000";
+
 /// A relayed candidate.
 const RELAYED: &str = "candidate:2 1 udp 50 10.0.0.201 1000 typ relay";
 
@@ -43,8 +48,8 @@ const FOURTH: &str = "10.0.0.5:2000";
 
 // ---- of the agent: packets from its base reach the outside
 
-const LOCAL: [Story; 5] = [
-    // The kinds are 7, of the public base, and 15, of the other one. The checks at 50, 150 and 250 ms go ahead: kind 7, then 15, then 7.
+const LOCAL: [Story; 6] = [
+    // The kinds are 7, of the public base, and 8, of the other one. The checks at 50, 150 and 250 ms go ahead: kind 7, then 8, then 7.
     Story(
         "pairs_of_a_public_base_come_before_the_others",
         &[
@@ -73,21 +78,37 @@ const LOCAL: [Story; 5] = [
             Does(CheckOn(150, OUTER, FIRST)),
         ],
     ),
-    // all pairs are of kind 7
+    // nothing is known of the bases, and all pairs are within one subnet: of kind 8
     Story(
         "of_private_bases_none_comes_first",
+        &[
+            Begin(Unpaired),
+            Set(Setting::Profile(Profile::Modern)),
+            Does(Own(NEAR)),
+            Does(Peers(3)),
+            Does(CheckOn(0, HOST, FIRST)),
+            Does(CheckOn(50, HOST, SECOND)),
+            Does(CheckOn(100, HOST, THIRD)),
+            Does(CheckOn(150, NEIGHBOR, FIRST)),
+        ],
+    ),
+    // those between two subnets are of kind 7, and their turns are those of the pairs of a public base
+    Story(
+        "pairs_within_a_subnet_are_of_one_kind",
         &[
             Begin(Unpaired),
             Set(Setting::Profile(Profile::Modern)),
             Does(Own(PRIVATE)),
             Does(Peers(3)),
             Does(CheckOn(0, HOST, FIRST)),
-            Does(CheckOn(50, HOST, SECOND)),
-            Does(CheckOn(100, HOST, THIRD)),
-            Does(CheckOn(150, INNER, FIRST)),
+            Does(CheckOn(50, INNER, FIRST)),
+            Does(CheckOn(100, HOST, SECOND)),
+            Does(CheckOn(150, HOST, THIRD)),
+            Does(CheckOn(200, INNER, SECOND)),
+            Does(CheckOn(250, INNER, THIRD)),
         ],
     ),
-    // the pairs of the relayed candidate are of kind 7, and those of the private base of kind 15
+    // the pairs of the relayed candidate are of kind 7, and those of the private base of kind 8
     Story(
         "a_relayed_candidate_comes_with_the_public_base",
         &[
@@ -99,28 +120,28 @@ const LOCAL: [Story; 5] = [
             Does(CheckOn(0, HOST, FIRST)),
             Does(CheckOn(10, OUTER, FIRST)),
             Does(CheckOn(20, HOST, SECOND)),
-            // no pair of kind 15 is due
+            // no pair of kind 8 is due
             Does(CheckOn(30, OUTER, SECOND)),
             Does(CheckOn(40, RELAY, FIRST)),
-            // kind 15, though a pair of kind 7 is due before it
+            // kind 8, though a pair of kind 7 is due before it
             Does(CheckOn(110, HOST, FIRST)),
             Does(CheckOn(120, RELAY, SECOND)),
         ],
     ),
-    // without it all pairs are of kind 7
+    // without it all pairs are of kind 8
     Story(
         "a_discarded_public_host_does_not_count",
         &[
             Begin(Unpaired),
             Set(Setting::Profile(Profile::Modern)),
             Does(Own(PUBLIC)),
-            Does(Own(RELAYED)),
+            Does(Own(NEAR)),
             Does(Invalidate(PUBLIC)),
             Does(Peers(3)),
             Does(CheckOn(0, HOST, FIRST)),
             Does(CheckOn(50, HOST, SECOND)),
             Does(CheckOn(100, HOST, THIRD)),
-            Does(CheckOn(150, RELAY, FIRST)),
+            Does(CheckOn(150, NEIGHBOR, FIRST)),
         ],
     ),
 ];
@@ -138,7 +159,7 @@ const REFLEXIVE_PEER: &str = "candidate:2 1 udp 100 198.51.100.2 2000 typ srflx"
 const MAPPED: &str = "198.51.100.2:2000";
 
 const REMOTE: [Story; 2] = [
-    // The kinds are 3, of the public and the reflexive candidate, and 7. At 50 ms kind 3 has its turn, then 7, then 3 again.
+    // The kinds are 3, of the public and the reflexive candidate, and 8. At 50 ms kind 3 has its turn, then 8, then 3 again.
     Story(
         "a_public_host_has_the_turn_of_reflexive_candidates",
         &[

@@ -1,9 +1,9 @@
 -- There are nine kinds of pairs.
 use Rattle.is_candidate.specs.Addresses.{is_v4}
 use Rattle.is_candidate.specs.declared.candidate.kind.CandidateKind.{CandidateKind}
-use Rattle.is_rules.proofs.Common.{◌<◌, ◌==◌, ◌≤◌, arith, Bool, candidate_at, CandidateRecord, counted_kind, false, Host, if◌then◌else◌}
-use Rattle.is_rules.proofs.Common.{INNER, kind_of, kind_rank, KINDS, List, PairRecord, PeerReflexive, Relayed, remote_rank, ServerReflexive}
-use Rattle.is_rules.proofs.Common.{side_of, true, ℕ}
+use Rattle.is_rules.proofs.Common.{◌<◌, ◌≤◌, arith, Bool, candidate_at, CandidateRecord, counted_kind, false, Host, if◌then◌else◌}
+use Rattle.is_rules.proofs.Common.{INNER, is_inner, kind_of, kind_rank, KINDS, List, PairRecord, PeerReflexive, Relayed, remote_rank, ServerReflexive}
+use Rattle.is_rules.proofs.Common.{reach_of, true, ℕ}
 
 rank-most : (kind : CandidateKind) → kind_rank kind ≤ 3
 rank-most PeerReflexive = omega arith
@@ -21,11 +21,12 @@ remote-most r =
     let version = one-most (is_v4 r.addr) in
     omega (arith, rank, version)
 
-kind-by : (outer : Bool) (rank : ℕ) → rank ≤ 7 → (if outer then rank else INNER) < KINDS
-kind-by true rank most = omega (arith, most)
-kind-by false rank most = omega arith
+kind-by : (inner : Bool) (rank : ℕ) → rank ≤ 7 → (if inner then INNER else rank) < KINDS
+kind-by true rank most = omega arith
+kind-by false rank most = omega (arith, most)
 
 pub kind-below : (local remote : List CandidateRecord) (p : PairRecord) → kind_of local remote p < KINDS
 kind-below local remote p =
+    let l = candidate_at local p.local in
     let r = candidate_at remote p.remote in
-    kind-by (side_of local (candidate_at local p.local) == 0) (remote_rank r) (remote-most r)
+    kind-by (is_inner (reach_of local l) l r) (remote_rank r) (remote-most r)

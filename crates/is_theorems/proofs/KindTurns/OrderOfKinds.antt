@@ -1,8 +1,8 @@
 -- How many kinds have their turn before one: fewer after each check of another kind, and at most all others.
 use Rattle.is_theorems.proofs.Common.{[], ◌&&◌, ◌+◌, ◌<◌, ◌==◌, ◌∷◌, ◌≡◌, ◌≤◌, ◌⊎◌, arith, Bool, CandidateKind, CandidateRecord}
-use Rattle.is_theorems.proofs.Common.{counted_kind, false, Has, Host, if◌then◌else◌, inl, INNER, inr, is_v4, kind_between, kind_rank, KINDS}
-use Rattle.is_theorems.proofs.Common.{length, List, nat_le, nat_lt, nat_tests, one_if, PeerReflexive, refl, Relayed, remote_rank}
-use Rattle.is_theorems.proofs.Common.{ServerReflexive, side_of, SocketAddr, subst, sym, true, turn_of, version_rank, ℕ}
+use Rattle.is_theorems.proofs.Common.{counted_kind, false, Has, Host, if◌then◌else◌, inl, INNER, inr, is_inner, is_v4, kind_between, kind_rank, KINDS}
+use Rattle.is_theorems.proofs.Common.{length, List, nat_le, nat_lt, nat_tests, one_if, PeerReflexive, reach_of, refl, Relayed, remote_rank}
+use Rattle.is_theorems.proofs.Common.{ServerReflexive, SocketAddr, subst, sym, true, turn_of, version_rank, ℕ}
 
 le-from : (n m : ℕ) → nat_le n m ≡ true → n ≤ m
 le-from n m h = grind (arith, nat_tests, h)
@@ -34,10 +34,10 @@ version-most a = by (is_v4 a) where
   by false = omega arith
 
 pub kind-within : (local : List CandidateRecord) (l r : CandidateRecord) → kind_between local l r < KINDS
-kind-within local l r = by (side_of local l == 0) where
-  by : (outer : Bool) → (if outer then remote_rank r else INNER) < KINDS
-  by true = let rank = rank-most (counted_kind r) in let version = version-most r.addr in omega (arith, rank, version)
-  by false = omega arith
+kind-within local l r = by (is_inner (reach_of local l) l r) where
+  by : (inner : Bool) → (if inner then INNER else remote_rank r) < KINDS
+  by true = omega arith
+  by false = let rank = rank-most (counted_kind r) in let version = version-most r.addr in omega (arith, rank, version)
 
 -- ---- turns
 

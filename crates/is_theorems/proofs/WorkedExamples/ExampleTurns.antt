@@ -3,16 +3,20 @@
 use Rattle.is_theorems.proofs.Common.{[], ◌<◌, ◌∷◌, ◌≡◌, AgentRecord, all_scheduled, arith, scheduled, CandidateRecord, check_sent, codes}
 use Rattle.is_theorems.proofs.Common.{Connected, default_timing, Disconnected, false, GoesBefore, Has, inl, inr, is_asked_along}
 use Rattle.is_theorems.proofs.Common.{IsNextToCheck, kind_of, List, Modern, new_pair, None, PairRecord, Precedence, refl, ServerReflexive}
-use Rattle.is_theorems.proofs.Common.{signalled_candidate, Some, Span, StunTiming, subst, Succeeded, Success, sym, true, TurnsBefore, Udp}
-use Rattle.is_theorems.proofs.Common.{ℕ}
-use Rattle.is_theorems.proofs.WorkedExamples.ExampleAgents.{address_3, creds_2, host_2, own_1, with_host}
+use Rattle.is_theorems.proofs.Common.{signalled_candidate, SocketAddr, Some, Span, StunTiming, subst, Succeeded, Success, sym, true, TurnsBefore, Udp}
+use Rattle.is_theorems.proofs.Common.{V4, ℕ}
+use Rattle.is_theorems.proofs.WorkedExamples.ExampleAgents.{creds_2, host_2, own_1, with_host}
 
 -- checks may go ahead
 abbrev modern_timing : StunTiming
 modern_timing = record default_timing { profile = Modern }
 
+-- an address outside the subnet of the two hosts
+abbrev outside_3 : SocketAddr
+outside_3 = V4 record { ip = record { octets = 198 ∷ 51 ∷ 100 ∷ 3 ∷ [] }; port = 2000 }
+
 abbrev reflexive_3 : CandidateRecord
-reflexive_3 = signalled_candidate (codes "2") 1 Udp 1694498815 address_3 ServerReflexive None None None
+reflexive_3 = signalled_candidate (codes "2") 1 Udp 1694498815 outside_3 ServerReflexive None None None
 
 abbrev remote_candidates : List CandidateRecord
 remote_candidates = host_2 2130706175 ∷ reflexive_3 ∷ []
@@ -31,8 +35,8 @@ urgent_ahead = record { selected = None; urgent = true }
 abbrev due_pairs : List PairRecord
 due_pairs = scheduled 0 modern_timing host_pair ∷ scheduled 0 modern_timing reflexive_pair ∷ []
 
--- The kinds of their remote candidates differ.
-kinds_differ : (kind_of (own_1 ∷ []) remote_candidates host_pair ≡ 7) × (kind_of (own_1 ∷ []) remote_candidates reflexive_pair ≡ 3)
+-- The pair of two hosts is within one subnet, and so an inner one. The other one has the kind of its remote candidate.
+kinds_differ : (kind_of (own_1 ∷ []) remote_candidates host_pair ≡ 8) × (kind_of (own_1 ∷ []) remote_candidates reflexive_pair ≡ 3)
 kinds_differ = (refl, refl)
 
 host_first : (q : PairRecord) → Has due_pairs q → GoesBefore 0 modern_timing (scheduled 0 modern_timing host_pair) q
@@ -46,34 +50,34 @@ host_first_by_original q (inl same) = subst (λ x. GoesBefore 0 default_timing (
 host_first_by_original q (inr (inl same)) = subst (λ x. GoesBefore 0 default_timing (scheduled 0 default_timing host_pair) x) same (inr (refl, omega arith))
 host_first_by_original q (inr (inr none)) = absurd none
 
--- Kind 3 comes before kind 7 in a round that begins with kind 0.
+-- Kind 3 comes before kind 8 in a round that begins with kind 0.
 reflexive_first : (q : PairRecord) → Has due_pairs q
     → TurnsBefore (own_1 ∷ []) remote_candidates urgent_ahead 0 0 modern_timing (scheduled 0 modern_timing reflexive_pair) q
 reflexive_first q (inl same) =
-    let earlier : 6 < 10 = omega arith in
+    let earlier : 6 < 11 = omega arith in
     subst (λ x. TurnsBefore (own_1 ∷ []) remote_candidates urgent_ahead 0 0 modern_timing (scheduled 0 modern_timing reflexive_pair) x) same (inl earlier)
 reflexive_first q (inr (inl same)) =
     subst (λ x. TurnsBefore (own_1 ∷ []) remote_candidates urgent_ahead 0 0 modern_timing (scheduled 0 modern_timing reflexive_pair) x) same
     (inr (refl, inr (refl, omega arith)))
 reflexive_first q (inr (inr none)) = absurd none
 
--- After kind 3, the round goes on with kind 7.
+-- After kind 3, the round goes on with kind 8.
 host_next : (q : PairRecord) → Has due_pairs q → TurnsBefore (own_1 ∷ []) remote_candidates urgent_ahead 4 0 modern_timing (scheduled 0 modern_timing host_pair) q
 host_next q (inl same) =
     subst (λ x. TurnsBefore (own_1 ∷ []) remote_candidates urgent_ahead 4 0 modern_timing (scheduled 0 modern_timing host_pair) x) same (inr (refl, inr (refl, omega arith)))
 host_next q (inr (inl same)) =
-    let earlier : 10 < 15 = omega arith in
+    let earlier : 11 < 15 = omega arith in
     subst (λ x. TurnsBefore (own_1 ∷ []) remote_candidates urgent_ahead 4 0 modern_timing (scheduled 0 modern_timing host_pair) x) same (inl earlier)
 host_next q (inr (inr none)) = absurd none
 
--- A request arrived on the pair, which is not valid: it is urgent, and comes before kind 7.
+-- A request arrived on the pair, which is not valid: it is urgent, and comes before kind 8.
 abbrev urgent_pair : PairRecord
 urgent_pair = record reflexive_pair { requests = 1; last_request = Some 0 }
 
 urgent_first : (q : PairRecord) → Has (scheduled 0 modern_timing host_pair ∷ scheduled 0 modern_timing urgent_pair ∷ []) q
     → TurnsBefore (own_1 ∷ []) remote_candidates urgent_ahead 4 0 modern_timing (scheduled 0 modern_timing urgent_pair) q
 urgent_first q (inl same) =
-    let earlier : 1 < 10 = omega arith in
+    let earlier : 1 < 11 = omega arith in
     subst (λ x. TurnsBefore (own_1 ∷ []) remote_candidates urgent_ahead 4 0 modern_timing (scheduled 0 modern_timing urgent_pair) x) same (inl earlier)
 urgent_first q (inr (inl same)) =
     subst (λ x. TurnsBefore (own_1 ∷ []) remote_candidates urgent_ahead 4 0 modern_timing (scheduled 0 modern_timing urgent_pair) x) same (inr (refl, inr (refl, omega arith)))

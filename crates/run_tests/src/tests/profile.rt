@@ -14,7 +14,7 @@ static SCRIPTS: [(&str, &str); 8] = [
 {"call":"host","addr":"10.0.0.1:1000","proto":"udp","polls":false}
 {"call":"candidate","text":"candidate:1 1 udp 2130706175 10.0.0.2 2000 typ host","polls":false}
 {"call":"candidate","text":"candidate:1 1 udp 2130705663 10.0.0.3 2000 typ host","polls":false}
-{"call":"candidate","text":"candidate:2 1 udp 1686109951 10.0.0.102 2000 typ srflx","polls":false}
+{"call":"candidate","text":"candidate:2 1 udp 1686109951 10.0.1.102 2000 typ srflx","polls":false}
 {"call":"timeout","now":0,"polls":false}
 {"call":"poll","what":"transmit"}
 {"call":"timeout","now":50000000,"polls":false}
@@ -32,7 +32,7 @@ static SCRIPTS: [(&str, &str); 8] = [
         A send 0 udp 10.0.0.1:1000 10.0.0.2:2000 000100442112a44200000000010000000200000000060009424242423a41414141000000802a0008000000000000000a002400046efffeff00080014a9ae12c3be99238a376fd11c8924806feae17bd5802800042ff5a14f\n\
         A timeout ok\n\
         A poll ok\n\
-        A send 1 udp 10.0.0.1:1000 10.0.0.102:2000 000100442112a44203000000040000000500000000060009424242423a41414141000000802a0008000000000000000a002400046efffeff000800143572ac93f0d926090fd4b877e3db80ac9931cce68028000498dd966b\n",
+        A send 1 udp 10.0.0.1:1000 10.0.1.102:2000 000100442112a44203000000040000000500000000060009424242423a41414141000000802a0008000000000000000a002400046efffeff000800143572ac93f0d926090fd4b877e3db80ac9931cce68028000498dd966b\n",
     ),
     // The second check is 10 ms after the first one, since there is no path yet; with `Original` Ta counts.
     (

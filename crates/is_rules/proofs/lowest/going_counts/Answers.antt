@@ -1,5 +1,5 @@
 use Rattle.is_rules.proofs.Common.{◌+◌, ◌<◌, ◌==◌, ◌∙◌, ◌∷◌, ◌≡◌, ◌≤◌, ap, arith, Bool, count_by-le-length, drop, false, filter}
-use Rattle.is_rules.proofs.Common.{get_or-set_other, get_or-set_same, if◌then◌else◌, is_low_of_kind, is_of_kind, kind_count, kind_of}
+use Rattle.is_rules.proofs.Common.{get_or-set_other, get_or-set_same, is_low_of_kind, is_of_kind, kind_count, kind_of}
 use Rattle.is_rules.proofs.Common.{length, length-filter, length-set, List, multiset_of, nat_tests, one_if, PairRecord, refl, rules}
 use Rattle.is_rules.proofs.Common.{slice_index, slice_index_or, slice_set, sym, true, ℕ}
 use Rattle.is_rules.proofs.PairLists.CountedPairs.{count-head}
