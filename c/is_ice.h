@@ -519,7 +519,7 @@ IS_ICE_QUIET_CALL int32_t is_ice_set_max_discovered(is_ice_agent *agent, size_t 
  * other agent's signaling costs no more memory and time. If is_ice_local_candidate returns as many, is_ice_add_local
  * fails with IS_ICE_TOO_MANY_CANDIDATES, and so does is_ice_add_remote for is_ice_remote_candidate. So candidates that
  * packets brought count; they come without regard to this limit (is_ice_set_max_discovered is theirs). An invalidated
- * candidate does not count. A lower limit removes no candidate. IS_ICE_OK. */
+ * candidate does not count. A lower limit removes no candidate. IS_ICE_NO_LIMIT: as many as are added. IS_ICE_OK. */
 IS_ICE_QUIET_CALL int32_t is_ice_set_max_candidates(is_ice_agent *agent, size_t limit);
 
 /* is_ice_set_timing_advance - sets the pacing interval Ta (RFC 8445, section 14.2): the least time from the last
@@ -646,11 +646,11 @@ IS_ICE_CALL int32_t is_ice_is_host_address(const is_ice_address *address);
  *
  * IS_ICE_OK: added; *index is its index, at which is_ice_local_candidate returns its text. IS_ICE_NOTHING: it is
  * redundant, or the agent is lite and it is not a host candidate; *index is the index of the first local candidate that
- * has its address, base and protocol, or IS_ICE_NO_INDEX. After an error *index is unchanged.
- * IS_ICE_TOO_MANY_CANDIDATES: see is_ice_set_max_candidates; nothing else is looked at. IS_ICE_BAD_ADDRESS: an unknown
- * family, kind, protocol or TCP type, or a TCP type over UDP. IS_ICE_BAD_CANDIDATE: an address that no candidate may
- * have, or a server-reflexive candidate whose base has another IP version (is_ice_candidate_refusal says which).
- * IS_ICE_PRIORITY_TOO_HIGH. IS_ICE_PAIR_IDS_EXHAUSTED. IS_ICE_OUT_OF_MEMORY. */
+ * has its address, base and protocol, or IS_ICE_NO_INDEX. After an error *index is unchanged. IS_ICE_BAD_ADDRESS: an
+ * unknown family, kind, protocol or TCP type, or a TCP type over UDP. IS_ICE_BAD_CANDIDATE: an address that no candidate
+ * may have, or a server-reflexive candidate whose base has another IP version (is_ice_candidate_refusal says which).
+ * IS_ICE_PRIORITY_TOO_HIGH. IS_ICE_TOO_MANY_CANDIDATES: see is_ice_set_max_candidates; it comes once the candidate is
+ * read, and before IS_ICE_NOTHING. IS_ICE_PAIR_IDS_EXHAUSTED. IS_ICE_OUT_OF_MEMORY. */
 IS_ICE_CALL int32_t is_ice_add_local(is_ice_agent *agent, const is_ice_candidate *candidate, size_t *index);
 
 /* is_ice_add_local_line - adds a local candidate of any kind in the same way, by its text, with the priority and the
@@ -659,7 +659,7 @@ IS_ICE_CALL int32_t is_ice_add_local(is_ice_agent *agent, const is_ice_candidate
  *
  * The text is that of is_ice_add_remote. Its address may be any: see is_ice_is_host_address.
  *
- * IS_ICE_OK, IS_ICE_NOTHING, IS_ICE_TOO_MANY_CANDIDATES, IS_ICE_PRIORITY_TOO_HIGH, IS_ICE_PAIR_IDS_EXHAUSTED,
+ * IS_ICE_OK, IS_ICE_NOTHING, IS_ICE_PRIORITY_TOO_HIGH, IS_ICE_TOO_MANY_CANDIDATES, IS_ICE_PAIR_IDS_EXHAUSTED,
  * IS_ICE_OUT_OF_MEMORY: see is_ice_add_local. IS_ICE_NOT_UTF8, IS_ICE_BAD_CANDIDATE: see is_ice_add_remote. */
 IS_ICE_CALL int32_t is_ice_add_local_line(is_ice_agent *agent, const uint8_t *line, size_t length, size_t *index);
 
@@ -677,9 +677,9 @@ IS_ICE_CALL int32_t is_ice_add_local_line(is_ice_agent *agent, const uint8_t *li
  * IS_ICE_OK: added; *index is its index, at which is_ice_remote_candidate returns its text. IS_ICE_NOTHING: a pair has an
  * equal one; *index is the index of the first remote candidate that equals it in address, base, protocol, kind and related
  * address, or IS_ICE_NO_INDEX. IS_ICE_OTHER_COMPONENT, IS_ICE_OTHER_UFRAG: ignored for that; *index is IS_ICE_NO_INDEX.
- * After an error *index is unchanged. IS_ICE_TOO_MANY_CANDIDATES: see is_ice_set_max_candidates; nothing else is looked
- * at. IS_ICE_NOT_UTF8. IS_ICE_BAD_CANDIDATE: it is not a candidate (is_ice_line_refusal says why).
- * IS_ICE_PAIR_IDS_EXHAUSTED. IS_ICE_OUT_OF_MEMORY. */
+ * After an error *index is unchanged. IS_ICE_NOT_UTF8. IS_ICE_BAD_CANDIDATE: it is not a candidate (is_ice_line_refusal
+ * says why). IS_ICE_TOO_MANY_CANDIDATES: see is_ice_set_max_candidates; it comes once the text is read, and before
+ * IS_ICE_NOTHING and what else ignores a candidate. IS_ICE_PAIR_IDS_EXHAUSTED. IS_ICE_OUT_OF_MEMORY. */
 IS_ICE_CALL int32_t is_ice_add_remote(is_ice_agent *agent, const uint8_t *line, size_t length, size_t *index);
 
 /* is_ice_invalidate_local - removes a candidate and its pairs, as when an interface is gone: the local candidate that

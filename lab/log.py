@@ -12,10 +12,10 @@ from .clock import Clock
 
 # The calls that the log has. Queries are left out: they change nothing. So is `set_controlling`, which belongs to the beginning.
 CALLS = ("set_ice_lite", "set_renomination", "set_settings", "set_initial_stun_rto", "set_max_stun_rto", "set_max_stun_retransmits",
-         "set_lite_timeout", "set_timing_advance", "set_max_candidate_pairs", "set_max_discovered", "set_mtu", "set_local_preference",
-         "set_preference_table", "set_local_credentials", "set_remote_credentials", "add_local_candidate", "add_remote_candidate",
-         "invalidate_candidate", "ice_restart", "recreate_candidate_pairs", "handle_packet", "handle_timeout", "poll_timeout",
-         "poll_transmit", "poll_event")
+         "set_lite_timeout", "set_timing_advance", "set_max_candidate_pairs", "set_max_discovered", "set_max_candidates", "set_mtu",
+         "set_local_preference", "set_preference_table", "set_local_credentials", "set_remote_credentials", "add_local_candidate",
+         "add_remote_candidate", "invalidate_candidate", "ice_restart", "recreate_candidate_pairs", "handle_packet", "handle_timeout",
+         "poll_timeout", "poll_transmit", "poll_event")
 
 
 @dataclass(frozen=True)

@@ -112,10 +112,10 @@ class Agent(Candidates):
         new = new._changed(pair.number, lambda p: self._served(new, p, taken))
         selects = new.controlling or new.modern
         new, told = new._nominate() if selects and was_valid else (new, ())
-        new = new._settled(self.trigger_time(q)) if told else new
+        new = new._settled(self.triggered_time(q)) if told else new
         return new, Issued("success", (new.local[local].base, q.source), q.id), told
 
-    def trigger_time(self, q: Request) -> int:
+    def triggered_time(self, q: Request) -> int:
         """Returns when a request triggers a check: at once, and not before the last `handle_timeout`."""
         return max(q.time, self.last or 0)
 
@@ -130,7 +130,7 @@ class Agent(Candidates):
 
     @staticmethod
     def _served(agent: Agent, pair: Pair, q: Request) -> Pair:
-        new = (pair.triggered(agent.trigger_time(q)) if agent.modern else pair).asked(q.time)
+        new = (pair.triggered(agent.triggered_time(q)) if agent.modern else pair).asked(q.time)
         state = "succeeded" if agent.lite and not agent.controlling else pair.state
         asks = not agent.controlling and q.use_candidate and not pair.is_nominated
         nomination = ("success" if agent.lite else "nominated") if asks else pair.nomination

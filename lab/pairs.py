@@ -268,14 +268,40 @@ class Pair:
         return self.has_consent(now, timing.consent) and self.is_possible(now, timing)
 
     def is_possible(self, now: int, timing: Timing) -> bool:
-        """Whether the checks of a pair with this record may go on."""
-        if self.has_early_checks(now, timing) or self.may_repeat(timing):
-            return True
-        return self.is_heard(now) or now < self.checks[-1].sent + timing.delay(timing.retransmits)
+        """Whether the path may still work: checks are left, or the deadline of the pair has not come."""
+        return self.may_repeat(timing) or now < self.possible_until(timing)
+
+    def possible_until(self, timing: Timing) -> int:
+        """Returns how long it is kept if no checks are left: as long as the peer's last check keeps it, a response to its last check may
+        come, or a whole series of checks takes."""
+        return max(self.request_end, self.response_end(timing), self.series_end(timing))
+
+    @property
+    def request_end(self) -> int:
+        """How long the peer's last check keeps it."""
+        return 0 if self.last_request is None else self.last_request + 15 * SECOND
+
+    def response_end(self, timing: Timing) -> int:
+        """Returns how long a response to its last check may come."""
+        return self.checks[-1].sent + timing.delay(timing.retransmits) if self.checks else 0
+
+    def series_end(self, timing: Timing) -> int:
+        """Returns how long a whole series of checks takes with `Modern`, which repeats checks early: so their time counts, too."""
+        start = self.series_start if timing.modern else None
+        return 0 if start is None else start + timing.timeout()
+
+    @property
+    def series_start(self) -> int | None:
+        """When its checks without a response began: with its first check if there was no response, unless that check followed a request;
+        otherwise with the first one without."""
+        if self.answers == 0:
+            return None if self.is_asked_first else self.first_sent
+        silent = unanswered(self.checks)
+        return self.checks[-silent].sent if silent else None
 
     def is_heard(self, now: int) -> bool:
         """Whether a check of the peer arrived less than 15 s ago."""
-        return self.last_request is not None and now - self.last_request < 15 * SECOND
+        return now < self.request_end
 
     def has_consent(self, now: int, consent: Consent | None) -> bool:
         """Whether consent to send on it has not ended (RFC 7675): without a response it never does."""
@@ -290,22 +316,7 @@ class Pair:
         due, consent = self.due_at(now, timing), timing.consent
         if consent is None or self.consented is None:
             return due
-        heard = 0 if consent.strict or self.last_request is None else self.last_request + 15 * SECOND
-        return min(due, max(self.consented + consent.timeout, heard))
-
-    def has_early_checks(self, now: int, timing: Timing) -> bool:
-        """Whether the path may still work since checks that are repeated early end no pair sooner: the time of a whole series has to pass,
-        since its first check if there was no response at all, otherwise since the first one without."""
-        if not timing.modern:
-            return False
-        if self.answers == 0:
-            return not self.is_asked_first and self.is_young(now, timing)
-        silent = unanswered(self.checks)
-        return silent > 0 and now < self.checks[-silent].sent + timing.timeout()
-
-    def is_young(self, now: int, timing: Timing) -> bool:
-        """Whether less time passed since its first check than a whole series of checks takes."""
-        return self.first_sent is not None and now < self.first_sent + timing.timeout()
+        return min(due, max(self.consented + consent.timeout, 0 if consent.strict else self.request_end))
 
     def may_repeat(self, timing: Timing) -> bool:
         """Whether fewer than `max_retransmits` checks follow its last answered one."""

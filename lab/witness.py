@@ -24,8 +24,8 @@ from .view import Born, Called, born, view_of
 TIMES = ("set_settings", "set_initial_stun_rto", "set_max_stun_rto", "set_max_stun_retransmits")
 # What no program sets later that gives an agent its role at first.
 ROLES = ("set_controlling", "set_control_tie_breaker")
-# The calls whose effect is observed: those of the log that are no polls, and one that the log leaves out.
-OBSERVED = (*(call for call in CALLS if not call.startswith("poll_")), "set_max_candidates")
+# The calls whose effect is observed: those of the log that are no polls.
+OBSERVED = tuple(call for call in CALLS if not call.startswith("poll_"))
 SUCCESS_TYPE, COOKIE = 0x0101, 0x2112A442
 # A byte that MESSAGE-INTEGRITY signs: the last one of the transaction ID.
 SIGNED = 19

@@ -338,8 +338,7 @@ static void line_fields(void)
     on = agent;
     int32_t added = CALL(OK | NOTHING | OTHER | TOO_MANY | NOT_UTF8 | BAD_CANDIDATE | NO_IDS | COPES,
         is_ice_add_remote(agents[on], text.bytes, text.length, index));
-    if (code == IS_ICE_OUT_OF_MEMORY || added == IS_ICE_OUT_OF_MEMORY || added == IS_ICE_NO_AGENT || added == IS_ICE_TOO_MANY_CANDIDATES)
-        return;
+    if (code == IS_ICE_OUT_OF_MEMORY || added == IS_ICE_OUT_OF_MEMORY || added == IS_ICE_NO_AGENT) return;
     bool is_candidate = code == IS_ICE_OK || code == IS_ICE_BUFFER_TOO_SHORT;
     if (is_candidate == (added == IS_ICE_BAD_CANDIDATE || added == IS_ICE_NOT_UTF8))
         stop("the agent reads another text than is_ice_line_fields");

@@ -240,7 +240,8 @@ static void pairs(void)
     is_ice_agent_free(&agent);
 }
 
-/* At the limit none is added to either side, and the agent is as before; an invalidated candidate makes room. */
+/* At the limit none is added to either side, and the agent is as before; a text that is not a candidate has its own error. An invalidated
+ * candidate makes room. */
 static void limits(void)
 {
     is_ice_candidate host = {{4, {10, 0, 0, 1}, 1000, 0, 0}, {4, {10, 0, 0, 1}, 1000, 0, 0}, IS_ICE_HOST, IS_ICE_UDP, 0};
@@ -258,7 +259,10 @@ static void limits(void)
     HOLD(is_ice_add_remote(&agent, TEXT(line), &index) == IS_ICE_OK && index == 0);
     HOLD(is_ice_set_max_candidates(&agent, 1) == IS_ICE_OK);
     HOLD(is_ice_add_remote(&agent, TEXT("candidate:1 1 udp 7 192.0.2.1 1 typ host"), &index) == IS_ICE_TOO_MANY_CANDIDATES && index == 0);
-    HOLD(is_ice_add_remote(&agent, TEXT("\xff"), &index) == IS_ICE_TOO_MANY_CANDIDATES);
+    HOLD(is_ice_add_remote(&agent, TEXT("candidate:1 2 udp 7 192.0.2.1 1 typ host"), &index) == IS_ICE_TOO_MANY_CANDIDATES && index == 0);
+    HOLD(is_ice_add_remote(&agent, TEXT(line), &index) == IS_ICE_TOO_MANY_CANDIDATES && index == 0);
+    HOLD(is_ice_add_remote(&agent, TEXT("\xff"), &index) == IS_ICE_NOT_UTF8 && index == 0);
+    HOLD(is_ice_add_remote(&agent, TEXT("candidate:1"), &index) == IS_ICE_BAD_CANDIDATE && index == 0);
     HOLD(is_ice_remote_candidate(&agent, 1, buffer, sizeof buffer, &length) == IS_ICE_NOTHING);
     HOLD(is_ice_invalidate(&agent, TEXT(line)) == IS_ICE_OK);
     HOLD(is_ice_add_remote(&agent, TEXT("candidate:1 1 udp 7 192.0.2.1 1 typ host"), &index) == IS_ICE_OK && index == 0);

@@ -53,9 +53,9 @@ def is_poll(call: str) -> bool:
 
 # The calls that may come in a round, besides polls and packets: candidates that are added, and settings that change neither pairs nor
 # the timing of their checks. Renomination may be switched off, too; no session does that.
-IN_ROUND = {"set_mtu", "set_control_tie_breaker", "set_max_candidate_pairs", "set_max_discovered", "set_timing_advance",
-            "set_local_preference", "set_preference_table", "set_controlling", "set_local_credentials", "add_local_candidate",
-            "add_remote_candidate"}
+IN_ROUND = {"set_mtu", "set_control_tie_breaker", "set_max_candidate_pairs", "set_max_discovered", "set_max_candidates",
+            "set_timing_advance", "set_local_preference", "set_preference_table", "set_controlling", "set_local_credentials",
+            "add_local_candidate", "add_remote_candidate"}
 
 
 def is_between(call: str) -> bool:

@@ -14,7 +14,7 @@ from .new_agents import tie_breakers
 
 @dataclass(frozen=True)
 class Chosen:
-    """What a program sets (`SettingsRecord`), and the limit on candidates."""
+    """What a program sets (`SettingsRecord`)."""
 
     settings: Settings
     lite: bool

@@ -123,11 +123,12 @@ pub fn turns(alloc: Global, case: Case, rounds: u64, sum: &mut Checksum) -> Resu
     take_turns(&mut agent, case, rounds, sum)
 }
 
-/// The settings of the profile, without a limit on remote candidates: each pair has one of its own.
+/// The settings of the profile, without a limit on candidates: each pair has a remote one of its own.
 pub fn set_profile(agent: &mut Agent, profile: Profile) {
     if profile == Profile::Modern {
         let mut settings = Settings::modern();
         settings.max_discovered = None;
+        settings.max_candidates = None;
         agent.set_settings(settings);
     }
 }

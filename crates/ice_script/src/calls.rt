@@ -176,6 +176,7 @@ fn plain_call(name: CallName, fields: Fields<'_>) -> Result<Call, Stop> {
         CallName::Mtu => Call::SetMtu(fields.count(TARGET)?..=fields.count(WARN)?),
         CallName::Pairs => Call::SetMaxCandidatePairs(fields.count(NUMBER)?),
         CallName::Discovered => Call::SetMaxDiscovered(fields.limit(LIMIT)?),
+        CallName::Candidates => Call::SetMaxCandidates(fields.limit(LIMIT)?),
         CallName::Retransmits => Call::SetMaxStunRetransmits(fields.positive(POSITIVE)?),
         CallName::Preference => Call::SetLocalPreference(fields.preference(PREFERENCE)?),
         CallName::Skip => Call::SkipPairIds(fields.number(NUMBER)?),

@@ -112,6 +112,7 @@ pub enum CallName {
     Remote,
     Pairs,
     Discovered,
+    Candidates,
     Retransmits,
     Rto,
     MaxRto,
@@ -136,7 +137,7 @@ pub enum CallName {
 #[derive(Clone, Copy)]
 pub struct Row(pub &'static str, pub CallName, pub &'static [Field]);
 
-static CALLS: [Row; 30] = [
+static CALLS: [Row; 31] = [
     Row("agent", CallName::Agent, &[UFRAG, PASS, TIE]),
     Row("controlling", CallName::Controlling, &[FLAG]),
     Row("lite", CallName::Lite, &[FLAG]),
@@ -149,6 +150,7 @@ static CALLS: [Row; 30] = [
     Row("remote", CallName::Remote, &[UFRAG, PASS]),
     Row("pairs", CallName::Pairs, &[NUMBER]),
     Row("discovered", CallName::Discovered, &[LIMIT]),
+    Row("candidates", CallName::Candidates, &[LIMIT]),
     Row("retransmits", CallName::Retransmits, &[POSITIVE]),
     Row("rto", CallName::Rto, &[NUMBER]),
     Row("maxrto", CallName::MaxRto, &[NUMBER]),

@@ -112,6 +112,7 @@ fn call_with(alloc: Global, side: Side, name: &str, value: &str) -> Option<Call>
         ))),
         "pairs" => Some(AgentCall::SetMaxCandidatePairs(count(value)?)),
         "discovered" => Some(AgentCall::SetMaxDiscovered(Some(count(value)?))),
+        "candidates" => Some(AgentCall::SetMaxCandidates(Some(count(value)?))),
         "retransmits" => Some(AgentCall::SetMaxStunRetransmits(count(value)?)),
         "named" => Some(AgentCall::SetLocalCredentials(creds(alloc, side, value).ok()?)),
         "remote" => {

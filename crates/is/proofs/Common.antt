@@ -42,7 +42,7 @@ pub use Rattle.is_rules.specs.Steps.{AddLocalCandidate, AddRemoteCandidate, Answ
 pub use Rattle.is_rules.specs.Steps.{Happened, InvalidateCandidate, NoSuchPacket, Polled, PollEvent, PollTimeout, PollTransmit, quiet}
 pub use Rattle.is_rules.specs.Steps.{ReceivePacket, Receives, RecreateCandidatePairs, Rejected, RestartIce, SetConsent, SetControlling}
 pub use Rattle.is_rules.specs.Steps.{SetControlTieBreaker, SetIceLite, SetInitialStunRto, SetLiteTimeout, SetLocalCredentials}
-pub use Rattle.is_rules.specs.Steps.{SetLocalPreference, SetMaxCandidatePairs, SetMaxDiscovered, SetMaxStunRetransmits, SetMaxStunRto}
+pub use Rattle.is_rules.specs.Steps.{SetLocalPreference, SetMaxCandidatePairs, SetMaxCandidates, SetMaxDiscovered, SetMaxStunRetransmits, SetMaxStunRto}
 pub use Rattle.is_rules.specs.Steps.{SetMtu, SetProfile, SetRemoteCredentials, SetRenomination, SetTimingAdvance, SkipPairIds, Step}
 pub use Rattle.is_rules.specs.declared.emitted.Emitted.{Emitted}
 pub use Rattle.is_rules.specs.declared.emitted.Issued.{Issued}

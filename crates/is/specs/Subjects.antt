@@ -1,6 +1,6 @@
 -- Which function of a run makes a call.
 use Rattle.std.specs.Prelude.{Bool, true, false}
-use Rattle.is_rules.specs.Steps.{Call, SetControlTieBreaker, SetMaxCandidatePairs, SetMaxDiscovered, SetIceLite, SetRenomination, SetConsent, SetProfile, SetTimingAdvance, AddLocalCandidate, AddRemoteCandidate, InvalidateCandidate}
+use Rattle.is_rules.specs.Steps.{Call, SetControlTieBreaker, SetMaxCandidatePairs, SetMaxCandidates, SetMaxDiscovered, SetIceLite, SetRenomination, SetConsent, SetProfile, SetTimingAdvance, AddLocalCandidate, AddRemoteCandidate, InvalidateCandidate}
 use Rattle.is_rules.specs.Steps.{SetInitialStunRto, SetMaxStunRto, SetLiteTimeout, SetLocalPreference, SetControlling, SkipPairIds, ReceivePacket, HandleTimeout}
 
 -- a setting that takes any value
@@ -8,6 +8,7 @@ abbrev pub is_plain_setting : {P : Type 0} → Call P → Bool
 is_plain_setting (SetControlTieBreaker _) = true
 is_plain_setting (SetMaxCandidatePairs _) = true
 is_plain_setting (SetMaxDiscovered _) = true
+is_plain_setting (SetMaxCandidates _) = true
 is_plain_setting (SetIceLite _) = true
 is_plain_setting (SetRenomination _) = true
 is_plain_setting (SetProfile _) = true

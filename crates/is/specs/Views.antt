@@ -5,7 +5,7 @@ use Rattle.std.specs.Range.{range_inclusive_start, range_inclusive_end}
 use Rattle.is_proto.specs.Packets.{packet_of}
 use Rattle.is_rules.specs.Steps as agent
 use Rattle.is.specs.declared.calls.AgentCall.{AgentCall}
-use Rattle.is.specs.declared.calls.AgentCall.TheVariants.{SetMtu, SetControlTieBreaker, SetMaxCandidatePairs, SetMaxDiscovered, SetIceLite, SetRenomination, SetConsent, SetProfile}
+use Rattle.is.specs.declared.calls.AgentCall.TheVariants.{SetMtu, SetControlTieBreaker, SetMaxCandidatePairs, SetMaxCandidates, SetMaxDiscovered, SetIceLite, SetRenomination, SetConsent, SetProfile}
 use Rattle.is.specs.declared.calls.AgentCall.TheVariants.{SetTimingAdvance, SetInitialStunRto, SetMaxStunRto, SetMaxStunRetransmits, SetLiteTimeout, SetLocalPreference}
 use Rattle.is.specs.declared.calls.AgentCall.TheVariants.{SetControlling, SetLocalCredentials, SetRemoteCredentials, SkipPairIds}
 use Rattle.is.specs.declared.calls.AgentCall.TheVariants.{AddLocalCandidate, AddRemoteCandidate, InvalidateCandidate, RestartIce}
@@ -21,6 +21,7 @@ call_view (SetMtu mtu) = agent.SetMtu (range_inclusive_start mtu) (range_inclusi
 call_view (SetControlTieBreaker tie_breaker) = agent.SetControlTieBreaker tie_breaker
 call_view (SetMaxCandidatePairs limit) = agent.SetMaxCandidatePairs limit
 call_view (SetMaxDiscovered limit) = agent.SetMaxDiscovered limit
+call_view (SetMaxCandidates limit) = agent.SetMaxCandidates limit
 call_view (SetIceLite lite) = agent.SetIceLite lite
 call_view (SetRenomination renominates) = agent.SetRenomination renominates
 call_view (SetProfile profile) = agent.SetProfile profile

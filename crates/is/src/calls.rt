@@ -22,6 +22,8 @@ pub enum AgentCall<P> {
     SetMaxCandidatePairs(usize),
     /// `set_max_discovered`. Its result is `Done`.
     SetMaxDiscovered(Option<usize>),
+    /// `set_max_candidates`. Its result is `Done`.
+    SetMaxCandidates(Option<usize>),
     /// `set_ice_lite`. Its result is `Done`.
     SetIceLite(bool),
     /// `set_renomination`. Its result is `Done`.

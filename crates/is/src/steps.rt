@@ -184,6 +184,7 @@ fn take_setting<H: Sha1HmacProvider + Drop, P: LocalPreference>(
         AgentCall::SetControlTieBreaker(tie_breaker) => agent.set_control_tie_breaker(tie_breaker),
         AgentCall::SetMaxCandidatePairs(limit) => agent.set_max_candidate_pairs(limit),
         AgentCall::SetMaxDiscovered(limit) => agent.set_max_discovered(limit),
+        AgentCall::SetMaxCandidates(limit) => agent.set_max_candidates(limit),
         AgentCall::SetIceLite(lite) => agent.set_ice_lite(lite),
         AgentCall::SetRenomination(enabled) => agent.set_renomination(enabled),
         AgentCall::SetProfile(profile) => agent.set_profile(profile),

@@ -4,10 +4,11 @@ use Rattle.is_proto.specs.declared.error.IceError.{IceError}
 use Rattle.is_candidate.specs.Candidates.{CandidateRecord}
 use Rattle.is_candidate.specs.Equality.{is_same_place, is_equivalent}
 use Rattle.is_agent.specs.declared.added.Addition.{Addition}
-use Rattle.is_agent.specs.declared.added.Addition.TheVariants.{Added, Known, Ignored, OtherComponent, OtherUfrag}
+use Rattle.is_agent.specs.declared.added.Addition.TheVariants.{Added, Known, Ignored, TooMany, OtherComponent, OtherUfrag}
 use Rattle.is_rules.specs.declared.emitted.Emitted.{Emitted}
 use Rattle.is_rules.specs.Agent.{AgentRecord}
 use Rattle.is_rules.specs.Forming.{is_alive}
+use Rattle.is_rules.specs.Limit.{is_full}
 use Rattle.is_rules.specs.Local.{AddsLocal}
 use Rattle.is_rules.specs.StateUpdates.{ReselectsAfter}
 use Rattle.is_rules.specs.Remote.{AddsRemote, is_ignored, has_other_ufrag, is_placeholder, place_or_end}
@@ -29,23 +30,29 @@ abbrev pub reported : {A : Type 0} → (A → Addition) → Result A IceError �
 reported report_on (Ok x) = Ok (report_on x)
 reported report_on (Err e) = Err e
 
--- what became of a local candidate, by the index that it got, if it was added
-abbrev pub local_addition : CandidateRecord → List CandidateRecord → List CandidateRecord → Option ℕ → Addition
-local_addition c before after None = not_added (first_listed (is_same_place c) before)
-local_addition c before after (Some place) = Added (listed_index after place)
-
 module _ {H P : Type 0} where
+  -- why a local candidate is not added: for the limit, or for one that it equals
+  abbrev pub unwanted_addition : AgentRecord H P → CandidateRecord → Addition
+  unwanted_addition old c = if is_full old.max_candidates old.local then TooMany else not_added (first_listed (is_same_place c) old.local)
+
+  -- what became of a local candidate, by the index that it got, if it was added
+  abbrev pub local_addition : AgentRecord H P → CandidateRecord → AgentRecord H P → Option ℕ → Addition
+  local_addition old c new None = unwanted_addition old c
+  local_addition old c new (Some place) = Added (listed_index new.local place)
+
   -- `add_local_listed`
   abbrev pub AddsLocalListed : (P → CandidateRecord → ℕ → ℕ → Type 0) → AgentRecord H P → CandidateRecord → Result Addition IceError
       → AgentRecord H P → Type 0
   AddsLocalListed answers old c result new =
       (place : Result (Option ℕ) IceError) × (emitted : Emitted) × ReselectsAfter (AddsLocal answers old c place) old emitted new
-      × (result ≡ reported (local_addition c old.local new.local) place)
+      × (result ≡ reported (local_addition old c new) place)
 
-  -- why a remote candidate is ignored: for its component, for its username fragment, or for a pair whose remote candidate equals it
+  -- why a remote candidate is ignored: for the limit, for its component, for its username fragment, or for a pair whose remote
+  -- candidate equals it
   abbrev pub ignored_addition : AgentRecord H P → CandidateRecord → Addition
   ignored_addition old c =
-      if not (c.component == 1) then OtherComponent
+      if is_full old.max_candidates old.remote then TooMany
+      else if not (c.component == 1) then OtherComponent
       else if has_other_ufrag old.remote_creds c.ufrag then OtherUfrag
       else not_added (first_listed (is_equivalent c) old.remote)
 

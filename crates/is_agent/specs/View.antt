@@ -15,6 +15,7 @@ record_of a = record {
   preference = a.preference;
   max_pairs = a.max_pairs;
   max_discovered = a.max_discovered;
+  max_candidates = a.max_candidates;
   timing = a.timing;
   timing_advance = a.timing_advance.0;
   lite = a.lite;

@@ -3,7 +3,7 @@
 ghost use Rattle.std.specs.Prelude.{◌≡◌, ◌&&◌, position, take};
 ghost use Rattle.is_candidate.specs.Equality.{is_same_place, is_equivalent};
 ghost use Rattle.is_rules.specs.Forming.{is_alive};
-ghost use Rattle.is_agent.specs.Added.{listed_index, first_listed, not_added, ignored_addition, AddsLocalListed, AddsRemoteListed};
+ghost use Rattle.is_agent.specs.Added.{listed_index, first_listed, not_added, unwanted_addition, ignored_addition, AddsLocalListed, AddsRemoteListed};
 ghost use Rattle.is_agent.specs.View.{record_of};
 
 use crate::agent::Agent;
@@ -12,6 +12,7 @@ use is_candidate::candidate::internals::{component, is_discarded};
 use is_candidate::{Candidate, LocalPreference};
 use is_proto::{IceError, Sha1HmacProvider};
 use is_rules::emitted::Emitted;
+use is_rules::limit::is_full;
 use is_rules::remote::place_or_end;
 
 /// What became of a candidate. Its index counts the candidates that `local_candidates` or `remote_candidates` returns, from 0.
@@ -23,6 +24,8 @@ pub enum Addition {
     Known(usize),
     /// The candidate was not added, and none equals it.
     Ignored,
+    /// The candidate was not added, since as many of its side are listed as `set_max_candidates` allows.
+    TooMany,
     /// The candidate was ignored, since it is of another component than 1.
     OtherComponent,
     /// The candidate was ignored, since its username fragment is not the peer's.
@@ -112,18 +115,32 @@ fn first_equal(candidates: &[Candidate], candidate: &Candidate) -> Option<usize>
 
 // ---- the calls
 
+/// Why the local candidate is not added.
+fn unwanted_addition<H: Sha1HmacProvider + Drop, P: LocalPreference>(
+    agent: &Agent<H, P>,
+    candidate: &Candidate,
+) -> Addition
+    ensures { result ≡ unwanted_addition (record_of agent.now) candidate.now }
+{
+    if is_full(agent.max_candidates, &agent.local) {
+        Addition::TooMany
+    } else {
+        not_added(first_same(&agent.local, candidate))
+    }
+}
+
 /// Adds a local candidate like `add_local_candidate`, and returns the index at which it is listed. A candidate that is not added
-/// equals one with the same address, base and protocol (RFC 8445, section 5.1.3).
+/// equals one with the same address, base and protocol (RFC 8445, section 5.1.3), unless as many are listed as `set_max_candidates` allows.
 pub fn add_local_listed<H: Sha1HmacProvider + Drop, P: LocalPreference>(
     agent: &mut Agent<H, P>,
     candidate: Candidate,
 ) -> Result<Addition, IceError>
     ensures { AddsLocalListed P.answers (record_of agent.old) candidate result (record_of agent.new) }
 {
-    let known = first_same(&agent.local, &candidate);
+    let otherwise = unwanted_addition(agent, &candidate);
     match agent.add_local(candidate)? {
         Some(place) => Ok(Addition::Added(listed_index(&agent.local, place))),
-        None => Ok(not_added(known)),
+        None => Ok(otherwise),
     }
 }
 
@@ -134,7 +151,9 @@ fn ignored_addition<H: Sha1HmacProvider + Drop, P: LocalPreference>(
 ) -> Addition
     ensures { result ≡ ignored_addition (record_of agent.now) candidate.now }
 {
-    if component(candidate) != 1 {
+    if is_full(agent.max_candidates, &agent.remote) {
+        Addition::TooMany
+    } else if component(candidate) != 1 {
         Addition::OtherComponent
     } else if agent.has_other_ufrag(candidate) {
         Addition::OtherUfrag

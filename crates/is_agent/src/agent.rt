@@ -61,6 +61,8 @@ pub struct Agent<H, P> {
     pub(crate) max_pairs: usize,
     /// The greatest number of candidates that packets bring of each side.
     pub(crate) max_discovered: Option<usize>,
+    /// The greatest number of candidates of each side that the program may have listed.
+    pub(crate) max_candidates: Option<usize>,
     pub(crate) timing: StunTiming,
     /// What the timing says of consent, so that calls do not compute it again.
     pub(crate) kept_consent: Option<Consent>,
@@ -135,7 +137,7 @@ pub struct Agent<H, P> {
     ghost placed: { are_placed local.items remote.items (multiset_of pairs) ≡ true },
     // the capacity for `kept_room` more events is reserved
     ghost room_kept: { deque_len events + kept_room ≤ deque_capacity events },
-    // each candidate that is not discarded can be invalidated
+    // that is enough for the events of invalidating all candidates
     ghost room_suffices: { needed_room local.items remote.items (multiset_of pairs) ≤ kept_room },
 }
 
@@ -192,6 +194,7 @@ impl<H: Sha1HmacProvider + Drop, P: LocalPreference> Agent<H, P> {
             preference: None,
             max_pairs: DEFAULT_MAX_PAIRS,
             max_discovered: None,
+            max_candidates: None,
             timing,
             kept_consent,
             timing_advance: Duration(50_000_000),

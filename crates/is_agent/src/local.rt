@@ -23,6 +23,7 @@ use is_candidate::{Candidate, CandidateKind, LocalPreference};
 use is_proto::{IceError, Sha1HmacProvider};
 use is_rules::emitted::Emitted;
 use is_rules::forming::{has_numbers_for, local_combinations};
+use is_rules::limit::is_full;
 use is_rules::local::{
     Rejection, append, as_own, borrowed_at, comes_again, enable_at, place_of_same, preference_for,
     preferred,
@@ -43,7 +44,8 @@ impl<H: Sha1HmacProvider + Drop, P: LocalPreference> Agent<H, P> {
     fn is_unwanted(&self, candidate: &Candidate) -> bool
         ensures { result ≡ is_unwanted (record_of self.now) candidate.now }
     {
-        self.lite && !same_kind(candidate.kind(), CandidateKind::Host)
+        (self.lite && !same_kind(candidate.kind(), CandidateKind::Host))
+            || is_full(self.max_candidates, &self.local)
     }
 
     fn preference_for(&self, candidate: &Candidate) -> u32
@@ -276,7 +278,8 @@ impl<H: Sha1HmacProvider + Drop, P: LocalPreference> Agent<H, P> {
 
     /// Adds a local candidate, with the agent's username fragment, and returns a reference to it (RFC 8445, section 5.1). Its
     /// local preference is what the object that was set returns for it and the number of local candidates of its kind and IP
-    /// version, including discarded ones, or the default one. A lite agent adds only host candidates.
+    /// version, including discarded ones, or the default one. A lite agent adds only host candidates, and no agent more than
+    /// `set_max_candidates` allows: the call returns None.
     ///
     /// The first local candidate with the same address, base and protocol decides. If it is discarded and has the same kind
     /// and related address, it is enabled again and used instead. Otherwise, if its priority is greater than the new one's,

@@ -16,6 +16,7 @@ use is_candidate::{Candidate, LocalPreference};
 use is_proto::{IceError, Sha1HmacProvider};
 use is_rules::emitted::Emitted;
 use is_rules::forming::{form_each, has_numbers_for, remote_combinations};
+use is_rules::limit::is_full;
 use is_rules::remote::{Equivalent, as_remote, place_of_placeholder, place_or_end, store};
 use is_rules::sides::Sides;
 
@@ -40,7 +41,10 @@ impl<H: Sha1HmacProvider + Drop, P: LocalPreference> Agent<H, P> {
     pub(crate) fn is_ignored(&self, candidate: &Candidate) -> bool
         ensures { result ≡ is_ignored (record_of self.now) candidate.now }
     {
-        component(candidate) != 1 || self.has_other_ufrag(candidate) || self.is_paired(candidate)
+        is_full(self.max_candidates, &self.remote)
+            || component(candidate) != 1
+            || self.has_other_ufrag(candidate)
+            || self.is_paired(candidate)
     }
 
     /// The combinations become pairs, within the reserved capacity, and then the limit is applied.
@@ -63,7 +67,7 @@ impl<H: Sha1HmacProvider + Drop, P: LocalPreference> Agent<H, P> {
 
     /// Adds a candidate of the peer, and forms pairs with it (RFC 8445, section 6.1.2). It replaces a candidate that a
     /// request from its address added. A candidate is ignored if its component is not 1, if its username fragment is not the
-    /// peer's, or if it equals the remote candidate of a pair.
+    /// peer's, if it equals the remote candidate of a pair, or if as many are listed as `set_max_candidates` allows.
     ///
     /// Fails with `PairIdsExhausted` if no number is left for a pair, and with `OutOfMemory`. The agent is then unchanged.
     pub fn add_remote_candidate(&mut self, candidate: Candidate) -> Result<(), IceError>

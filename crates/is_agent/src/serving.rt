@@ -17,7 +17,7 @@ ghost use Rattle.is_rules.specs.Sending.{with_packet};
 ghost use Rattle.is_agent.specs.Ready.{IsPlan, IsReady, IsWithin};
 ghost use Rattle.is_rules.specs.Serving.{is_for_other_peer, needs_pair, lacks_number, Chooses, MayFailAtRequest, Serves, ServesAt};
 ghost use Rattle.is_rules.specs.Serving.{evaluates_at, nominated_last, pair_added, pair_number, pair_served, request_counted};
-ghost use Rattle.is_rules.specs.Serving.{sees_number, sender_added, sender_at, sender_index, trigger_time, Replies, SendsRoleConflict};
+ghost use Rattle.is_rules.specs.Serving.{sees_number, sender_added, sender_at, sender_index, triggered_time, Replies, SendsRoleConflict};
 
 use crate::agent::{Agent, sides};
 use crate::room::{reserve_candidate, reserve_events};
@@ -29,7 +29,7 @@ use is_proto::{IceError, Sha1HmacProvider, Text, Transmit, reserve_one, reserve_
 use is_rules::emitted::{Emitted, Issued, Path};
 use is_rules::forming::pair_of;
 use is_rules::limit::sender_place;
-use is_rules::pairs::{ServingRole, Trigger, is_valid_at, pair_between, serve_pair};
+use is_rules::pairs::{ServingRole, TriggeredCheck, is_valid_at, pair_between, serve_pair};
 use is_rules::places::{RemotePlace, is_discarded_at, local_place, remote_index};
 use is_rules::reply::{REPLY_LEN, write_conflict, write_reply};
 use is_rules::request::Request;
@@ -241,15 +241,15 @@ impl<H: Sha1HmacProvider + Drop, P: LocalPreference> Agent<H, P> {
     }
 
     /// Whether, and when, the request triggers a check: at once, and not before the last `handle_timeout` call.
-    fn trigger(&self, request: &Request<'_>) -> Trigger
+    fn triggered_check(&self, request: &Request<'_>) -> TriggeredCheck
         ensures modern { result.modern ≡ is_modern (record_of self.now).timing }
-        ensures at { result.at.0 ≡ trigger_time (request_view request.now) (record_of self.now) }
+        ensures at { result.at.0 ≡ triggered_time (request_view request.now) (record_of self.now) }
     {
         let at = match self.last_time {
             Some(last) => request.time.max(last),
             None => request.time,
         };
-        Trigger {
+        TriggeredCheck {
             modern: self.timing.is_modern(),
             at,
         }
@@ -266,11 +266,11 @@ impl<H: Sha1HmacProvider + Drop, P: LocalPreference> Agent<H, P> {
             controlling: self.controlling,
             lite: self.lite,
         };
-        let trigger = self.trigger(request);
+        let check = self.triggered_check(request);
         let taken = request.as_taken(self.numbers());
         self.last_nominated = self.nominated_last(&taken, number);
         self.numbers_seen = self.sees_number(&taken);
-        serve_pair(&mut self.pairs, number, &taken, role, trigger);
+        serve_pair(&mut self.pairs, number, &taken, role, check);
     }
 
     /// The pair of the two candidates, with the next number.
@@ -410,7 +410,7 @@ impl<H: Sha1HmacProvider + Drop, P: LocalPreference> Agent<H, P> {
             return Emitted::nothing();
         };
         let path = self.path_between(at.local, r);
-        let now = self.trigger(request).at;
+        let now = self.triggered_check(request).at;
         let evaluates = self.evaluates_at(number);
         self.serve_pair(request, number);
         let selected_paths = self.nominate_where(evaluates);

@@ -81,6 +81,15 @@ impl<H: Sha1HmacProvider + Drop, P: LocalPreference> Agent<H, P> {
         self.max_discovered = limit;
     }
 
+    /// Sets how many candidates of each side may be listed when the program adds one, so that the peer's signaling costs no more: a
+    /// candidate beyond that is not added. Those that packets brought count; they come without regard to this limit. Discarded ones do
+    /// not count. None until it is set, which means no limit.
+    pub fn set_max_candidates(&mut self, limit: Option<usize>)
+        ensures { record_of self.new ≡ record (record_of self.old) { max_candidates = limit } }
+    {
+        self.max_candidates = limit;
+    }
+
     /// Whether the agent is an ICE-lite agent (RFC 8445, section 2.5).
     pub fn ice_lite(&self) -> bool
         ensures { result ≡ (record_of self.now).lite }
@@ -131,6 +140,7 @@ impl<H: Sha1HmacProvider + Drop, P: LocalPreference> Agent<H, P> {
             consent: self.timing.consent,
             max_pairs: self.max_pairs,
             max_discovered: self.max_discovered,
+            max_candidates: self.max_candidates,
             renomination: self.renominates,
         }
     }
@@ -155,6 +165,7 @@ impl<H: Sha1HmacProvider + Drop, P: LocalPreference> Agent<H, P> {
         self.timing_advance = settings.timing_advance;
         self.max_pairs = settings.max_pairs;
         self.max_discovered = settings.max_discovered;
+        self.max_candidates = settings.max_candidates;
         self.renominates = settings.renomination;
         if !keeps_rtos {
             self.pairs.reset_next_binding_attempts();

@@ -11,7 +11,6 @@ abbrev pub held_record : HeldAgent → HeldRecord
 held_record h = record {
   agent = record_of h.agent;
   waiting = option_map packet_of h.waiting;
-  max_candidates = h.max_candidates;
   deadline = option_map (λ at. at.0) h.deadline;
   monitor = h.monitor;
   failures = failures_of h.failures;

@@ -5,14 +5,12 @@ ghost use Rattle.is_rules.specs.Settings.{original_settings, modern_settings};
 ghost use Rattle.is_c.specs.Slots.{held_by};
 ghost use Rattle.is_c_calls.specs.Following.{Followed, in_turn};
 ghost use Rattle.is_c_calls.specs.Held.{At};
-ghost use Rattle.is_c_calls.specs.Limits.{CANDIDATE_LIMIT, NO_LIMIT};
 ghost use Rattle.is_c_calls.specs.AgentSettings.{profile_of, timeout_of, settings_of, reported_settings, GivesSettings, ReturnsSettings};
 ghost use Rattle.is_c_calls.specs.Uses.{SetSettings};
 
 use crate::codes;
 use crate::deadlines::followed;
-use crate::making::candidate_limit;
-use crate::settings::limit_of;
+use crate::settings::{limit_of, number_of_limit};
 use crate::slot::Slot;
 use is_c_calls::AgentSettings;
 use is_proto::Duration;
@@ -57,12 +55,13 @@ fn settings_of(settings: &AgentSettings) -> Settings
         },
         max_pairs: settings.max_pairs,
         max_discovered: limit_of(settings.max_discovered),
+        max_candidates: limit_of(settings.max_candidates),
         renomination: settings.renomination,
     }
 }
 
-fn reported_settings(settings: Settings, max_candidates: usize) -> AgentSettings
-    ensures { result ≡ reported_settings settings max_candidates }
+fn reported_settings(settings: Settings) -> AgentSettings
+    ensures { result ≡ reported_settings settings }
 {
     let consent_timeout = match settings.consent.timeout {
         Some(timeout) => timeout.0,
@@ -76,8 +75,8 @@ fn reported_settings(settings: Settings, max_candidates: usize) -> AgentSettings
         consent_timeout,
         max_retransmits: settings.max_retransmits,
         max_pairs: settings.max_pairs,
-        max_discovered: settings.max_discovered.unwrap_or(usize::MAX),
-        max_candidates,
+        max_discovered: number_of_limit(settings.max_discovered),
+        max_candidates: number_of_limit(settings.max_candidates),
         room: [0, 0, 0, 0],
         modern: settings.profile.is_modern(),
         strict_consent: settings.consent.strict,
@@ -85,21 +84,21 @@ fn reported_settings(settings: Settings, max_candidates: usize) -> AgentSettings
     }
 }
 
-/// Writes the settings of the Rust crate `is` 0.12.0, without a limit on candidates.
+/// Writes the settings of the Rust crate `is` 0.12.0.
 #[unsafe(no_mangle)]
 pub extern "C" fn is_ice_original_settings(settings: &mut AgentSettings) -> i32
-    ensures { GivesSettings original_settings NO_LIMIT settings.new result }
+    ensures { GivesSettings original_settings settings.new result }
 {
-    *settings = reported_settings(Settings::original(), usize::MAX);
+    *settings = reported_settings(Settings::original());
     codes::OK
 }
 
 /// Writes the settings with which a new agent begins.
 #[unsafe(no_mangle)]
 pub extern "C" fn is_ice_modern_settings(settings: &mut AgentSettings) -> i32
-    ensures { GivesSettings modern_settings CANDIDATE_LIMIT settings.new result }
+    ensures { GivesSettings modern_settings settings.new result }
 {
-    *settings = reported_settings(Settings::modern(), candidate_limit());
+    *settings = reported_settings(Settings::modern());
     codes::OK
 }
 
@@ -119,7 +118,6 @@ pub extern "C" fn is_ice_set_settings(
         return codes::BAD_LIMIT;
     }
     held.agent.set_settings(settings_of(settings));
-    held.max_candidates = settings.max_candidates;
     followed(held, false, codes::OK)
 }
 
@@ -137,6 +135,6 @@ pub extern "C" fn is_ice_settings(
     let Some(held) = slot.held() else {
         return codes::NO_AGENT;
     };
-    *settings = reported_settings(held.agent.settings(), held.max_candidates);
+    *settings = reported_settings(held.agent.settings());
     codes::OK
 }

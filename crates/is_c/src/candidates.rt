@@ -1,8 +1,7 @@
 //! Candidates: added and removed.
 
 ghost use Rattle.std.specs.Prelude.{◌≡◌, None};
-ghost use Rattle.is_agent.specs.View.{record_of};
-ghost use Rattle.is_c_calls.specs.Adding.{addition_index, addition_code, has_room, PutsAddition, AddsGiven, AddsLocalRead, AddsRead};
+ghost use Rattle.is_c_calls.specs.Adding.{addition_index, addition_code, PutsAddition, AddsGiven, AddsLocalRead, AddsRead};
 ghost use Rattle.is_c_calls.specs.Codes.{found_code};
 ghost use Rattle.is_c.specs.Slots.{held_record, held_by};
 ghost use Rattle.is_c_calls.specs.Following.{Followed, at_once};
@@ -14,7 +13,6 @@ use crate::candidate::{line_candidate, local_candidate};
 use crate::codes;
 use crate::deadlines::followed;
 use crate::held::HeldAgent;
-use crate::questions::{local_at, remote_at};
 use crate::slot::Slot;
 use is_agent::Addition;
 use is_agent::added::{add_local_listed, add_remote_listed};
@@ -24,49 +22,18 @@ use is_candidate::Candidate;
 use is_proto::IceError;
 use std::alloc::Global;
 
-// ---- the limit
-
-/// Whether fewer local candidates are listed than the limit: whether the last place that it allows is free.
-#[tactic(auto, using(crate::proofs::RoomLemmas::room, crate::proofs::RoomLemmas::no_room))]
-fn has_local_room(held: &HeldAgent) -> bool
-    ensures { result ≡ has_room held.now.max_candidates (record_of held.now.agent).local }
-{
-    let limit = held.max_candidates;
-    if limit == 0 {
-        return false;
-    }
-    match local_at(held, limit - 1) {
-        Some(_) => false,
-        None => true,
-    }
-}
-
-/// Whether fewer remote candidates are listed than the limit: whether the last place that it allows is free.
-#[tactic(auto, using(crate::proofs::RoomLemmas::room, crate::proofs::RoomLemmas::no_room))]
-fn has_remote_room(held: &HeldAgent) -> bool
-    ensures { result ≡ has_room held.now.max_candidates (record_of held.now.agent).remote }
-{
-    let limit = held.max_candidates;
-    if limit == 0 {
-        return false;
-    }
-    match remote_at(held, limit - 1) {
-        Some(_) => false,
-        None => true,
-    }
-}
-
 // ---- what became of a candidate
 
 /// The index of no candidate.
 pub const NO_INDEX: usize = usize::MAX;
 
-/// The index at which an addition is listed, or `NO_INDEX`.
-fn addition_index(addition: Addition) -> usize
-    ensures { result ≡ addition_index addition }
+/// The index at which an addition is listed, or `NO_INDEX`. At the limit it is what it was before.
+fn addition_index(before: usize, addition: Addition) -> usize
+    ensures { result ≡ addition_index before addition }
 {
     match addition {
         Addition::Added(at) | Addition::Known(at) => at,
+        Addition::TooMany => before,
         Addition::Ignored | Addition::OtherComponent | Addition::OtherUfrag => NO_INDEX,
     }
 }
@@ -77,6 +44,7 @@ fn addition_code(addition: Addition) -> i32
     match addition {
         Addition::Added(_) => codes::OK,
         Addition::Known(_) | Addition::Ignored => codes::NOTHING,
+        Addition::TooMany => codes::TOO_MANY_CANDIDATES,
         Addition::OtherComponent => codes::OTHER_COMPONENT,
         Addition::OtherUfrag => codes::OTHER_UFRAG,
     }
@@ -88,7 +56,7 @@ fn put_addition(outcome: Result<Addition, IceError>, index: &mut usize) -> i32
 {
     match outcome {
         Ok(addition) => {
-            *index = addition_index(addition);
+            *index = addition_index(*index, addition);
             addition_code(addition)
         }
         Err(error) => codes::code_of(&error),
@@ -103,9 +71,6 @@ fn add_local(
 ) -> i32
     ensures { AddsGiven candidate.now index.old index.new (held_record held.old) result (held_record held.new) }
 {
-    if !has_local_room(held) {
-        return codes::TOO_MANY_CANDIDATES;
-    }
     match local_candidate(alloc, candidate) {
         Some(Ok(candidate)) => put_addition(add_local_listed(&mut held.agent, candidate), index),
         Some(Err(error)) => codes::code_of(&error),
@@ -135,9 +100,6 @@ pub extern "C" fn is_ice_add_local(
 fn add_local_line(alloc: Global, held: &mut HeldAgent, line: &[u8], index: &mut usize) -> i32
     ensures { AddsLocalRead line.now index.old index.new (held_record held.old) result (held_record held.new) }
 {
-    if !has_local_room(held) {
-        return codes::TOO_MANY_CANDIDATES;
-    }
     match line_candidate(alloc, line) {
         Some(Ok(candidate)) => put_addition(add_local_listed(&mut held.agent, candidate), index),
         Some(Err(error)) => codes::code_of(&error),
@@ -167,9 +129,6 @@ pub extern "C" fn is_ice_add_local_line(
 fn add_remote(alloc: Global, held: &mut HeldAgent, line: &[u8], index: &mut usize) -> i32
     ensures { AddsRead line.now index.old index.new (held_record held.old) result (held_record held.new) }
 {
-    if !has_remote_room(held) {
-        return codes::TOO_MANY_CANDIDATES;
-    }
     match line_candidate(alloc, line) {
         Some(Ok(candidate)) => put_addition(add_remote_listed(&mut held.agent, candidate), index),
         Some(Err(error)) => codes::code_of(&error),

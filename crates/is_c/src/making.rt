@@ -10,7 +10,6 @@ ghost use Rattle.is_c_calls.specs.Making.{fresh_held, MakesAt};
 ghost use Rattle.is_c.specs.Freeing.{freed_at};
 ghost use Rattle.is_c.specs.contracts.slot.Slot.{the_row as slot_row};
 ghost use Rattle.is_c.specs.Slots.{held_record, held_by};
-ghost use Rattle.is_c_calls.specs.Limits.{CANDIDATE_LIMIT};
 
 use crate::codes;
 use crate::credentials::creds_of;
@@ -21,13 +20,6 @@ use is_monitor::{FailedSends, Monitor};
 use is_proto::Duration;
 use is_rules::settings::Settings;
 use std::alloc::Global;
-
-/// How many candidates of each side may be listed, until another limit is set.
-pub(crate) fn candidate_limit() -> usize
-    ensures { result ≡ CANDIDATE_LIMIT }
-{
-    100
-}
 
 /// After what time the selected path counts as silent, until another one is set.
 const SILENCE: Duration = Duration(5_000_000_000);
@@ -44,7 +36,6 @@ fn boxed_agent(alloc: Global, creds: IceCreds, tie_breaker: u64) -> Result<Box<H
     let held = HeldAgent {
         agent,
         waiting: None,
-        max_candidates: candidate_limit(),
         deadline: None,
         monitor: Monitor::new(Some(SILENCE)),
         failures: FailedSends::new(alloc),

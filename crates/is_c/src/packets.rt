@@ -224,7 +224,6 @@ pub extern "C" fn is_ice_poll_timeout(alloc: Global, slot: &mut Slot, at: &mut u
 fn next_packet(held: &mut HeldAgent) -> Option<Transmit>
     ensures first { TakesNext (held_record held.old).waiting (held_record held.old).agent (option_map packet_of result) (held_record held.new).agent }
     ensures nothing_waits { held.new.waiting ≡ None }
-    ensures limit { (held_record held.new).max_candidates ≡ (held_record held.old).max_candidates }
     ensures deadline { (held_record held.new).deadline ≡ (held_record held.old).deadline }
     ensures monitor { (held_record held.new).monitor ≡ (held_record held.old).monitor }
     ensures failures { (held_record held.new).failures ≡ (held_record held.old).failures }
@@ -251,7 +250,6 @@ fn hand_over(held: &mut HeldAgent, next: Transmit, buffer: &mut [u8]) -> i32
     requires { held.old.waiting ≡ None }
     ensures given { GivesFirst buffer.old buffer.new (packet_of next) result (held_record held.new).waiting }
     ensures agent { (held_record held.new).agent ≡ (held_record held.old).agent }
-    ensures limit { (held_record held.new).max_candidates ≡ (held_record held.old).max_candidates }
     ensures deadline { (held_record held.new).deadline ≡ (held_record held.old).deadline }
     ensures monitor { (held_record held.new).monitor ≡ (held_record held.old).monitor }
     ensures failures { (held_record held.new).failures ≡ (held_record held.old).failures }

@@ -16,6 +16,7 @@ use crate::address::{address_of, number_of, socket_of};
 use crate::codes;
 use crate::events::state_number;
 use crate::held::HeldAgent;
+use crate::settings::number_of_limit;
 use crate::slot::Slot;
 use crate::text::put;
 use is_c_calls::Address;
@@ -36,7 +37,7 @@ pub struct Status {
     pub mtu_warn: usize,
     /// How long a pair is checked without a response before it is removed, in nanoseconds.
     pub ice_timeout: u64,
-    /// How many candidates of each side may be listed: at the limit none is added.
+    /// How many candidates of each side may be listed: at the limit none is added. The greatest number means that there is no limit.
     pub max_candidates: usize,
 }
 
@@ -80,7 +81,7 @@ fn reported_status(held: &HeldAgent) -> Status
         mtu: agent.mtu(),
         mtu_warn: agent.mtu_warn(),
         ice_timeout: agent.ice_timeout().0,
-        max_candidates: held.max_candidates,
+        max_candidates: number_of_limit(agent.settings().max_candidates),
     }
 }
 

@@ -1,8 +1,8 @@
 //! Settings that the caller may change.
 
-ghost use Rattle.std.specs.Prelude.{◌≡◌, ◌==◌, Some};
+ghost use Rattle.std.specs.Prelude.{◌≡◌, ◌==◌, Some, unwrap_or};
 ghost use Rattle.is_c_calls.specs.Codes.{BAD_LIMIT, done_code, found_code};
-ghost use Rattle.is_c_calls.specs.Limits.{limit_of};
+ghost use Rattle.is_c_calls.specs.Limits.{NO_LIMIT, limit_of};
 ghost use Rattle.is_c.specs.Roles.{is_controlling};
 ghost use Rattle.is_c.specs.Slots.{held_by};
 ghost use Rattle.is_c_calls.specs.Following.{Followed, at_once, in_turn};
@@ -109,6 +109,13 @@ pub(crate) fn limit_of(number: usize) -> Option<usize>
     }
 }
 
+/// The number that stands for the limit.
+pub(crate) fn number_of_limit(limit: Option<usize>) -> usize
+    ensures { result ≡ unwrap_or limit NO_LIMIT }
+{
+    limit.unwrap_or(usize::MAX)
+}
+
 /// Sets how many remote candidates requests may bring; the greatest number means that there is no limit.
 #[unsafe(no_mangle)]
 pub extern "C" fn is_ice_set_max_discovered(alloc: Global, slot: &mut Slot, limit: usize) -> i32
@@ -121,7 +128,7 @@ pub extern "C" fn is_ice_set_max_discovered(alloc: Global, slot: &mut Slot, limi
     codes::OK
 }
 
-/// Sets how many candidates of each side may be listed: at the limit none is added.
+/// Sets how many candidates of each side may be listed: at the limit none is added. The greatest number means that there is no limit.
 #[unsafe(no_mangle)]
 pub extern "C" fn is_ice_set_max_candidates(alloc: Global, slot: &mut Slot, limit: usize) -> i32
     ensures { At (Does (SetMaxCandidates limit)) (held_by slot.old) result (held_by slot.new) }
@@ -129,7 +136,7 @@ pub extern "C" fn is_ice_set_max_candidates(alloc: Global, slot: &mut Slot, limi
     let Some(held) = slot.held() else {
         return codes::NO_AGENT;
     };
-    held.max_candidates = limit;
+    held.agent.set_max_candidates(limit_of(limit));
     codes::OK
 }
 

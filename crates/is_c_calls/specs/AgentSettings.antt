@@ -10,7 +10,7 @@ use Rattle.is_rules.specs.Settings as rules
 use Rattle.is_rules.specs.Settings.{with_settings}
 use Rattle.is_c_calls.specs.declared.agent_settings.AgentSettings.{AgentSettings}
 use Rattle.is_c_calls.specs.Codes.{OK, BAD_LIMIT}
-use Rattle.is_c_calls.specs.Held.{HeldRecord, Rejects}
+use Rattle.is_c_calls.specs.Held.{HeldRecord, AgentBecomes, Rejects}
 use Rattle.is_c_calls.specs.Limits.{NO_LIMIT, limit_of}
 
 abbrev pub profile_of : Bool → Profile
@@ -33,12 +33,13 @@ settings_of s = record {
   consent = record { timeout = timeout_of s.consent_timeout; strict = s.strict_consent };
   max_pairs = s.max_pairs;
   max_discovered = limit_of s.max_discovered;
+  max_candidates = limit_of s.max_candidates;
   renomination = s.renomination;
 }
 
--- the struct of C that is written for settings, and for the limit on candidates
-abbrev pub reported_settings : Settings → ℕ → AgentSettings
-reported_settings s candidates = record {
+-- the struct of C that is written for settings
+abbrev pub reported_settings : Settings → AgentSettings
+reported_settings s = record {
   timing_advance = s.timing_advance.0;
   initial_rto = s.initial_rto.0;
   max_rto = s.max_rto.0;
@@ -47,7 +48,7 @@ reported_settings s candidates = record {
   max_retransmits = s.max_retransmits;
   max_pairs = s.max_pairs;
   max_discovered = unwrap_or s.max_discovered NO_LIMIT;
-  max_candidates = candidates;
+  max_candidates = unwrap_or s.max_candidates NO_LIMIT;
   room = 0 ∷ 0 ∷ 0 ∷ 0 ∷ [];
   modern = is_modern_profile s.profile;
   strict_consent = s.consent.strict;
@@ -55,16 +56,14 @@ reported_settings s candidates = record {
 }
 
 -- `is_ice_original_settings` and `is_ice_modern_settings`: what is written means these settings
-abbrev pub GivesSettings : Settings → ℕ → AgentSettings → ℤ → Type 0
-GivesSettings s candidates given code = (code ≡ OK) × (given ≡ reported_settings s candidates) × (settings_of given ≡ s)
+abbrev pub GivesSettings : Settings → AgentSettings → ℤ → Type 0
+GivesSettings s given code = (code ≡ OK) × (given ≡ reported_settings s) × (settings_of given ≡ s)
 
 -- `is_ice_set_settings`
 abbrev pub SetsSettings : AgentSettings → HeldRecord → ℤ → HeldRecord → Type 0
 SetsSettings s old code new =
-    MatchBool (s.max_retransmits == 0)
-    (Rejects BAD_LIMIT old code new)
-    ((code ≡ OK) × (new ≡ record old { agent = with_settings (settings_of s) old.agent; max_candidates = s.max_candidates }))
+    MatchBool (s.max_retransmits == 0) (Rejects BAD_LIMIT old code new) (AgentBecomes (with_settings (settings_of s)) old code new)
 
 -- `is_ice_settings`
 abbrev pub ReturnsSettings : AgentSettings → HeldRecord → ℤ → HeldRecord → Type 0
-ReturnsSettings s old code new = (code ≡ OK) × (s ≡ reported_settings (rules.settings_of old.agent) old.max_candidates) × (new ≡ old)
+ReturnsSettings s old code new = (code ≡ OK) × (s ≡ reported_settings (rules.settings_of old.agent)) × (new ≡ old)

@@ -11,12 +11,11 @@ use Rattle.is_c_calls.specs.declared.preference.Preference.{Preference}
 abbrev pub Held : Type 0
 Held = AgentRecord DefaultSha1HmacProvider Preference
 
--- the agent, a packet that waits for a longer buffer, the limit on candidates of each side, the time of the agent at which
--- `is_ice_handle_timeout` is to be called, the monitor of the agent's paths, and packets that C could not send
+-- the agent, a packet that waits for a longer buffer, the time of the agent at which `is_ice_handle_timeout` is to be called, the monitor of the
+-- agent's paths, and packets that C could not send
 pub record HeldRecord : Type 0 where
   pub agent : Held
   pub waiting : Option Packet
-  pub max_candidates : ℕ
   pub deadline : Option ℕ
   pub monitor : Monitor
   pub failures : List FailedSend
@@ -31,13 +30,10 @@ At Does (Some old) code (Some new) = Does old code new
 abbrev pub AgentBecomes : (Held → Held) → HeldRecord → ℤ → HeldRecord → Type 0
 AgentBecomes change old code new = (code ≡ OK) × (new ≡ record old { agent = change old.agent })
 
--- what no call of the agent changes
-abbrev pub KeepsOwn : HeldRecord → HeldRecord → Type 0
-KeepsOwn old new = (new.max_candidates ≡ old.max_candidates) × (new.failures ≡ old.failures)
-
 -- only the agent may change, and the monitor becomes this one
 abbrev pub KeepsRestWith : Monitor → HeldRecord → HeldRecord → Type 0
-KeepsRestWith monitor old new = (new.waiting ≡ old.waiting) × (new.monitor ≡ monitor) × (new.deadline ≡ old.deadline) × KeepsOwn old new
+KeepsRestWith monitor old new =
+    (new.waiting ≡ old.waiting) × (new.monitor ≡ monitor) × (new.deadline ≡ old.deadline) × (new.failures ≡ old.failures)
 
 -- only the agent may change
 abbrev pub KeepsRest : HeldRecord → HeldRecord → Type 0

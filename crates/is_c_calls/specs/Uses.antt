@@ -13,7 +13,7 @@ use Rattle.is_c_calls.specs.declared.candidate.LocalCandidate.{LocalCandidate}
 use Rattle.is_c_calls.specs.declared.events.Event.{Event}
 use Rattle.is_c_calls.specs.declared.packets.Packet.{Packet}
 use Rattle.is_c_calls.specs.declared.preference.Preference.{Preference}
-use Rattle.is_c_calls.specs.Adding.{SetsMaxCandidates, AddsGiven, AddsLocalRead, AddsRead}
+use Rattle.is_c_calls.specs.Adding.{AddsGiven, AddsLocalRead, AddsRead}
 use Rattle.is_c_calls.specs.AgentSettings.{SetsSettings}
 use Rattle.is_c_calls.specs.Codes.{BAD_LIMIT, code_of, done_code, found_code}
 use Rattle.is_c_calls.specs.Credentials.{CallsWith}
@@ -81,7 +81,7 @@ Does (SetRenomination enabled) old code new = AgentBecomes (λ a. record a { ren
 Does (SetTieBreaker tie_breaker) old code new = AgentBecomes (λ a. record a { tie_breaker = tie_breaker }) old code new
 Does (SetMaxPairs limit) old code new = AgentBecomes (λ a. record a { max_pairs = limit }) old code new
 Does (SetMaxDiscovered limit) old code new = AgentBecomes (λ a. record a { max_discovered = limit_of limit }) old code new
-Does (SetMaxCandidates limit) old code new = SetsMaxCandidates limit old code new
+Does (SetMaxCandidates limit) old code new = AgentBecomes (λ a. record a { max_candidates = limit_of limit }) old code new
 Does (SetTimingAdvance by) old code new = AgentBecomes (λ a. record a { timing_advance = by }) old code new
 Does (SetInitialRto rto) old code new = AgentBecomes (λ a. with_rtos rto a.timing.max_rto.0 a) old code new
 Does (SetMaxRto rto) old code new = AgentBecomes (λ a. with_rtos a.timing.initial_rto.0 rto a) old code new

@@ -1,6 +1,6 @@
 //! All that a user may choose, in one struct that C sets and reads.
 
-/// What a user of C chooses: `Settings` of the library, and how many candidates of each side may be listed. Times are in nanoseconds.
+/// What a user of C chooses: `Settings` of the library. Times are in nanoseconds.
 #[repr(C)]
 #[derive(Clone, Copy)]
 pub struct AgentSettings {
@@ -20,7 +20,7 @@ pub struct AgentSettings {
     pub max_pairs: usize,
     /// How many candidates packets may bring of each side; the greatest number: as many as come.
     pub max_discovered: usize,
-    /// How many candidates of each side may be listed.
+    /// How many candidates of each side may be listed when one is added; the greatest number: as many as the program adds.
     pub max_candidates: usize,
     /// Room for later versions, in which these are fields.
     pub room: [u64; 4],

@@ -58,7 +58,7 @@ module _ (creds : IceCreds) (tie_breaker : ℕ) where
 
   set_ready : (settings : Settings) (before : Log) → is_modern_profile settings.profile ≡ true → IsReady before → ReadyAlong before → ReadyAlong (settings_onto settings before)
   set_ready settings before is ready others =
-      (inr is, (inr is, (inr is, (inr is, (inr is, (inr is, (inr is, (inr is, (inr is, (ready, others))))))))))
+      (inr is, (inr is, (inr is, (inr is, (inr is, (inr is, (inr is, (inr is, (inr is, (inr is, (ready, others)))))))))))
 
   modern_after : (uses : List Used) (log : Log) → IsLogOf uses log → EachKeeps keeps_modern uses → IsModern (settings_along first_set log)
   modern_after uses log logs each =
@@ -158,7 +158,7 @@ module _ (creds : IceCreds) (tie_breaker : ℕ) (law : Set) where
   limited : (uses : List Used) (log : Log) (last : Held) → IsLogOf uses log → EachKeeps keeps_limit uses → (run : Ran (newborn creds tie_breaker) log last) → Limited log last run
   limited [] log last is each run = subst (λ (l : Log). (r : Ran (newborn creds tie_breaker) l last) → Limited l last r) (sym is) first run where
     first : (r : Ran (newborn creds tie_breaker) (settings_onto modern_settings []) last) → Limited (settings_onto modern_settings []) last r
-    first r = (λ w. never w, (λ w. never w, (λ w. never w, (λ w. never w, (λ w. never w, (λ w. never w, (λ w. never w, (λ w. never w, (λ w. never w, (λ w. never w, tt))))))))))
+    first r = (λ w. never w, (λ w. never w, (λ w. never w, (λ w. never w, (λ w. never w, (λ w. never w, (λ w. never w, (λ w. never w, (λ w. never w, (λ w. never w, (λ w. never w, tt)))))))))))
   limited (u ∷ before) log last (inl (none, logs)) each run = limited before log last logs (rest_of keeps_limit u before each) run
   limited (u ∷ before) log last (inr (rest, inl (x, is, of), logs)) each run =
       subst (λ (l : Log). (r : Ran (newborn creds tie_breaker) l last) → Limited l last r) (sym is) (by (λ a r. limited before rest a logs (rest_of keeps_limit u before each) r)) run where
@@ -227,13 +227,12 @@ alive law answered_by uses before x held now used each k = search (by used.run (
 -- ---- packets
 
 same_held_agent : (old new : HeldRecord) → new.agent ≡ old.agent → KeepsRest old new → new ≡ old
-same_held_agent old new a (w, m, d, (c, f)) =
+same_held_agent old new a (w, m, d, f) =
     ap (λ (x : Held). record new { agent = x }) a
     ∙ (ap (λ x. record new { agent = old.agent; waiting = x }) w
-    ∙ (ap (λ x. record old { max_candidates = x; deadline = new.deadline; monitor = new.monitor; failures = new.failures }) c
     ∙ (ap (λ x. record old { deadline = x; monitor = new.monitor; failures = new.failures }) d
     ∙ (ap (λ x. record old { monitor = x; failures = new.failures }) m
-    ∙ ap (λ x. record old { failures = x }) f))))
+    ∙ ap (λ x. record old { failures = x }) f)))
 
 bad : (code why : ℤ) → code ≡ why → is_ok why ≡ false → ¬ (code ≡ OK)
 bad code why is wrong_ ok = never (sym wrong_ ∙ (ap is_ok (sym is) ∙ ap is_ok ok))

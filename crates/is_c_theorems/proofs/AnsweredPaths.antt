@@ -94,7 +94,7 @@ sent_before (call ∷ more) log path id sent = by (sent_before more (setter call
 -- and none clears
 sent_after : (settings : Settings) (log : Log) (path : Path) (id : List ℕ) → IsSent log path id → IsSent (settings_onto settings log) path id
 sent_after settings log path id sent =
-    inr (refl, inr (refl, inr (refl, inr (refl, inr (refl, inr (refl, inr (refl, inr (refl, inr (refl, inr (refl, sent))))))))))
+    inr (refl, inr (refl, inr (refl, inr (refl, inr (refl, inr (refl, inr (refl, inr (refl, inr (refl, inr (refl, inr (refl, sent)))))))))))
 
 -- ---- checks that were sent are given to C, or wait
 

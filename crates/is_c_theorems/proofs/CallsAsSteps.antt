@@ -20,7 +20,7 @@ use Rattle.is_c_theorems.proofs.Common.{AddsMade, AddsRemoteListed, agent_time, 
 use Rattle.is_c_theorems.proofs.Common.{answers, ap, arith, Ask, BAD_ADDRESS, BAD_LIMIT, Becomes, Bool, Builds, Call, CallsMade}
 use Rattle.is_c_theorems.proofs.Common.{CandidateRecord, code_by, code_of, Constructs, controlling_set, counts, Discards, Does, Done, done}
 use Rattle.is_c_theorems.proofs.Common.{done_code, Entry, Err, Event, false, FixTimes, Flag, flag_code, found_code, given_steps, GivesBased}
-use Rattle.is_c_theorems.proofs.Common.{GivesEvent, HandlePacket, HandlesDatagram, HandleTimeout, Happened, has_room, Held, HeldRecord}
+use Rattle.is_c_theorems.proofs.Common.{GivesEvent, HandlePacket, HandlesDatagram, HandleTimeout, Happened, Held, HeldRecord}
 use Rattle.is_c_theorems.proofs.Common.{IceAgentEvent, IceCreds, IceError, inl, inr, Invalidate, InvalidateLocal, is_done, is_modern, is_ok}
 use Rattle.is_c_theorems.proofs.Common.{is_over_tcp, IsBased, IsNone, IsOf, keeps_role, length, List, Logged, mac_of, Made, Makes}
 use Rattle.is_c_theorems.proofs.Common.{MakesCandidate, MatchBool, MatchOption, Monitor, nat_lt, next_silence, NextTimeout, None, NOT_UTF8}
@@ -270,8 +270,7 @@ module _ (n : ℕ) where
   positive (suc n) is = omega arith
 
   all_set : (settings : AgentSettings) (code : ℤ) (old new : HeldRecord) (b : Bool)
-      → MatchBool b (Rejects BAD_LIMIT old code new)
-      ((code ≡ OK) × (new ≡ record old { agent = with_settings (settings_of settings) old.agent; max_candidates = settings.max_candidates }))
+      → MatchBool b (Rejects BAD_LIMIT old code new) (AgentBecomes (with_settings (settings_of settings)) old code new)
       → (settings.max_retransmits == 0) ≡ b → IsAtMostOne (used (SetSettings settings) code) old new
   all_set settings code old new true h is = rejects (SetSettings settings) BAD_LIMIT code old new refl h
   all_set settings code old new false (coded, same) is = inr (inr (record {
@@ -297,7 +296,8 @@ module _ (n : ℕ) where
       becomes (SetMaxPairs limit) code (agent.SetMaxCandidatePairs limit) (λ a. record a { max_pairs = limit }) old new refl (refl, is) tt (refl, refl, refl) same
   one (SetMaxDiscovered limit) code old new (is, same) =
       becomes (SetMaxDiscovered limit) code (agent.SetMaxDiscovered (limit_of limit)) (λ a. record a { max_discovered = limit_of limit }) old new refl (refl, is) tt (refl, refl, refl) same
-  one (SetMaxCandidates limit) code old new (is, same) = inl (ap (λ (h : HeldRecord). h.agent) same, never)
+  one (SetMaxCandidates limit) code old new (is, same) =
+      becomes (SetMaxCandidates limit) code (agent.SetMaxCandidates (limit_of limit)) (λ a. record a { max_candidates = limit_of limit }) old new refl (refl, is) tt (refl, refl, refl) same
   one (SetTimingAdvance by) code old new (is, same) =
       becomes (SetTimingAdvance by) code (agent.SetTimingAdvance by) (λ a. record a { timing_advance = by }) old new refl (refl, is) tt (refl, refl, refl) same
   one (SetInitialRto rto) code old new (is, same) =
@@ -321,15 +321,9 @@ module _ (n : ℕ) where
   one (SetRemoteCredentials ufrag pass) code old new h =
       with_creds (SetRemoteCredentials ufrag pass) SetsRemote (λ c. agent.SetRemoteCredentials c) ufrag pass (λ r code is. (is ∙ done_coded r, done_ok r code is)) refl (λ c. tt)
       (λ a b c r sets. (r, refl, sets, refl)) code old new h
-  one (AddLocal c before after) code old new h =
-      either (has_room old.max_candidates old.agent.local) (λ k. adds_local c before after code old new k.0 k.1 k.2)
-      (λ k. idle (AddLocal c before after) code old new k.0.1 never) h
-  one (AddLocalLine line before after) code old new h =
-      either (has_room old.max_candidates old.agent.local) (λ k. adds_local_line line before after code old new k.0 k.1 k.2)
-      (λ k. idle (AddLocalLine line before after) code old new k.0.1 never) h
-  one (AddRemote line before after) code old new h =
-      either (has_room old.max_candidates old.agent.remote) (λ k. adds_remote line before after code old new k.0 k.1 k.2)
-      (λ k. idle (AddRemote line before after) code old new k.0.1 never) h
+  one (AddLocal c before after) code old new (made, makes, h) = adds_local c before after code old new made makes h
+  one (AddLocalLine line before after) code old new (made, reads, h) = adds_local_line line before after code old new made reads h
+  one (AddRemote line before after) code old new (made, reads, h) = adds_remote line before after code old new made reads h
   one (InvalidateLocal c) code old new (made, makes, h) =
       discards (InvalidateLocal c) BAD_ADDRESS made (λ x is. (x, subst (λ (o : Made). MakesCandidate c o) is makes, refl)) (λ answer code is. is) refl code old new h
   one (Invalidate line) code old new (made, reads, h) =

@@ -17,7 +17,7 @@ use Rattle.is_theorems.proofs.CheckCounts.LastTimes.{charges-stay, last-stays}
 use Rattle.is_monitor.specs.declared.monitor.Monitor.{Monitor}
 use Rattle.is_agent.specs.Added.{AddsLocalListed, AddsRemoteListed}
 use Rattle.is_c_calls.specs.declared.preference.Preference.{Preference}
-use Rattle.is_c_calls.specs.Adding.{has_room, AddsMade}
+use Rattle.is_c_calls.specs.Adding.{AddsMade}
 use Rattle.is_c_calls.specs.Candidates.{Made}
 use Rattle.is_c_calls.specs.Clock.{agent_time}
 use Rattle.is_c_calls.specs.Codes.{BAD_ADDRESS, NOT_UTF8, done_code, found_code}
@@ -72,24 +72,21 @@ leaves (SetLocalCredentials u p) code old new (Ok creds, made, (x, does, is, kep
 leaves (SetLocalCredentials u p) code old new (Err why, made, h) none = by_held old new old h.1 (refl, refl)
 leaves (SetRemoteCredentials u p) code old new (Ok creds, made, (x, does, is, kept)) none = by_rest old new kept
 leaves (SetRemoteCredentials u p) code old new (Err why, made, h) none = by_held old new old h.1 (refl, refl)
-leaves (AddLocal c before after) code old new h none =
-    either (has_room old.max_candidates old.agent.local) (λ k. by k.0 k.2) (λ k. by_held old new old k.0.1 (refl, refl)) h where
-      by : (made : Made) → AddsMade (AddsLocalListed answers) BAD_ADDRESS made before after old code new → Leaves old new
-      by None k = by_held old new old k.0.1 (refl, refl)
-      by (Some (Err e)) k = by_held old new old k.0.1 (refl, refl)
-      by (Some (Ok made)) (x, does, puts, kept) = by_rest old new kept
-leaves (AddLocalLine line before after) code old new h none =
-    either (has_room old.max_candidates old.agent.local) (λ k. by k.0 k.2) (λ k. by_held old new old k.0.1 (refl, refl)) h where
-      by : (made : Made) → AddsMade (AddsLocalListed answers) NOT_UTF8 made before after old code new → Leaves old new
-      by None k = by_held old new old k.0.1 (refl, refl)
-      by (Some (Err e)) k = by_held old new old k.0.1 (refl, refl)
-      by (Some (Ok made)) (x, does, puts, kept) = by_rest old new kept
-leaves (AddRemote line before after) code old new h none =
-    either (has_room old.max_candidates old.agent.remote) (λ k. by k.0 k.2) (λ k. by_held old new old k.0.1 (refl, refl)) h where
-      by : (made : Made) → AddsMade AddsRemoteListed NOT_UTF8 made before after old code new → Leaves old new
-      by None k = by_held old new old k.0.1 (refl, refl)
-      by (Some (Err e)) k = by_held old new old k.0.1 (refl, refl)
-      by (Some (Ok made)) (x, does, puts, kept) = by_rest old new kept
+leaves (AddLocal c before after) code old new (made, makes, h) none = by made h where
+  by : (made : Made) → AddsMade (AddsLocalListed answers) BAD_ADDRESS made before after old code new → Leaves old new
+  by None k = by_held old new old k.0.1 (refl, refl)
+  by (Some (Err e)) k = by_held old new old k.0.1 (refl, refl)
+  by (Some (Ok made)) (x, does, puts, kept) = by_rest old new kept
+leaves (AddLocalLine line before after) code old new (made, makes, h) none = by made h where
+  by : (made : Made) → AddsMade (AddsLocalListed answers) NOT_UTF8 made before after old code new → Leaves old new
+  by None k = by_held old new old k.0.1 (refl, refl)
+  by (Some (Err e)) k = by_held old new old k.0.1 (refl, refl)
+  by (Some (Ok made)) (x, does, puts, kept) = by_rest old new kept
+leaves (AddRemote line before after) code old new (made, makes, h) none = by made h where
+  by : (made : Made) → AddsMade AddsRemoteListed NOT_UTF8 made before after old code new → Leaves old new
+  by None k = by_held old new old k.0.1 (refl, refl)
+  by (Some (Err e)) k = by_held old new old k.0.1 (refl, refl)
+  by (Some (Ok made)) (x, does, puts, kept) = by_rest old new kept
 leaves (InvalidateLocal c) code old new (made, makes, h) none = by made h where
   by : (made : Made) → CallsMade Discards found_code BAD_ADDRESS made old code new → Leaves old new
   by None k = by_held old new old k.1 (refl, refl)
@@ -101,7 +98,7 @@ leaves (Invalidate line) code old new (made, makes, h) none = by made h where
   by (Some (Err e)) k = by_held old new old k.1 (refl, refl)
   by (Some (Ok made)) (x, does, is, kept) = by_rest old new kept
 leaves (Restart u p keep) code old new (Ok creds, made, (r, restarted, is)) none =
-    (restarted.5, ap (λ (m : Monitor). m.seen.0) restarted.3 ∙ restarted_seen r old.agent old.monitor)
+    (restarted.4, ap (λ (m : Monitor). m.seen.0) restarted.2 ∙ restarted_seen r old.agent old.monitor)
 leaves (Restart u p keep) code old new (Err why, made, h) none = by_held old new old h.1 (refl, refl)
 leaves (HandlePacket now protocol source destination bytes) code old new h none = never (sym none)
 leaves (HandleTimeout now random) code old new h none = never (sym none)
@@ -165,7 +162,6 @@ IsTimeoutOf export call =
 
 pub timed_by : (export : Use) (call : Call Preference) → Makes export call → (logs.is_timeout call ≡ false) ⊎ IsTimeoutOf export call
 timed_by Ask call m = absurd m
-timed_by (SetMaxCandidates n) call m = absurd m
 timed_by (SetSilence n) call m = absurd m
 timed_by (SendFailed p s d r) call m = absurd m
 timed_by (SetSettings s) call m = absurd m
@@ -175,6 +171,7 @@ timed_by (SetRenomination enabled) call m = inl (ap calls_timeout m)
 timed_by (SetTieBreaker n) call m = inl (ap calls_timeout m)
 timed_by (SetMaxPairs n) call m = inl (ap calls_timeout m)
 timed_by (SetMaxDiscovered n) call m = inl (ap calls_timeout m)
+timed_by (SetMaxCandidates n) call m = inl (ap calls_timeout m)
 timed_by (SetTimingAdvance n) call m = inl (ap calls_timeout m)
 timed_by (SetInitialRto n) call m = inl (ap calls_timeout m)
 timed_by (SetMaxRto n) call m = inl (ap calls_timeout m)

@@ -68,7 +68,7 @@ pub use Rattle.is_theorems.specs.Shared.{BeforeEach, IsControlledSince, IsNewlyC
 pub use Rattle.is_agent.specs.Added.{AddsLocalListed, AddsRemoteListed}
 pub use Rattle.is_monitor.specs.Monitors.{next_silence}
 pub use Rattle.is_monitor.specs.declared.monitor.Monitor.{Monitor}
-pub use Rattle.is_c_calls.specs.Adding.{AddsMade, has_room}
+pub use Rattle.is_c_calls.specs.Adding.{AddsMade}
 pub use Rattle.is_c_calls.specs.Addresses.{protocol_of, socket_of}
 pub use Rattle.is_c_calls.specs.AgentSettings.{profile_of, settings_of}
 pub use Rattle.is_c_calls.specs.Candidates.{Builds, Constructs, is_over_tcp, Made, MakesCandidate, ReadsBytes, role_of, route_for}

@@ -83,7 +83,7 @@ module _ (turn : Turns) (law : Set) (creds : IceCreds) (tie_breaker from : ℕ) 
       → Paced (settings_onto settings log) (with_settings settings mid)
   settings_paced settings mid log some p =
       setters_paced (setters_of settings) mid (with_settings settings mid) log
-      (refl, (refl, (refl, (refl, (refl, (refl, (refl, (refl, (refl, (refl, tt)))))))))) p (turn mid settings any some)
+      (refl, (refl, (refl, (refl, (refl, (refl, (refl, (refl, (refl, (refl, (refl, tt))))))))))) p (turn mid settings any some)
 
   -- ---- each call
 

@@ -70,6 +70,7 @@ leaves_role (agent.SetMaxStunRto rto) = true
 leaves_role (agent.SetTimingAdvance by) = true
 leaves_role (agent.SetMaxCandidatePairs n) = true
 leaves_role (agent.SetMaxDiscovered limit) = true
+leaves_role (agent.SetMaxCandidates limit) = true
 leaves_role (agent.SetRenomination renominates) = true
 leaves_role _ = false
 
@@ -85,6 +86,7 @@ role_kept (agent.SetMaxStunRto rto) is old new s t e step = ap (λ (a : Held). a
 role_kept (agent.SetTimingAdvance by) is old new s t e step = ap (λ (a : Held). a.controlling) step.1
 role_kept (agent.SetMaxCandidatePairs n) is old new s t e step = ap (λ (a : Held). a.controlling) step.1
 role_kept (agent.SetMaxDiscovered limit) is old new s t e step = ap (λ (a : Held). a.controlling) step.1
+role_kept (agent.SetMaxCandidates limit) is old new s t e step = ap (λ (a : Held). a.controlling) step.1
 role_kept (agent.SetRenomination renominates) is old new s t e step = ap (λ (a : Held). a.controlling) step.1
 role_kept _ is old new s t e step = never is
 
@@ -93,7 +95,7 @@ AllLeave [] = Unit {0}
 AllLeave (call ∷ more) = (leaves_role call ≡ true) × AllLeave more
 
 all_leave : (settings : Settings) → AllLeave (setters_of settings)
-all_leave settings = (refl, (refl, (refl, (refl, (refl, (refl, (refl, (refl, (refl, (refl, tt))))))))))
+all_leave settings = (refl, (refl, (refl, (refl, (refl, (refl, (refl, (refl, (refl, (refl, (refl, tt)))))))))))
 
 -- an execution in which the agent is controlled in each state since the last restart, if this is so
 abbrev Calm : Type 0 → Held → Log → Held → Type 0

@@ -83,7 +83,6 @@ use_marks _ = (false, false)
 
 marked : (export : Use) (call : Call Preference) → Makes export call → marks call ≡ use_marks export
 marked Ask call m = absurd m
-marked (SetMaxCandidates n) call m = absurd m
 marked (SetSettings s) call m = absurd m
 marked (SetControlling role) call m = ap marks m
 marked (SetLite lite) call m = ap marks m
@@ -91,6 +90,7 @@ marked (SetRenomination enabled) call m = ap marks m
 marked (SetTieBreaker n) call m = ap marks m
 marked (SetMaxPairs n) call m = ap marks m
 marked (SetMaxDiscovered n) call m = ap marks m
+marked (SetMaxCandidates n) call m = ap marks m
 marked (SetTimingAdvance n) call m = ap marks m
 marked (SetInitialRto n) call m = ap marks m
 marked (SetMaxRto n) call m = ap marks m

@@ -168,7 +168,8 @@ ArePlain [] = Unit {0}
 ArePlain (call ∷ more) = IsPlain call × ArePlain more
 
 all_plain : (settings : Settings) → ArePlain (setters_of settings)
-all_plain settings = ((refl, refl), ((refl, refl), ((refl, refl), ((refl, refl), ((refl, refl), ((refl, refl), ((refl, refl), ((refl, refl), ((refl, refl), ((refl, refl), tt))))))))))
+all_plain settings =
+    ((refl, refl), ((refl, refl), ((refl, refl), ((refl, refl), ((refl, refl), ((refl, refl), ((refl, refl), ((refl, refl), ((refl, refl), ((refl, refl), ((refl, refl), tt)))))))))))
 
 module _ (paths : Paths) (trades : Trades) (z : Setting) (ns : List Note) (side : Side) (distinct : AreDistinct ns) where
   setters_mind : (more : List (Call Preference)) → ArePlain more → (old last : Held) → IsSound old → (z.ranked ≡ true → old.lite ≡ false) → Mind z ns side old

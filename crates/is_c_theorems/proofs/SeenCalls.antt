@@ -33,7 +33,6 @@ other_call call made answer old code is same =
 peer_step : (export : Use) (call : Call Preference) (answer : Answer) (code : ℤ) (old : Option IceCreds) → Makes export call → Answers export answer code
     → remote_after call answer old ≡ (if is_ok code then peer_by export old else old)
 peer_step Ask call answer code old m a = absurd m
-peer_step (SetMaxCandidates n) call answer code old m a = absurd m
 peer_step (SetSilence n) call answer code old m a = absurd m
 peer_step (SendFailed p s d r) call answer code old m a = absurd m
 peer_step (SetControlling role) call answer code old m a = other_call call _ answer old code m refl
@@ -42,6 +41,7 @@ peer_step (SetRenomination enabled) call answer code old m a = other_call call _
 peer_step (SetTieBreaker n) call answer code old m a = other_call call _ answer old code m refl
 peer_step (SetMaxPairs n) call answer code old m a = other_call call _ answer old code m refl
 peer_step (SetMaxDiscovered n) call answer code old m a = other_call call _ answer old code m refl
+peer_step (SetMaxCandidates n) call answer code old m a = other_call call _ answer old code m refl
 peer_step (SetTimingAdvance n) call answer code old m a = other_call call _ answer old code m refl
 peer_step (SetInitialRto n) call answer code old m a = other_call call _ answer old code m refl
 peer_step (SetMaxRto n) call answer code old m a = other_call call _ answer old code m refl
@@ -142,7 +142,6 @@ not_brought call made e at by m is none brings = absurd (none (subst (λ (c : Ca
 pub accepts : (export : Use) (call : Call Preference) (e : Entry) (code : ℤ) (at : ℕ) (by : Path) (m : Message) → Makes export call → Answers export e.answer code
     → Brings call e at by m → Accepts (used export code) by m
 accepts Ask call e code at by msg m a brings = absurd m
-accepts (SetMaxCandidates n) call e code at by msg m a brings = absurd m
 accepts (SetSilence n) call e code at by msg m a brings = absurd m
 accepts (SendFailed p s d r) call e code at by msg m a brings = absurd m
 accepts (HandlePacket now protocol source destination bytes) call e code at by msg (path, to, is) a brings = go (subst (λ (c : Call Preference). Brings c e at by msg) is brings) where
@@ -154,6 +153,7 @@ accepts (SetRenomination enabled) call e code at by msg m a brings = not_brought
 accepts (SetTieBreaker n) call e code at by msg m a brings = not_brought call _ e at by msg m (λ h. h) brings
 accepts (SetMaxPairs n) call e code at by msg m a brings = not_brought call _ e at by msg m (λ h. h) brings
 accepts (SetMaxDiscovered n) call e code at by msg m a brings = not_brought call _ e at by msg m (λ h. h) brings
+accepts (SetMaxCandidates n) call e code at by msg m a brings = not_brought call _ e at by msg m (λ h. h) brings
 accepts (SetTimingAdvance n) call e code at by msg m a brings = not_brought call _ e at by msg m (λ h. h) brings
 accepts (SetInitialRto n) call e code at by msg m a brings = not_brought call _ e at by msg m (λ h. h) brings
 accepts (SetMaxRto n) call e code at by msg m a brings = not_brought call _ e at by msg m (λ h. h) brings

@@ -56,7 +56,6 @@ other export call made answer code k is same none =
 
 sets_as : (export : Use) (call : Call Preference) (answer : Answer) (code : ℤ) (k : Chosen) → Makes export call → Answers export answer code → SetsAs export call answer code k
 sets_as Ask call answer code k m a = absurd m
-sets_as (SetMaxCandidates n) call answer code k m a = absurd m
 sets_as (SetSilence n) call answer code k m a = absurd m
 sets_as (SendFailed p s d r) call answer code k m a = absurd m
 sets_as (SetSettings s) call answer code k m a = absurd m
@@ -66,6 +65,7 @@ sets_as (SetRenomination enabled) call answer code k m a = sure (SetRenomination
 sets_as (SetTieBreaker n) call answer code k m a = sure (SetTieBreaker n) call _ answer code k m (ap is_ok a.1) refl
 sets_as (SetMaxPairs n) call answer code k m a = sure (SetMaxPairs n) call _ answer code k m (ap is_ok a.1) refl
 sets_as (SetMaxDiscovered n) call answer code k m a = sure (SetMaxDiscovered n) call _ answer code k m (ap is_ok a.1) (search)
+sets_as (SetMaxCandidates n) call answer code k m a = sure (SetMaxCandidates n) call _ answer code k m (ap is_ok a.1) (search)
 sets_as (SetTimingAdvance n) call answer code k m a = sure (SetTimingAdvance n) call _ answer code k m (ap is_ok a.1) refl
 sets_as (SetInitialRto n) call answer code k m a = sure (SetInitialRto n) call _ answer code k m (ap is_ok a.1) refl
 sets_as (SetMaxRto n) call answer code k m a = sure (SetMaxRto n) call _ answer code k m (ap is_ok a.1) (search)
@@ -102,6 +102,7 @@ keeps_none (SetRenomination x) code k none = unset (is_ok code) _ k (none refl)
 keeps_none (SetTieBreaker x) code k none = unset (is_ok code) _ k (none refl)
 keeps_none (SetMaxPairs x) code k none = unset (is_ok code) _ k (none refl)
 keeps_none (SetMaxDiscovered x) code k none = unset (is_ok code) _ k (none refl)
+keeps_none (SetMaxCandidates x) code k none = unset (is_ok code) _ k (none refl)
 keeps_none (SetTimingAdvance x) code k none = unset (is_ok code) _ k (none refl)
 keeps_none (SetInitialRto x) code k none = unset (is_ok code) _ k (none refl)
 keeps_none (SetMaxRto x) code k none = unset (is_ok code) _ k (none refl)
@@ -203,7 +204,7 @@ numbering_along first log none plain = ap (λ (set : Bool × Bool). set.1) (both
 -- no setter restarts
 set_modern : (settings : Settings) (log : Log) → IsModernAtRestart log → IsModernAtRestart (settings_onto settings log)
 set_modern settings log was =
-    inr (refl, inr (refl, inr (refl, inr (refl, inr (refl, inr (refl, inr (refl, inr (refl, inr (refl, inr (refl, was))))))))))
+    inr (refl, inr (refl, inr (refl, inr (refl, inr (refl, inr (refl, inr (refl, inr (refl, inr (refl, inr (refl, inr (refl, was)))))))))))
 
 -- the settings of a new agent, before it gets those of `Modern`
 abbrev pub new_settings : Chosen
@@ -259,7 +260,7 @@ module _ (keeps : Use → Bool) (full : (lite : Bool) → keeps (SetLite lite) �
       ∙ (ap (λ (k : Chosen). k.lite) (sets_as u.export x.call x.entry.answer u.code some of.makes of.answers) ∙ leaves_full u.export u.code is))
 
   all_full : (settings : Settings) (log : Log) → NeverLite log → NeverLite (settings_onto settings log)
-  all_full settings log full = (refl, (refl, (refl, (refl, (refl, (refl, (refl, (refl, (refl, (refl, full))))))))))
+  all_full settings log full = (refl, (refl, (refl, (refl, (refl, (refl, (refl, (refl, (refl, (refl, (refl, full)))))))))))
 
   pub never_lite : (uses : List Used) (log : Log) → IsLogOf uses log → EachKeeps keeps uses → NeverLite log
   never_lite [] log is each = subst (λ (l : Log). NeverLite l) (sym is) (all_full modern_settings [] tt)

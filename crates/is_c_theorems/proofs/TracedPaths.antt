@@ -52,7 +52,7 @@ setters_answer (call ∷ more) log path k = by (setters_answer more (record { nu
   by (inr was) = was
 
 issued_after : (settings : Settings) (log : Log) (path : Path) (id : List ℕ) → Issued_in log path id → Issued_in (settings_onto settings log) path id
-issued_after settings log path id sent = inr (inr (inr (inr (inr (inr (inr (inr (inr (inr sent)))))))))
+issued_after settings log path id sent = inr (inr (inr (inr (inr (inr (inr (inr (inr (inr (inr sent))))))))))
 
 -- an agent of which only the role was set accepted none
 open_unanswered : (path : Path) (uses : List Used) (log : Log) → IsLogOf uses log → EachKeeps sets_role uses → AnsweredIn log path → ⊥

@@ -6,7 +6,7 @@ use Rattle.is_c_calls.specs.declared.packets.Packet.{Packet}
 use Rattle.is_c_theorems.proofs.Common.{[], ◌&&◌, ◌++◌, ◌==◌, ◌∙◌, ◌∷◌, ◌≡◌, ◌⊎◌, AddLocal, AddLocalLine, AddRemote, AddsLocalListed}
 use Rattle.is_c_theorems.proofs.Common.{AddsMade, AddsRemoteListed, answers, ap, Ask, BAD_ADDRESS, Bool, Call, CallsMade, Discards, Does}
 use Rattle.is_c_theorems.proofs.Common.{drop, Entry, Err, false, FixTimes, found_code, Gets, GivesOf, HandlePacket, HandlesDatagram}
-use Rattle.is_c_theorems.proofs.Common.{HandleTimeout, Has, has_room, Held, HeldRecord, if◌then◌else◌, inl, inr, Invalidate}
+use Rattle.is_c_theorems.proofs.Common.{HandleTimeout, Has, Held, HeldRecord, if◌then◌else◌, inl, inr, Invalidate}
 use Rattle.is_c_theorems.proofs.Common.{InvalidateLocal, is_modern, is_ok, IsQueued, IsReported, Issued, IsToPoll, keeps_role, length, List}
 use Rattle.is_c_theorems.proofs.Common.{mac_of, Made, Makes, nat_lt, None, NOT_UTF8, NotesFailure, Ok, Option, option_and_then, option_map}
 use Rattle.is_c_theorems.proofs.Common.{packet_path, Path, PollEvent, PollTimeout, PollTransmit, Preference, QueuesPackets, RecreatePairs}
@@ -84,17 +84,17 @@ waits (SetLocalCredentials u p) code old new (Ok creds, made, (x, does, is, kept
 waits (SetLocalCredentials u p) code old new (Err why, made, h) np nr = by_held old new old h.1 refl
 waits (SetRemoteCredentials u p) code old new (Ok creds, made, (x, does, is, kept)) np nr = kept.0
 waits (SetRemoteCredentials u p) code old new (Err why, made, h) np nr = by_held old new old h.1 refl
-waits (AddLocal c before after) code old new h np nr = either (has_room old.max_candidates old.agent.local) (λ k. by k.0 k.2) (λ k. by_held old new old k.0.1 refl) h where
+waits (AddLocal c before after) code old new (made, makes, h) np nr = by made h where
   by : (made : Made) → AddsMade (AddsLocalListed answers) BAD_ADDRESS made before after old code new → new.waiting ≡ old.waiting
   by None k = by_held old new old k.0.1 refl
   by (Some (Err e)) k = by_held old new old k.0.1 refl
   by (Some (Ok made)) (x, does, puts, kept) = kept.0
-waits (AddLocalLine line before after) code old new h np nr = either (has_room old.max_candidates old.agent.local) (λ k. by k.0 k.2) (λ k. by_held old new old k.0.1 refl) h where
+waits (AddLocalLine line before after) code old new (made, makes, h) np nr = by made h where
   by : (made : Made) → AddsMade (AddsLocalListed answers) NOT_UTF8 made before after old code new → new.waiting ≡ old.waiting
   by None k = by_held old new old k.0.1 refl
   by (Some (Err e)) k = by_held old new old k.0.1 refl
   by (Some (Ok made)) (x, does, puts, kept) = kept.0
-waits (AddRemote line before after) code old new h np nr = either (has_room old.max_candidates old.agent.remote) (λ k. by k.0 k.2) (λ k. by_held old new old k.0.1 refl) h where
+waits (AddRemote line before after) code old new (made, makes, h) np nr = by made h where
   by : (made : Made) → AddsMade AddsRemoteListed NOT_UTF8 made before after old code new → new.waiting ≡ old.waiting
   by None k = by_held old new old k.0.1 refl
   by (Some (Err e)) k = by_held old new old k.0.1 refl
@@ -147,7 +147,6 @@ is_poll _ = false
 
 pub not_poll : (export : Use) (call : Call Preference) → Makes export call → is_polling export ≡ false → is_poll call ≡ false
 not_poll Ask call m none = absurd m
-not_poll (SetMaxCandidates n) call m none = absurd m
 not_poll (SetSilence n) call m none = absurd m
 not_poll (SendFailed p s d r) call m none = absurd m
 not_poll (SetControlling role) call m none = ap is_poll m
@@ -156,6 +155,7 @@ not_poll (SetRenomination enabled) call m none = ap is_poll m
 not_poll (SetTieBreaker n) call m none = ap is_poll m
 not_poll (SetMaxPairs n) call m none = ap is_poll m
 not_poll (SetMaxDiscovered n) call m none = ap is_poll m
+not_poll (SetMaxCandidates n) call m none = ap is_poll m
 not_poll (SetTimingAdvance n) call m none = ap is_poll m
 not_poll (SetInitialRto n) call m none = ap is_poll m
 not_poll (SetMaxRto n) call m none = ap is_poll m

@@ -42,7 +42,7 @@ Makes (SetRenomination enabled) call = call ≡ agent.SetRenomination enabled
 Makes (SetTieBreaker tie_breaker) call = call ≡ agent.SetControlTieBreaker tie_breaker
 Makes (SetMaxPairs limit) call = call ≡ agent.SetMaxCandidatePairs limit
 Makes (SetMaxDiscovered limit) call = call ≡ agent.SetMaxDiscovered (limit_of limit)
-Makes (SetMaxCandidates limit) call = ⊥
+Makes (SetMaxCandidates limit) call = call ≡ agent.SetMaxCandidates (limit_of limit)
 Makes (SetTimingAdvance by) call = call ≡ agent.SetTimingAdvance by
 Makes (SetInitialRto rto) call = call ≡ agent.SetInitialStunRto rto
 Makes (SetMaxRto rto) call = call ≡ agent.SetMaxStunRto rto
@@ -105,6 +105,7 @@ Answers (SetRenomination enabled) answer code = Succeeds answer code
 Answers (SetTieBreaker tie_breaker) answer code = Succeeds answer code
 Answers (SetMaxPairs limit) answer code = Succeeds answer code
 Answers (SetMaxDiscovered limit) answer code = Succeeds answer code
+Answers (SetMaxCandidates limit) answer code = Succeeds answer code
 Answers (SetTimingAdvance by) answer code = Succeeds answer code
 Answers (SetInitialRto rto) answer code = Succeeds answer code
 Answers (SetMaxRto rto) answer code = Succeeds answer code
@@ -122,7 +123,6 @@ pub record IsOf (u : Used) (x : Logged Preference) : Type 0 where
 -- These make a transition of the agent whenever they return OK: what C sets, restarts, and pairs that are formed again.
 abbrev pub counts : Use → Bool
 counts Ask = false
-counts (SetMaxCandidates limit) = false
 counts (SetSilence n) = false
 counts (AddLocal c before after) = false
 counts (AddLocalLine line before after) = false

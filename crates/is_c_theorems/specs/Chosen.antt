@@ -9,7 +9,7 @@ use Rattle.is_c_calls.specs.Held.{HeldRecord}
 use Rattle.is_c_calls.specs.Limits.{limit_of}
 use Rattle.is_c_calls.specs.Making.{fresh_held}
 use Rattle.is_c_calls.specs.Sessions.{Used, Session, is_ok}
-use Rattle.is_c_calls.specs.Uses.{Use, SetLite, SetRenomination, SetTieBreaker, SetMaxPairs, SetMaxDiscovered, SetTimingAdvance, SetInitialRto, SetMaxRto, SetLiteTimeout, SetMaxRetransmits, SetMtu, SetPreference, SetSettings}
+use Rattle.is_c_calls.specs.Uses.{Use, SetLite, SetRenomination, SetTieBreaker, SetMaxPairs, SetMaxDiscovered, SetMaxCandidates, SetTimingAdvance, SetInitialRto, SetMaxRto, SetLiteTimeout, SetMaxRetransmits, SetMtu, SetPreference, SetSettings}
 
 -- ---- the settings
 
@@ -23,6 +23,7 @@ sets (SetMaxRetransmits limit) old = record old { settings = record old.settings
 sets (SetLiteTimeout by) old = record old { settings = record old.settings { lite_timeout = record { 0 = by } } }
 sets (SetMaxPairs limit) old = record old { settings = record old.settings { max_pairs = limit } }
 sets (SetMaxDiscovered limit) old = record old { settings = record old.settings { max_discovered = limit_of limit } }
+sets (SetMaxCandidates limit) old = record old { settings = record old.settings { max_candidates = limit_of limit } }
 sets (SetRenomination enabled) old = record old { settings = record old.settings { renomination = enabled } }
 sets (SetLite lite) old = record old { lite = lite }
 sets (SetTieBreaker tie_breaker) old = record old { tie_breaker = tie_breaker }

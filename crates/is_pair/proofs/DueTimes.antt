@@ -3,3 +3,4 @@ pub mod FirstDuePair
 pub mod EarlyTime
 pub mod LaterAfterCheck
 pub mod CountOfDuePairs
+pub mod ChecksLeft

@@ -1,5 +1,5 @@
 -- When a pair is due for its next check, and when it fails.
-use Rattle.std.specs.Prelude.{[], ◌≡◌, ℕ, ◌<◌, ◌≤◌, ◌-◌, ◌*◌, ◌==◌, ◌&&◌, ◌||◌, ◌⊎◌, Bool, true, false, not, nat_lt, nat_le, min, max, List, length, Option}
+use Rattle.std.specs.Prelude.{[], ◌≡◌, ℕ, ◌<◌, ◌≤◌, ◌+◌, ◌-◌, ◌*◌, ◌==◌, ◌&&◌, ◌||◌, ◌⊎◌, Bool, true, false, not, nat_lt, nat_le, min, max, List, length, Option}
 use Rattle.std.specs.Prelude.{Some, None, unwrap_or, option_map, if◌then◌else◌}
 use Rattle.std.specs.Option.{option_map_or}
 use Rattle.is_proto.specs.Lists.{Has, NonePass}
@@ -11,7 +11,7 @@ use Rattle.is_pair.specs.declared.pair.states.NominationState.{NominationState}
 use Rattle.is_pair.specs.declared.pair.states.NominationState.TheVariants.{None as Unnominated, Nominated, Attempt, Success}
 use Rattle.is_pair.specs.Checks.{Check, last_check, last_round_trip, unanswered_count, first_unanswered}
 use Rattle.is_pair.specs.States.{is_nominating}
-use Rattle.is_pair.specs.Pairs.{PairRecord, is_nominated, is_valid, is_recent, is_lite_alive}
+use Rattle.is_pair.specs.Pairs.{PairRecord, is_nominated, is_valid, is_lite_alive}
 
 -- ---- when it is due
 
@@ -30,10 +30,6 @@ delaying_count now t checks = if is_silent now t checks then unanswered_count ch
 -- the RTO after the last check
 abbrev pub usual_delay : ℕ → StunTiming → List Check → ℕ
 usual_delay now t checks = resend_delay t (delaying_count now t checks)
-
--- less time has passed since the pair's first check than a whole series of checks takes
-abbrev pub is_young : ℕ → StunTiming → PairRecord → Bool
-is_young now t p = option_map_or (λ at. nat_lt now (later at (timeout_of t))) p.first_sent false
 
 -- how long a pair is at its beginning
 abbrev pub BEGINNING : ℕ
@@ -167,43 +163,46 @@ is_urgent_by now by t p = is_urgent p && nat_le (due_time_of now t p) by
 
 -- ---- when it fails
 
--- a check from the peer arrived less than 15 s ago
-abbrev pub is_heard : ℕ → PairRecord → Bool
-is_heard now p = option_map_or (is_recent now) p.last_request false
+-- fewer than `max_retransmits` checks have no response
+abbrev pub has_checks_left : StunTiming → PairRecord → Bool
+has_checks_left t p = nat_lt (unanswered_count p.checks) t.max_retransmits
 
--- the response to the last check may still arrive in time
-abbrev pub is_in_time : ℕ → StunTiming → List Check → Bool
-is_in_time now t checks = option_map_or (λ c. nat_lt now (later c.sent (last_resend_delay t))) (last_check checks) false
+-- 15 s after the peer's last check, also if that is after `MAX`
+abbrev pub request_end : PairRecord → ℕ
+request_end p = option_map_or (λ at. at + 15 * SECOND) p.last_request 0
 
--- less time has passed since the first check without a response than a whole series of checks takes
-abbrev pub is_early_silence : ℕ → StunTiming → List Check → Bool
-is_early_silence now t checks = option_map_or (λ c. nat_lt now (later c.sent (timeout_of t))) (first_unanswered checks) false
+-- until then the response to the last check may come
+abbrev pub response_end : StunTiming → List Check → ℕ
+response_end t checks = option_map_or (λ c. later c.sent (last_resend_delay t)) (last_check checks) 0
 
--- less time has passed than a whole series of checks takes: since the first check if there was no response, unless that followed a request;
--- otherwise since the first one without
-abbrev pub is_within_series : ℕ → StunTiming → PairRecord → Bool
-is_within_series now t p = if p.answers == 0 then not (is_asked_first p) && is_young now t p else is_early_silence now t p.checks
+-- when the checks without a response began: with the first check if there was no response, unless that check followed a request; otherwise
+-- with the first one without
+abbrev pub series_start : PairRecord → Option ℕ
+series_start p =
+    if p.answers == 0
+    then (if is_asked_first p then None else p.first_sent)
+    else option_map (λ c. c.sent) (first_unanswered p.checks)
 
--- While checks are repeated early, time counts and not their number: so no pair ends sooner.
-abbrev pub has_early_checks : ℕ → StunTiming → PairRecord → Bool
-has_early_checks now t p = is_modern t && is_within_series now t p
+-- With the profile `Modern` checks are repeated early. So their time counts, and not only their number: that of a whole series.
+abbrev pub series_end : StunTiming → PairRecord → ℕ
+series_end t p = if is_modern t then option_map_or (λ at. later at (timeout_of t)) (series_start p) 0 else 0
 
--- a check from the peer arrived, or not so many checks had no response, or the response to the last one may still arrive
-abbrev pub is_open : ℕ → StunTiming → PairRecord → Bool
-is_open now t p =
-    is_heard now p
-    || nat_lt (length p.checks) t.max_retransmits
-    || nat_lt (unanswered_count p.checks) t.max_retransmits
-    || is_in_time now t p.checks
+-- until then a pair is kept if no checks are left: the last of the three
+abbrev pub possible_until : StunTiming → PairRecord → ℕ
+possible_until t p = max (request_end p) (max (response_end t p.checks) (series_end t p))
 
 abbrev pub is_possible : ℕ → StunTiming → PairRecord → Bool
-is_possible now t p = has_early_checks now t p || is_open now t p
+is_possible now t p = has_checks_left t p || nat_lt now (possible_until t p)
 
 -- ---- consent (RFC 7675, section 5.1)
 
 -- the last check that got a response was sent recently enough; without a response, consent does not end
 abbrev pub is_answered_lately : Consent → ℕ → PairRecord → Bool
 is_answered_lately c now p = option_map_or (λ at. nat_lt now (later at c.timeout.0)) p.consented true
+
+-- a check from the peer arrived less than 15 s ago
+abbrev pub is_heard : ℕ → PairRecord → Bool
+is_heard now p = nat_lt now (request_end p)
 
 -- Unless consent is strict, the peer's checks keep it too.
 abbrev pub has_consent : Option Consent → ℕ → PairRecord → Bool
@@ -217,7 +216,7 @@ stays_answered (Some c) now p = is_answered_lately c now p
 
 -- how long the peer's last check keeps consent
 abbrev pub heard_until : Consent → PairRecord → ℕ
-heard_until c p = if c.strict then 0 else option_map_or (λ at. later at (15 * SECOND)) p.last_request 0
+heard_until c p = if c.strict then 0 else min (request_end p) MAX
 
 -- when consent ends if nothing arrives
 abbrev pub consent_end : Consent → PairRecord → ℕ

@@ -1,8 +1,8 @@
 -- A candidate pair (RFC 8445, section 6.1.2), and its state after each operation. Times and durations are in
 -- nanoseconds.
-use Rattle.std.specs.Prelude.{◌≡◌, ℕ, ◌+◌, ◌-◌, ◌*◌, ◌==◌, Bool, true, false, length, nat_lt, max, min, List, [], ◌∷◌, ◌++◌, slice_set, Option, Some, None, unwrap_or, if◌then◌else◌}
+use Rattle.std.specs.Prelude.{◌≡◌, ℕ, ◌+◌, ◌-◌, ◌==◌, Bool, true, false, length, nat_lt, max, min, List, [], ◌∷◌, ◌++◌, slice_set, Option, Some, None, unwrap_or, if◌then◌else◌}
 use Rattle.std.specs.Option.{option_map_or}
-use Rattle.is_proto.specs.Times.{SECOND, counted, later}
+use Rattle.is_proto.specs.Times.{counted, later}
 use Rattle.is_stun.specs.declared.timing.StunTiming.{StunTiming}
 use Rattle.is_pair.specs.declared.pair.states.CheckState.{CheckState}
 use Rattle.is_pair.specs.declared.pair.states.CheckState.TheVariants.{Waiting, Succeeded}
@@ -190,10 +190,6 @@ answered now place c p = once_answered now c (record p { checks = slice_set p.ch
 abbrev pub TakesAnswer : PairRecord → ℕ → List ℕ → PairRecord → Type 0
 TakesAnswer old now id new =
     (place : ℕ) × (c : Check) × IsCheckAt old.checks id place c × (new ≡ answered now place c old)
-
--- whether a check from the peer that arrived at `at` is less than 15 s old
-abbrev pub is_recent : ℕ → ℕ → Bool
-is_recent now at = nat_lt (now - at) (15 * SECOND)
 
 -- on an ICE-lite agent, a pair fails if a check from the peer arrived, but none within the timeout
 abbrev pub is_lite_alive : ℕ → StunTiming → PairRecord → Bool

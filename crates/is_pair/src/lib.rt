@@ -6,7 +6,7 @@ pub mod pair;
 pub mod theorems;
 
 pub use pair::due::{
-    due_time_of, is_scheduled, is_urgent, move_next, reset_next_binding_attempt, trigger,
+    due_time_of, is_scheduled, is_urgent, move_next, reset_next_binding_attempt, schedule_triggered,
 };
 pub use pair::replacing::take_over;
 pub use pair::silence::{

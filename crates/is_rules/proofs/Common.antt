@@ -62,7 +62,7 @@ pub use Rattle.is_rules.specs.Restarting.{is_selection, with_ufrag}
 pub use Rattle.is_rules.specs.Roles.{conflict_of, switched, switched_sides, with_priority_in}
 pub use Rattle.is_rules.specs.Serving.{Drops, is_487, is_admitted, is_for_other_peer, is_misled, needs_pair_at, nominated_by_peer}
 pub use Rattle.is_rules.specs.Serving.{numbered_by_peer, pair_added, pair_number, pair_served, Replies, request_counted, role_after}
-pub use Rattle.is_rules.specs.Serving.{selects_at_requests, sender_added, sender_index, SendsRoleConflict, served, Serves, trigger_time}
+pub use Rattle.is_rules.specs.Serving.{selects_at_requests, sender_added, sender_index, SendsRoleConflict, served, Serves, triggered_time}
 pub use Rattle.is_rules.specs.Serving.{validated_by_peer, with_sender, with_sender_at}
 pub use Rattle.is_rules.specs.Shares.{AreSums, EvictsSomeOfMost, is_low_of_kind, lowered, Takes, TakesInTurn}
 pub use Rattle.is_rules.specs.Slots.{address_number, AreHeld, IsHeld, slot_of}

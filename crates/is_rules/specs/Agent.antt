@@ -24,6 +24,8 @@ pub record AgentRecord (H P : Type 0) : Type 0 where
   pub max_pairs : ℕ
   -- the limit on candidates that packets bring, of each side
   pub max_discovered : Option ℕ
+  -- the limit on candidates that the program adds, of each side
+  pub max_candidates : Option ℕ
   pub timing : StunTiming
   pub timing_advance : ℕ
   pub lite : Bool
@@ -98,6 +100,7 @@ module _ {H P : Type 0} where
     preference = None;
     max_pairs = 100;
     max_discovered = None;
+    max_candidates = None;
     timing = default_timing;
     timing_advance = 50 * MILLISECOND;
     lite = false;

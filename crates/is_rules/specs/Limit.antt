@@ -1,5 +1,5 @@
--- The limit on candidates that received packets bring (`set_max_discovered`): remote ones by requests, local ones by responses. And
--- the place that an unknown sender gets.
+-- The limit on candidates that the program adds (`set_max_candidates`), and that on candidates that received packets bring
+-- (`set_max_discovered`): remote ones by requests, local ones by responses. And the place that an unknown sender gets.
 use Rattle.std.specs.Prelude.{◌≡◌, ℕ, ◌==◌, ◌<◌, ◌-◌, ◌&&◌, ◌||◌, Bool, true, false, not, nat_lt, List, length, drop, count_by}
 use Rattle.std.specs.Prelude.{Option, Some, None, MatchBool, ◌⊎◌}
 use Rattle.std.specs.List.{list_any}
@@ -14,16 +14,25 @@ use Rattle.is_rules.specs.declared.emitted.Path.{Path}
 use Rattle.is_rules.specs.declared.places.RemotePlace.{RemotePlace}
 use Rattle.is_rules.specs.declared.places.RemotePlace.TheVariants.{Known, Barred, Unknown, Vacant, Full}
 use Rattle.is_rules.specs.Agent.{AgentRecord}
+use Rattle.is_rules.specs.Forming.{is_alive}
 use Rattle.is_rules.specs.Places.{is_at, IsRemotePlace}
 use Rattle.is_rules.specs.Request.{RequestRecord}
+
+-- The number is below the limit. Without a limit each is.
+abbrev pub is_below : Option ℕ → ℕ → Bool
+is_below limit n = option_map_or (λ most. nat_lt n most) limit true
+
+-- ---- candidates that the program adds
+
+-- As many candidates of the side are listed as the limit allows. Discarded ones are not listed.
+abbrev pub is_full : Option ℕ → List CandidateRecord → Bool
+is_full limit cs = not (is_below limit (count_by is_alive cs))
+
+-- ---- remote candidates that requests bring
 
 -- How many remote candidates requests brought. Discarded ones count, since they stay in the list.
 abbrev pub discovered_count : List CandidateRecord → ℕ
 discovered_count remote = count_by is_temporary remote
-
--- One more candidate may be brought. Without a limit it always may.
-abbrev pub is_below : Option ℕ → ℕ → Bool
-is_below limit n = option_map_or (λ most. nat_lt n most) limit true
 
 abbrev pub has_room : Option ℕ → List CandidateRecord → Bool
 has_room limit remote = is_below limit (discovered_count remote)

@@ -1,5 +1,5 @@
 -- Local candidates (RFC 8445, section 5.1; RFC 8838, section 10).
-use Rattle.std.specs.Prelude.{◌≡◌, ℕ, ◌==◌, ◌&&◌, Bool, false, not, nat_lt, List, [], ◌∷◌, ◌++◌, length, position, count_by, slice_get}
+use Rattle.std.specs.Prelude.{◌≡◌, ℕ, ◌==◌, ◌&&◌, ◌||◌, Bool, false, not, nat_lt, List, [], ◌∷◌, ◌++◌, length, position, count_by, slice_get}
 use Rattle.std.specs.Prelude.{Option, Some, None, Result, Ok, Err, IsOkAnd, MatchBool}
 use Rattle.std.specs.Option.{option_and_then, option_copied}
 use Rattle.std.specs.Borrow.{Bor}
@@ -17,6 +17,7 @@ use Rattle.is_rules.specs.declared.emitted.Emitted.{Emitted}
 use Rattle.is_rules.specs.Agent.{AgentRecord}
 use Rattle.is_rules.specs.Discarding.{change_place, local_discarded}
 use Rattle.is_rules.specs.Forming.{HasNumbers, partners, local_combinations, FormsAll}
+use Rattle.is_rules.specs.Limit.{is_full}
 use Rattle.is_rules.specs.StateUpdates.{ReselectsAfter}
 
 -- If both candidates have the greatest priority, no pair priority fits into 64 bits.
@@ -95,9 +96,9 @@ module _ {H P : Type 0} where
 
   -- ---- the call
 
-  -- A lite agent has only host candidates (RFC 8445, section 5.2).
+  -- A lite agent has only host candidates (RFC 8445, section 5.2). No agent has more than its limit.
   abbrev pub is_unwanted : AgentRecord H P → CandidateRecord → Bool
-  is_unwanted a c = a.lite && not (same_kind c.kind Host)
+  is_unwanted a c = (a.lite && not (same_kind c.kind Host)) || is_full a.max_candidates a.local
 
   abbrev pub Prefers : (P → CandidateRecord → ℕ → ℕ → Type 0) → AgentRecord H P → CandidateRecord → ℕ → Type 0
   Prefers answers a c preference = MayPrefer answers a.preference c (count_alike c a.local) preference

@@ -12,6 +12,7 @@ use Rattle.is_pair.specs.Pairs.{PairRecord}
 use Rattle.is_rules.specs.declared.credentials.IceCreds.{IceCreds}
 use Rattle.is_rules.specs.Agent.{AgentRecord}
 use Rattle.is_rules.specs.Forming.{HasNumbers, partners, remote_combinations, FormsAll}
+use Rattle.is_rules.specs.Limit.{is_full}
 
 -- The candidate has another username fragment than the peer.
 abbrev pub has_other_ufrag : Option IceCreds → Option (List ℕ) → Bool
@@ -42,7 +43,8 @@ place_or_end (Some place) cs = place
 module _ {H P : Type 0} where
   abbrev pub is_ignored : AgentRecord H P → CandidateRecord → Bool
   is_ignored a c =
-      not (c.component == 1) || has_other_ufrag a.remote_creds c.ufrag || list_any (has_equivalent a.remote c) a.pairs
+      is_full a.max_candidates a.remote || not (c.component == 1) || has_other_ufrag a.remote_creds c.ufrag
+      || list_any (has_equivalent a.remote c) a.pairs
 
   abbrev pub with_remote : CandidateRecord → Option ℕ → AgentRecord H P → AgentRecord H P
   with_remote c place a = record a { remote = stored c place a.remote }

@@ -169,12 +169,12 @@ module _ {H P : Type 0} where
   pair_added l r None s = if (candidate_at s.local l).discarded then s else with_pair (formed s l r) s
 
   -- when a request triggers a check: at once, and not before the last `handle_timeout` call
-  abbrev pub trigger_time : RequestRecord → AgentRecord H P → ℕ
-  trigger_time q s = max q.time (unwrap_or s.last_time 0)
+  abbrev pub triggered_time : RequestRecord → AgentRecord H P → ℕ
+  triggered_time q s = max q.time (unwrap_or s.last_time 0)
 
   -- the pair after the request
   abbrev pub after_request : RequestRecord → AgentRecord H P → PairRecord → PairRecord
-  after_request q s p = served s.controlling s.lite (as_taken (numbers s) q) (triggered (is_modern s.timing) (trigger_time q s) p)
+  after_request q s p = served s.controlling s.lite (as_taken (numbers s) q) (triggered (is_modern s.timing) (triggered_time q s) p)
 
   abbrev pub pair_served : RequestRecord → ℕ → AgentRecord H P → AgentRecord H P
   pair_served q number s = record s {
@@ -259,7 +259,7 @@ module _ {H P : Type 0} where
         let s5 = pair_served q number s4 in
         (path : Option Path) × (s6 : AgentRecord H P)
         × NominatesWhere (evaluates_at number s4) s5 path s6
-        × Replies q (path_between s4 at.local r) path (state_updated (is_some path) (trigger_time q s4) s6) emitted new))))
+        × Replies q (path_between s4 at.local r) path (state_updated (is_some path) (triggered_time q s4) s6) emitted new))))
 
     -- A request is dropped if it names another peer, or if no local candidate received it. Otherwise a number is left for the pair that it may
     -- need, and it is served at the places that are chosen.

@@ -24,6 +24,7 @@ original_settings = record {
   consent = default_timing.consent;
   max_pairs = 100;
   max_discovered = None;
+  max_candidates = None;
   renomination = false;
 }
 
@@ -34,6 +35,7 @@ modern_settings = record original_settings {
   max_rto = record { 0 = 2900 * MILLISECOND };
   max_retransmits = 11;
   max_discovered = Some 32;
+  max_candidates = Some 100;
 }
 
 module _ {H P : Type 0} where
@@ -49,6 +51,7 @@ module _ {H P : Type 0} where
     consent = a.timing.consent;
     max_pairs = a.max_pairs;
     max_discovered = a.max_discovered;
+    max_candidates = a.max_candidates;
     renomination = a.renominates;
   }
 
@@ -93,6 +96,7 @@ module _ {H P : Type 0} where
         timing_advance = s.timing_advance.0;
         max_pairs = s.max_pairs;
         max_discovered = s.max_discovered;
+        max_candidates = s.max_candidates;
         renominates = s.renomination;
       }
 

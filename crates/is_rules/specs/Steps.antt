@@ -35,6 +35,7 @@ pub data Call (P : Type 0) : Type 0 where
   SetControlTieBreaker : ℕ → Call P
   SetMaxCandidatePairs : ℕ → Call P
   SetMaxDiscovered : Option ℕ → Call P
+  SetMaxCandidates : Option ℕ → Call P
   SetIceLite : Bool → Call P
   SetRenomination : Bool → Call P
   SetProfile : Profile → Call P
@@ -153,6 +154,7 @@ module _ {H P : Type 0} (mac : H → List ℕ → List ℕ → List ℕ) (answer
   Step old s (SetControlTieBreaker tie_breaker) e new t = Becomes (record old { tie_breaker = tie_breaker }) s e new t
   Step old s (SetMaxCandidatePairs n) e new t = Becomes (record old { max_pairs = n }) s e new t
   Step old s (SetMaxDiscovered limit) e new t = Becomes (record old { max_discovered = limit }) s e new t
+  Step old s (SetMaxCandidates limit) e new t = Becomes (record old { max_candidates = limit }) s e new t
   Step old s (SetIceLite lite) e new t = Becomes (record old { lite = lite }) s e new t
   Step old s (SetRenomination renominates) e new t = Becomes (record old { renominates = renominates }) s e new t
   Step old s (SetProfile profile) e new t = Becomes (with_profile profile old) s e new t

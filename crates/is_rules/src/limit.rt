@@ -1,15 +1,17 @@
-//! The limit on remote candidates that requests bring, and on local ones that responses bring; and the place that an unknown sender
-//! gets under it.
+//! The limit on candidates that the program adds, and that on remote candidates that requests bring and on local ones that responses
+//! bring; and the place that an unknown sender gets under it.
 
-ghost use Rattle.std.specs.Prelude.{◌≡◌, ◌<◌, drop, length};
+ghost use Rattle.std.specs.Prelude.{◌≡◌, ◌<◌, count_by, drop, length};
 ghost use Rattle.is_pair.specs.Checklists.{multiset_of};
+ghost use Rattle.is_rules.specs.Forming.{is_alive};
 ghost use Rattle.is_rules.specs.RequestView.{request_view};
-ghost use Rattle.is_rules.specs.Limit.{discovered_count, is_below, has_room, has_local_room, is_mapped, is_vacant, mapped_count, IsVacancy, IsRoom, IsPlaceOf, newest};
+ghost use Rattle.is_rules.specs.Limit.{discovered_count, is_below, is_full, has_room, has_local_room, is_mapped, is_vacant, mapped_count, IsVacancy, IsRoom, IsPlaceOf, newest};
 
 use crate::accepting::Source;
 use crate::places::{RemotePlace, candidate_at, remote_place};
 use crate::request::Request;
 use is_candidate::candidate::equality::is_temporary;
+use is_candidate::candidate::internals::is_discarded;
 use is_candidate::candidate::kind::same_kind;
 use is_candidate::{Candidate, CandidateKind};
 use is_pair::checklist::{Checklist, PairTest};
@@ -23,6 +25,20 @@ pub fn is_below(limit: Option<usize>, number: usize) -> bool
         Some(most) => number < most,
         None => true,
     }
+}
+
+/// How many candidates are listed: those that are not discarded.
+fn listed_count(candidates: &[Candidate]) -> usize
+    ensures { result ≡ count_by is_alive candidates.now }
+{
+    candidates.iter().filter(|c| !is_discarded(c)).count()
+}
+
+/// As many candidates of the side are listed as the limit allows.
+pub fn is_full(limit: Option<usize>, candidates: &[Candidate]) -> bool
+    ensures { result ≡ is_full limit candidates.now }
+{
+    limit.is_some() && !is_below(limit, listed_count(candidates))
 }
 
 /// How many remote candidates requests brought, discarded ones included.

@@ -12,7 +12,7 @@ ghost use Rattle.is_rules.specs.Serving.{served, validated_by_peer, nominated_by
 use crate::request::Request;
 use is_pair::checklist::{Checklist, PairChange, PairTest};
 use is_pair::pair::{CandidatePair, CheckState};
-use is_pair::{keep_number, trigger};
+use is_pair::{keep_number, schedule_triggered};
 use is_proto::Instant;
 
 /// Whether a pair has these two candidates.
@@ -74,7 +74,7 @@ pub struct ServingRole {
 
 /// Whether, and when, the request triggers a check of the pair.
 #[derive(Clone, Copy)]
-pub struct Trigger {
+pub struct TriggeredCheck {
     /// Whether the first request on a pair that is not valid triggers a check: with the profile `Modern`.
     pub modern: bool,
     /// When the check is due.
@@ -114,7 +114,7 @@ fn number_by_peer(pair: &mut CandidatePair, request: &Request<'_>, role: Serving
 struct Serves<'a> {
     request: Request<'a>,
     role: ServingRole,
-    trigger: Trigger,
+    check: TriggeredCheck,
 }
 
 impl PairChange for Serves<'_> {
@@ -122,10 +122,10 @@ impl PairChange for Serves<'_> {
     ghost use Rattle.is_rules.specs.Serving.{served};
     ghost use Rattle.is_pair.specs.Due.{triggered};
 
-    ghost makes = { λ t p. served t.role.controlling t.role.lite (request_view t.request) (triggered t.trigger.modern t.trigger.at.0 p) };
+    ghost makes = { λ t p. served t.role.controlling t.role.lite (request_view t.request) (triggered t.check.modern t.check.at.0 p) };
 
     fn change(&self, pair: &mut CandidatePair) {
-        trigger(pair, self.trigger.modern, self.trigger.at);
+        schedule_triggered(pair, self.check.modern, self.check.at);
         pair.increase_remote_binding_requests(self.request.time);
         validate_by_peer(pair, self.role);
         nominate_by_peer(pair, &self.request, self.role);
@@ -139,10 +139,10 @@ pub fn serve_pair(
     number: u64,
     request: &Request<'_>,
     role: ServingRole,
-    trigger: Trigger,
+    check: TriggeredCheck,
 )
     ensures placed { (local remote : List CandidateRecord) → are_placed local remote (multiset_of pairs.old) ≡ true → are_placed local remote (multiset_of pairs.new) ≡ true }
-    ensures served { multiset_of pairs.new ≡ change_pair number (λ p. served role.controlling role.lite (request_view request.now) (triggered trigger.modern trigger.at.0 p)) (multiset_of pairs.old) }
+    ensures served { multiset_of pairs.new ≡ change_pair number (λ p. served role.controlling role.lite (request_view request.now) (triggered check.modern check.at.0 p)) (multiset_of pairs.old) }
     ensures room { (n : ℕ) → HasRoom n pairs.old → HasRoom n pairs.new }
     ensures below { (n : ℕ) → are_below n (multiset_of pairs.old) ≡ true → are_below n (multiset_of pairs.new) ≡ true }
 {
@@ -152,7 +152,7 @@ pub fn serve_pair(
         &Serves {
             request,
             role,
-            trigger,
+            check,
         },
     );
 }

@@ -28,6 +28,8 @@ pub struct Settings {
     pub max_pairs: usize,
     /// How many peer-reflexive candidates packets may bring of each side. None: as many as come.
     pub max_discovered: Option<usize>,
+    /// How many candidates of each side the program may have listed. None: as many as it adds.
+    pub max_candidates: Option<usize>,
     /// Whether each nomination replaces the ones before. The peer needs the same.
     pub renomination: bool,
 }
@@ -51,6 +53,7 @@ impl Settings {
             consent: timing.consent,
             max_pairs: 100,
             max_discovered: None,
+            max_candidates: None,
             renomination: false,
         }
     }
@@ -65,6 +68,7 @@ impl Settings {
             max_rto: Duration(2_900_000_000),
             max_retransmits: 11,
             max_discovered: Some(32),
+            max_candidates: Some(100),
             ..Settings::original()
         }
     }

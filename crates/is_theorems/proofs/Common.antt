@@ -59,17 +59,18 @@ pub use Rattle.is_candidate.specs.declared.candidate.kind.CandidateKind.{Candida
 pub use Rattle.is_candidate.specs.declared.candidate.kind.CandidateKind.TheVariants.{Host, PeerReflexive, Relayed, ServerReflexive}
 pub use Rattle.is_pair.proofs.DueTimes.CountOfDuePairs.{fewer-due, no-more, no-more-pass, not-by, some-pass, thinner}
 pub use Rattle.is_pair.proofs.DueTimes.LaterAfterCheck.{checked-later}
+pub use Rattle.is_pair.proofs.DueTimes.ChecksLeft.{unanswered-most}
 pub use Rattle.is_pair.specs.Checks.{answered_at, Check, first_unanswered, has_id, is_answered, is_kept, IsCheckAt, last_check, last_checks}
 pub use Rattle.is_pair.specs.Checks.{last_round_trip, unanswered_count}
 pub use Rattle.is_pair.specs.Due.{scheduled, ASKED_TIME, call_time_of, call_time_with, computed_due_time, consent_end, delay_of, due_time_of}
-pub use Rattle.is_pair.specs.Due.{early_span, early_time, GoesBefore, has_consent, has_early_checks, heard_until, hushed_delay}
-pub use Rattle.is_pair.specs.Due.{HUSHED_INTERVAL, HUSHED_TIME, is_answered_lately, is_asked_first, is_due, is_early_on, is_early_silence}
-pub use Rattle.is_pair.specs.Due.{is_heard, is_hushed, is_in_time, is_open, is_pair_expired, is_possible, is_repeated_early, is_silent}
-pub use Rattle.is_pair.specs.Due.{is_triggered, is_urgent, is_within, is_within_series, is_young, IsNextDue, LATENESS, moved_up}
-pub use Rattle.is_pair.specs.Due.{next_due_time, repeated_delay, SHORT_INTERVAL, silent_count, stays_answered, triggered, usual_delay}
+pub use Rattle.is_pair.specs.Due.{early_span, early_time, GoesBefore, has_checks_left, has_consent, heard_until, hushed_delay}
+pub use Rattle.is_pair.specs.Due.{HUSHED_INTERVAL, HUSHED_TIME, is_answered_lately, is_asked_first, is_due, is_early_on, is_heard}
+pub use Rattle.is_pair.specs.Due.{is_hushed, is_pair_expired, is_possible, is_repeated_early, is_silent, is_triggered, is_urgent, is_within}
+pub use Rattle.is_pair.specs.Due.{IsNextDue, LATENESS, moved_up, next_due_time, possible_until, repeated_delay, request_end, response_end}
+pub use Rattle.is_pair.specs.Due.{series_end, series_start, SHORT_INTERVAL, silent_count, stays_answered, triggered, usual_delay}
 pub use Rattle.is_pair.specs.Multiset.{change_at, change_pair, Evicts, EvictsInTurn, is_named_by, is_numbered, is_valid_at, IsGreatest}
 pub use Rattle.is_pair.specs.Multiset.{IsPairBetween, keeps_check, pair_numbered, passes_at, rises, without}
-pub use Rattle.is_pair.specs.Pairs.{answered, check_of, checked, heard, heard_at, is_lite_alive, is_nominated, is_recent, is_valid}
+pub use Rattle.is_pair.specs.Pairs.{answered, check_of, checked, heard, heard_at, is_lite_alive, is_nominated, is_valid}
 pub use Rattle.is_pair.specs.Pairs.{new_pair, nominated, numbered, PairRecord, renominated, TakesAnswer, taking_over, undue, validated}
 pub use Rattle.is_pair.specs.Pairs.{with_error, with_request}
 pub use Rattle.is_pair.specs.Priorities.{pair_priority}
@@ -147,7 +148,7 @@ pub use Rattle.is_rules.specs.Roles.{conflict_by, conflict_of, keeps_role, rival
 pub use Rattle.is_rules.specs.Sending.{carried, path_between, path_of}
 pub use Rattle.is_rules.specs.Serving.{after_request, as_taken, Drops, HandlesRequest, is_for_other_peer, is_misled, nominated_by_peer}
 pub use Rattle.is_rules.specs.Serving.{nominated_last, nominates, numbered_by_peer, pair_served, Queues, replied, request_counted}
-pub use Rattle.is_rules.specs.Serving.{selects_at_requests, sender_candidate, SendsRoleConflict, served, Serves, trigger_time}
+pub use Rattle.is_rules.specs.Serving.{selects_at_requests, sender_candidate, SendsRoleConflict, served, Serves, triggered_time}
 pub use Rattle.is_rules.specs.Serving.{validated_by_peer, with_sender, with_sender_at}
 pub use Rattle.is_rules.specs.Settings.{controlling_set, modern_settings, numbers_skipped, original_settings, SetsMtu, settings_of}
 pub use Rattle.is_rules.specs.Settings.{with_consent, with_lite_timeout, with_profile, with_retransmits, with_rtos}
@@ -160,7 +161,7 @@ pub use Rattle.is_rules.specs.Steps.{Entry, Flag, HandleTimeout, Happened, Inval
 pub use Rattle.is_rules.specs.Steps.{MayDo, MaySelect, NextTimeout, NotCalled, Polled, PollEvent, PollTimeout, PollTransmit, quiet}
 pub use Rattle.is_rules.specs.Steps.{ReceivePacket, Receives, RecreateCandidatePairs, Rejected, RestartIce, SetConsent, SetControlling}
 pub use Rattle.is_rules.specs.Steps.{SetControlTieBreaker, SetIceLite, SetInitialStunRto, SetLiteTimeout, SetLocalCredentials}
-pub use Rattle.is_rules.specs.Steps.{SetLocalPreference, SetMaxCandidatePairs, SetMaxDiscovered, SetMaxStunRetransmits, SetMaxStunRto}
+pub use Rattle.is_rules.specs.Steps.{SetLocalPreference, SetMaxCandidatePairs, SetMaxCandidates, SetMaxDiscovered, SetMaxStunRetransmits, SetMaxStunRto}
 pub use Rattle.is_rules.specs.Steps.{SetMtu, SetProfile, SetRemoteCredentials, SetRenomination, SetTimingAdvance, SkipPairIds, Step}
 pub use Rattle.is_rules.specs.Steps.{Unparsed}
 pub use Rattle.is_rules.specs.Timeouts.{at_request, at_timeout, expired_gone, is_expired, MaintainsPairs, RemovesExpired, ServesQueued}

@@ -24,7 +24,7 @@ use Rattle.is_rules.specs.Queue.{request_at}
 use Rattle.is_theorems.specs.Rounds.{LoggedRound, entries_of, began_at, is_between, Part, RunsOn}
 use Rattle.is_theorems.specs.Runs.{IsFresh, IsTopPath}
 use Rattle.is_rules.specs.Sending.{path_of}
-use Rattle.is_rules.specs.Steps.{Call, Entry, SetMtu, SetControlTieBreaker, SetMaxCandidatePairs, SetMaxDiscovered, SetRenomination, SetTimingAdvance, SetLocalPreference, SetControlling, SetLocalCredentials, AddLocalCandidate, AddRemoteCandidate, HandleTimeout, Done}
+use Rattle.is_rules.specs.Steps.{Call, Entry, SetMtu, SetControlTieBreaker, SetMaxCandidatePairs, SetMaxCandidates, SetMaxDiscovered, SetRenomination, SetTimingAdvance, SetLocalPreference, SetControlling, SetLocalCredentials, AddLocalCandidate, AddRemoteCandidate, HandleTimeout, Done}
 use Rattle.is_rules.specs.Emitted.{issued_as}
 
 -- What may come between two `handle_timeout` calls: packets and polls, candidates that are added, and settings that change neither
@@ -35,6 +35,7 @@ is_in_round modern (SetMtu target warn) = true
 is_in_round modern (SetControlTieBreaker tie_breaker) = true
 is_in_round modern (SetMaxCandidatePairs n) = true
 is_in_round modern (SetMaxDiscovered limit) = true
+is_in_round modern (SetMaxCandidates limit) = true
 is_in_round modern (SetRenomination renominates) = not (modern && renominates)
 is_in_round modern (SetTimingAdvance by) = true
 is_in_round modern (SetLocalPreference object) = true

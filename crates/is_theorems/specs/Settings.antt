@@ -5,7 +5,7 @@ use Rattle.is_candidate.specs.Candidates.{CandidateRecord}
 use Rattle.is_rules.specs.declared.settings.Settings.{Settings}
 use Rattle.is_rules.specs.Agent.{AgentRecord}
 use Rattle.is_rules.specs.Settings.{settings_of, with_settings}
-use Rattle.is_rules.specs.Steps.{Call, SetMtu, SetControlTieBreaker, SetMaxCandidatePairs, SetMaxDiscovered, SetIceLite, SetRenomination, SetProfile, SetConsent, SetTimingAdvance}
+use Rattle.is_rules.specs.Steps.{Call, SetMtu, SetControlTieBreaker, SetMaxCandidatePairs, SetMaxCandidates, SetMaxDiscovered, SetIceLite, SetRenomination, SetProfile, SetConsent, SetTimingAdvance}
 use Rattle.is_rules.specs.Steps.{SetInitialStunRto, SetMaxStunRto, SetMaxStunRetransmits, SetLiteTimeout, SetLocalPreference, Answer, Done, is_done, Entry, quiet, Step}
 use Rattle.is_theorems.specs.Exchange.{Execution}
 use Rattle.is_theorems.specs.Logs.{Logged}
@@ -42,6 +42,7 @@ settings_after (SetLiteTimeout by) answer old = record old { settings = record o
 settings_after (SetConsent consent) answer old = record old { settings = record old.settings { consent = consent } }
 settings_after (SetMaxCandidatePairs limit) answer old = record old { settings = record old.settings { max_pairs = limit } }
 settings_after (SetMaxDiscovered limit) answer old = record old { settings = record old.settings { max_discovered = limit } }
+settings_after (SetMaxCandidates limit) answer old = record old { settings = record old.settings { max_candidates = limit } }
 settings_after (SetRenomination renominates) answer old = record old { settings = record old.settings { renomination = renominates } }
 settings_after (SetIceLite lite) answer old = record old { lite = lite }
 settings_after (SetControlTieBreaker tie_breaker) answer old = record old { tie_breaker = tie_breaker }
@@ -69,7 +70,8 @@ abbrev pub setters_of : {P : Type 0} → Settings → List (Call P)
 setters_of s =
     SetProfile s.profile ∷ SetConsent s.consent ∷ SetMaxStunRetransmits s.max_retransmits ∷ SetLiteTimeout s.lite_timeout.0
     ∷ SetInitialStunRto s.initial_rto.0 ∷ SetMaxStunRto s.max_rto.0 ∷ SetTimingAdvance s.timing_advance.0
-    ∷ SetMaxCandidatePairs s.max_pairs ∷ SetMaxDiscovered s.max_discovered ∷ SetRenomination s.renomination ∷ []
+    ∷ SetMaxCandidatePairs s.max_pairs ∷ SetMaxDiscovered s.max_discovered
+    ∷ SetMaxCandidates s.max_candidates ∷ SetRenomination s.renomination ∷ []
 
 -- The theorem: `set_settings` is an execution of these setters. So what holds of executions holds of agents whose settings are set at once.
 abbrev pub AllAreSetInTurn : {H P : Type 0} → (H → List ℕ → List ℕ → List ℕ) → (P → CandidateRecord → ℕ → ℕ → Type 0) → Type 0

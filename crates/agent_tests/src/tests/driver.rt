@@ -138,6 +138,7 @@ impl Player {
             Setting::FirstNumber(number) => agent.skip_pair_ids(number),
             Setting::MaxPairs(pairs) => agent.set_max_candidate_pairs(pairs),
             Setting::MaxDiscovered(limit) => agent.set_max_discovered(limit),
+            Setting::MaxCandidates(limit) => agent.set_max_candidates(limit),
             Setting::InitialRto(ms) => agent.set_initial_stun_rto(Duration::from_millis(ms)),
             Setting::InitialNanos(nanos) => agent.set_initial_stun_rto(Duration(nanos)),
             Setting::MaxRto(ms) => agent.set_max_stun_rto(Duration::from_millis(ms)),

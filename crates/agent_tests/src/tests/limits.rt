@@ -1,5 +1,6 @@
-//! The limit on candidates that packets bring: remote ones by requests, local ones by responses.
+//! The limit on candidates that packets bring: remote ones by requests, local ones by responses; and the one on candidates that are added.
 
+use super::settings::MODERN;
 use super::step::Call::*;
 use super::step::Emitted::*;
 use super::step::Held::*;
@@ -15,6 +16,77 @@ fn discovered_candidates_are_limited(rt: HostRuntime) -> Result<(), Fail> {
     play(rt.alloc(), &SENDERS)?;
     play(rt.alloc(), &MAPPED)
 }
+
+#[test]
+fn added_candidates_are_limited(rt: HostRuntime) -> Result<(), Fail> {
+    play(rt.alloc(), &ADDED)
+}
+
+const ADDED: [Story; 5] = [
+    Story(
+        "a_local_candidate_past_the_limit_is_not_added",
+        &[
+            Begin(New("aaaa", "p", 1)),
+            Set(Setting::MaxCandidates(Some(2))),
+            Does(Host(At(1, 1000))),
+            Does(Host(At(1, 1001))),
+            Fails(Own("candidate:1 1 udp 100 10.0.0.1 1002 typ host")),
+            Holds(Locals(&[At(1, 1000), At(1, 1001)])),
+            Set(Setting::MaxCandidates(None)),
+            Does(Own("candidate:1 1 udp 100 10.0.0.1 1002 typ host")),
+            Holds(Locals(&[At(1, 1000), At(1, 1001), At(1, 1002)])),
+        ],
+    ),
+    Story(
+        "a_discarded_candidate_is_not_counted",
+        &[
+            Begin(New("aaaa", "p", 1)),
+            Set(Setting::MaxCandidates(Some(1))),
+            Does(Own("candidate:1 1 udp 100 10.0.0.1 1000 typ host")),
+            Does(Invalidate("candidate:1 1 udp 1 10.0.0.1 1000 typ host")),
+            Does(Own("candidate:1 1 udp 100 10.0.0.1 1001 typ host")),
+            // it would be enabled again
+            Fails(Own("candidate:1 1 udp 100 10.0.0.1 1000 typ host")),
+            Holds(Locals(&[At(1, 1001)])),
+        ],
+    ),
+    Story(
+        "a_remote_candidate_past_the_limit_is_ignored",
+        &[
+            Begin(Unpaired),
+            Set(Setting::MaxCandidates(Some(1))),
+            Does(Peer(PEER)),
+            Does(Peer("candidate:1 1 udp 100 10.0.0.2 2001 typ host")),
+            Holds(Remotes(&[At(2, 2000)])),
+            Holds(HasPair("candidate:1 1 udp 100 10.0.0.2 2001 typ host", false)),
+        ],
+    ),
+    Story(
+        "a_packet_brings_candidates_past_the_limit",
+        &[
+            Begin(Unpaired),
+            Write(Message::NoRole, "nearpass"),
+            Set(Setting::MaxCandidates(Some(1))),
+            Takes(Served(0, At(2, 2000))),
+            Takes(Served(0, At(2, 2001))),
+            // they count, and one that is signaled would take the place of the first
+            Does(Peer(PEER)),
+            Holds(Remotes(&[At(2, 2000), At(2, 2001)])),
+            Holds(HasPair(PEER, false)),
+        ],
+    ),
+    Story(
+        "a_hundred_of_each_side_with_the_profile_modern",
+        &[
+            Begin(Unpaired),
+            Set(Setting::All(MODERN)),
+            Set(Setting::MaxPairs(200)),
+            Does(Peers(101)),
+            Holds(HasPair("candidate:1 1 udp 1 10.0.0.101 2000 typ host", true)),
+            Holds(HasPair("candidate:1 1 udp 1 10.0.0.102 2000 typ host", false)),
+        ],
+    ),
+];
 
 const SENDERS: [Story; 8] = [
     Story(

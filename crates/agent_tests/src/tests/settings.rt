@@ -33,15 +33,17 @@ const ORIGINAL: Settings = Settings {
     },
     max_pairs: 100,
     max_discovered: None,
+    max_candidates: None,
     renomination: false,
 };
 
 /// What connects fastest, and keeps consent for 29.6 s: 2.9 s and a whole series, which takes 26.7 s.
-const MODERN: Settings = Settings {
+pub(super) const MODERN: Settings = Settings {
     profile: Profile::Modern,
     max_rto: Duration(2_900_000_000),
     max_retransmits: 11,
     max_discovered: Some(32),
+    max_candidates: Some(100),
     ..ORIGINAL
 };
 

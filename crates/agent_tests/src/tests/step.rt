@@ -77,6 +77,8 @@ pub(super) enum Setting {
     MaxPairs(usize),
     /// The greatest number of candidates that packets bring of each side.
     MaxDiscovered(Option<usize>),
+    /// The greatest number of candidates of each side that may be listed when one is added.
+    MaxCandidates(Option<usize>),
     /// The initial RTO.
     InitialRto(u64),
     /// The initial RTO, in nanoseconds.

@@ -5,7 +5,7 @@ use Rattle.is.proofs.Common.{◌==◌, ◌∙◌, ◌≡◌, AddLocalCandidate, 
 use Rattle.is.proofs.Common.{Emitted, Entry, false, HandleTimeout, InvalidateCandidate, List, Logged, MatchBool, None, Option, Path}
 use Rattle.is.proofs.Common.{PollEvent, PollTimeout, PollTransmit, quiet, ReceivePacket, RecreateCandidatePairs, RestartIce, selected_only}
 use Rattle.is.proofs.Common.{SetConsent, SetControlling, SetControlTieBreaker, SetIceLite, SetInitialStunRto, SetLiteTimeout}
-use Rattle.is.proofs.Common.{SetLocalCredentials, SetLocalPreference, SetMaxCandidatePairs, SetMaxDiscovered, SetMaxStunRetransmits}
+use Rattle.is.proofs.Common.{SetLocalCredentials, SetLocalPreference, SetMaxCandidatePairs, SetMaxCandidates, SetMaxDiscovered, SetMaxStunRetransmits}
 use Rattle.is.proofs.Common.{SetMaxStunRto, SetMtu, SetProfile, SetRemoteCredentials, SetRenomination, SetTimingAdvance, SkipPairIds, Step}
 use Rattle.is.proofs.Common.{Stream, true, ℕ}
 
@@ -28,6 +28,7 @@ module _ {H P : Type 0} (mac : H → List ℕ → List ℕ → List ℕ) (answer
   issues_none old new s t (SetControlTieBreaker tie_breaker) e h _ = silent e _ h.0
   issues_none old new s t (SetMaxCandidatePairs n) e h _ = silent e _ h.0
   issues_none old new s t (SetMaxDiscovered n) e h _ = silent e _ h.0
+  issues_none old new s t (SetMaxCandidates n) e h _ = silent e _ h.0
   issues_none old new s t (SetIceLite lite) e h _ = silent e _ h.0
   issues_none old new s t (SetRenomination on) e h _ = silent e _ h.0
   issues_none old new s t (SetProfile profile) e h _ = silent e _ h.0

@@ -21,7 +21,7 @@ use Rattle.is_rules.specs.Nominating.{NominatesWhere}
 use Rattle.is_rules.specs.Request.{RequestRecord}
 use Rattle.is_rules.specs.Sending.{path_between}
 use Rattle.is_rules.specs.Serving.{evaluates_at, is_487, is_admitted, is_misled, needs_pair_at, pair_added, pair_number, pair_served, request_counted, role_after}
-use Rattle.is_rules.specs.Serving.{role_resolved, sender_added, sender_at, sender_index, sends_487, trigger_time, Drops, Replies, SendsRoleConflict, Serves, ServesAt}
+use Rattle.is_rules.specs.Serving.{role_resolved, sender_added, sender_at, sender_index, sends_487, triggered_time, Drops, Replies, SendsRoleConflict, Serves, ServesAt}
 use Rattle.is_rules.specs.StateUpdates.{state_updated}
 use Rattle.is_agent.specs.Ready.{IsPlan}
 use Rattle.is_rules.proofs.ServedRequests.RulesInTurn.{FromCount, FromPair, FromSender, RecordsAndResponds}
@@ -161,17 +161,17 @@ module _ {H P : Type 0} (mac : H → List ℕ → List ℕ → List ℕ) (q : Re
       (subst (λ (a : AgentRecord H P). RecordsAndResponds mac q l r number a emitted new) made h)
 
   pub responded : (l r number now : ℕ) (via : Path) (evaluates changes : Bool) (path : Option Path) (s served mid t : AgentRecord H P)
-      → via ≡ path_between s l r → now ≡ trigger_time q s → evaluates ≡ evaluates_at number s → served ≡ pair_served q number s
+      → via ≡ path_between s l r → now ≡ triggered_time q s → evaluates ≡ evaluates_at number s → served ≡ pair_served q number s
       → NominatesWhere evaluates served path mid → changes ≡ is_some path → t ≡ state_updated changes now mid → Replies mac q via path t emitted new
       → RecordsAndResponds mac q l r number s emitted new
   responded l r number now via evaluates changes path s served mid t via-is now-is evaluates-is served-is nominates changes-is settled-is replies =
       let there : NominatesWhere evaluates (pair_served q number s) path mid =
       subst (λ (a : AgentRecord H P). NominatesWhere evaluates a path mid) served-is nominates in
-      let made : t ≡ state_updated (is_some path) (trigger_time q s) mid =
+      let made : t ≡ state_updated (is_some path) (triggered_time q s) mid =
       settled-is ∙ ap (λ b. state_updated b now mid) changes-is ∙ ap (λ n. state_updated (is_some path) n mid) now-is in (
         path,
         mid,
         subst (λ b. NominatesWhere b (pair_served q number s) path mid) evaluates-is there,
-        subst (λ v. Replies mac q v path (state_updated (is_some path) (trigger_time q s) mid) emitted new) via-is
+        subst (λ v. Replies mac q v path (state_updated (is_some path) (triggered_time q s) mid) emitted new) via-is
             (subst (λ (a : AgentRecord H P). Replies mac q via path a emitted new) made replies),
       )

@@ -7,7 +7,6 @@ ghost use Rattle.is_pair.specs.Pairs.{last_of};
 ghost use Rattle.is_pair.specs.Due.{consent_end, has_consent, heard_until, is_answered_lately, stays, call_time_of};
 
 use super::CandidatePair;
-use super::requests::RECENT_BINDING_REQUEST;
 use is_proto::Instant;
 use is_stun::stun::{Consent, StunTiming};
 
@@ -69,9 +68,10 @@ impl CandidatePair {
     fn heard_until(&self, consent: Consent) -> Instant
         ensures { result.0 ≡ heard_until consent self.now }
     {
-        match self.remote_binding_request_time {
-            Some(at) if !consent.strict => at + RECENT_BINDING_REQUEST,
-            _ => Instant(0),
+        if consent.strict {
+            Instant(0)
+        } else {
+            self.request_end()
         }
     }
 

@@ -1,14 +1,15 @@
 //! When a pair is due for its next check, and when it fails.
 
 ghost use Rattle.std.specs.Prelude.{◌≡◌, ◌<◌, ◌||◌, ◌+◌, is_some, min, option_map};
-ghost use Rattle.is_proto.specs.Times.{later};
+ghost use Rattle.is_proto.specs.Times.{MAX, later};
 ghost use Rattle.is_pair.specs.Pairs.{is_valid, undue};
-ghost use Rattle.is_pair.specs.Due.{scheduled, delaying_count, due_time_of, is_heard, is_in_time, is_possible, long_before, next_due_time, computed_due_time};
+ghost use Rattle.is_pair.specs.Due.{scheduled, delaying_count, due_time_of, long_before, next_due_time, computed_due_time};
+ghost use Rattle.is_pair.specs.Due.{has_checks_left, is_heard, is_possible, possible_until, request_end, response_end, series_end, series_start};
 ghost use Rattle.is_pair.specs.Due.{early_span, is_asked_first};
-ghost use Rattle.is_pair.specs.Due.{delay_of, has_early_checks, hushed_delay, hushed_interval, is_hushed, modern_delay, repeated_delay, response_wait, is_beginning, is_early_on, is_early_silence, is_open, is_repeated_early, is_triggered, is_urgent, is_within, is_within_series, is_young, moved_up, silent_count, triggered, usual_delay};
+ghost use Rattle.is_pair.specs.Due.{delay_of, hushed_delay, hushed_interval, is_hushed, modern_delay, repeated_delay, response_wait, is_beginning, is_early_on, is_repeated_early, is_triggered, is_urgent, is_within, moved_up, silent_count, triggered, usual_delay};
 
 use super::attempt::BindingAttempt;
-use super::requests::is_recent;
+use super::requests::RECENT_BINDING_REQUEST;
 use super::states::{CheckState, NominationState};
 use super::{CandidatePair, attempts};
 use is_proto::{Duration, Instant};
@@ -117,45 +118,79 @@ impl CandidatePair {
         requires { 0 < timing_config.now.max_retransmits }
         ensures { result ≡ is_possible now.0 timing_config.now self.now }
     {
-        self.is_open(now, timing_config) || self.has_early_checks(now, timing_config)
+        // a recent check is found sooner than the deadline, and keeps the pair at the last `Instant` too, which no deadline exceeds
+        self.has_checks_left(timing_config)
+            || self.is_heard(now)
+            || now < self.possible_until(timing_config)
     }
 
-    /// Whether a check from the peer arrived, or not so many checks had no response, or the response to the last one may still arrive.
-    fn is_open(&self, now: Instant, timing: &StunTiming) -> bool
-        ensures { result ≡ is_open now.0 timing.now self.now }
+    /// Whether fewer than `max_retransmits` checks have no response.
+    fn has_checks_left(&self, timing: &StunTiming) -> bool
+        ensures { result ≡ has_checks_left timing.now self.now }
     {
-        self.is_heard(now)
-            || self.binding_attempts.len() < timing.max_retransmits()
-            || is_in_time(&self.binding_attempts, now, timing)
+        // if fewer are stored, they need not be counted
+        self.binding_attempts.len() < timing.max_retransmits()
             || attempts::unanswered(&self.binding_attempts) < timing.max_retransmits()
     }
 
-    /// Whether the path may still work because checks are repeated early: then time counts, and not their number.
-    fn has_early_checks(&self, now: Instant, timing: &StunTiming) -> bool
-        ensures { result ≡ has_early_checks now.0 timing.now self.now }
+    /// Returns until when the pair is kept if no checks are left.
+    fn possible_until(&self, timing: &StunTiming) -> Instant
+        ensures { result.0 ≡ min (possible_until timing.now self.now) MAX }
     {
-        timing.is_modern() && self.is_within_series(now, timing)
+        self.request_end()
+            .max(self.response_end(timing))
+            .max(self.series_end(timing))
     }
 
-    /// Whether less time has passed than a whole series of checks takes: since the first check if there was no response, unless that followed
-    /// a request; otherwise since the first one without.
-    fn is_within_series(&self, now: Instant, timing: &StunTiming) -> bool
-        ensures { result ≡ is_within_series now.0 timing.now self.now }
+    /// Returns the time 15 s after the peer's last check.
+    pub(crate) fn request_end(&self) -> Instant
+        ensures { result.0 ≡ min (request_end self.now) MAX }
     {
-        if self.responses_received == 0 {
-            !self.is_asked_first() && self.is_young(now, timing)
-        } else {
-            is_early_silence(&self.binding_attempts, now, timing)
+        match self.remote_binding_request_time {
+            Some(at) => at + RECENT_BINDING_REQUEST,
+            None => Instant(0),
         }
     }
 
-    /// Whether less time has passed since the first check than a whole series of checks takes.
-    fn is_young(&self, now: Instant, timing: &StunTiming) -> bool
-        ensures { result ≡ is_young now.0 timing.now self.now }
+    /// Returns until when the response to the last check may come.
+    fn response_end(&self, timing: &StunTiming) -> Instant
+        ensures { result.0 ≡ response_end timing.now self.now.checks }
     {
-        match self.first_sent {
-            Some(at) => now < at + timing.timeout(),
-            None => false,
+        match attempts::last(&self.binding_attempts) {
+            Some(last) => last.request_sent + timing.stun_last_resend_delay(),
+            None => Instant(0),
+        }
+    }
+
+    /// Returns when a whole series of checks is over with `Modern`: checks are repeated early, so their time counts, and not only their number.
+    fn series_end(&self, timing: &StunTiming) -> Instant
+        ensures { result.0 ≡ series_end timing.now self.now }
+    {
+        if !timing.is_modern() {
+            return Instant(0);
+        }
+        match self.series_start() {
+            Some(at) => at + timing.timeout(),
+            None => Instant(0),
+        }
+    }
+
+    /// Returns when the checks without a response began: with the first check if there was no response, unless that check followed a request;
+    /// otherwise with the first one without.
+    fn series_start(&self) -> Option<Instant>
+        ensures { option_map (λ at. at.0) result ≡ series_start self.now }
+    {
+        if self.responses_received == 0 {
+            if self.is_asked_first() {
+                None
+            } else {
+                self.first_sent
+            }
+        } else {
+            match attempts::first_unanswered(&self.binding_attempts) {
+                Some(first) => Some(first.request_sent),
+                None => None,
+            }
         }
     }
 
@@ -349,7 +384,7 @@ impl CandidatePair {
         ensures { result ≡ is_heard now.0 self.now }
     {
         match self.remote_binding_request_time {
-            Some(at) => is_recent(now, at),
+            Some(at) => now - at < RECENT_BINDING_REQUEST,
             None => false,
         }
     }
@@ -381,26 +416,6 @@ fn delaying_count(attempts: &VecDeque<BindingAttempt>, now: Instant, timing: &St
     }
 }
 
-/// Whether less time has passed since the first check without a response than a whole series of checks takes.
-fn is_early_silence(attempts: &VecDeque<BindingAttempt>, now: Instant, timing: &StunTiming) -> bool
-    ensures { result ≡ is_early_silence now.0 timing.now attempts.now.items }
-{
-    match attempts::first_unanswered(attempts) {
-        Some(first) => now < first.request_sent + timing.timeout(),
-        None => false,
-    }
-}
-
-/// Whether the response to the last check may still arrive in time.
-fn is_in_time(attempts: &VecDeque<BindingAttempt>, now: Instant, timing: &StunTiming) -> bool
-    ensures { result ≡ is_in_time now.0 timing.now attempts.now.items }
-{
-    match attempts::last(attempts) {
-        Some(last) => now < last.request_sent + timing.stun_last_resend_delay(),
-        None => false,
-    }
-}
-
 // ---- for the agent, but not for its users
 
 /// Returns the due time of the next check that a call of `next_binding_attempt` would return, and fix, now.
@@ -429,7 +444,7 @@ pub fn reset_next_binding_attempt(pair: &mut CandidatePair)
 
 /// After the first request on a pair that is not valid, if `modern`: the next check is due at this time, unless it is due before, or no
 /// due time is fixed (triggered checks, RFC 8445, section 7.3.1.4).
-pub fn trigger(pair: &mut CandidatePair, modern: bool, at: Instant)
+pub fn schedule_triggered(pair: &mut CandidatePair, modern: bool, at: Instant)
     ensures { pair.new ≡ triggered modern at.0 pair.old }
 {
     if modern && pair.is_triggered() {

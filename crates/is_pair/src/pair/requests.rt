@@ -1,7 +1,7 @@
 //! The peer's checks on a pair.
 
 ghost use Rattle.std.specs.Prelude.{◌≡◌};
-ghost use Rattle.is_pair.specs.Pairs.{with_request, is_lite_alive, is_recent, validated};
+ghost use Rattle.is_pair.specs.Pairs.{with_request, is_lite_alive, validated};
 
 use super::CandidatePair;
 use super::states::CheckState;
@@ -35,13 +35,6 @@ impl CandidatePair {
             None => true,
         }
     }
-}
-
-/// Whether a check from the peer that arrived at `at` is recent enough for a full agent to keep its pair.
-pub(crate) fn is_recent(now: Instant, at: Instant) -> bool
-    ensures { result ≡ is_recent now.0 at.0 }
-{
-    now - at < RECENT_BINDING_REQUEST
 }
 
 /// How long a check from the peer is enough for a full agent to keep its pair.

@@ -7,7 +7,7 @@ use Rattle.is_rules.proofs.Common.{is_valid_at, IsPairBetween, IsSenderPlace, Kn
 use Rattle.is_rules.proofs.Common.{needs_pair_at, NominatesWhere, None, not, Option, pair_added, pair_number, pair_served, Path, refl}
 use Rattle.is_rules.proofs.Common.{remote_index, RemotePlace, Replies, request_counted, RequestRecord, role_after, selects_at_requests}
 use Rattle.is_rules.proofs.Common.{Send487, sender_added, sender_index, SendsRoleConflict, Serves, Some, subst, switched, switched_sides}
-use Rattle.is_rules.proofs.Common.{SwitchRole, sym, trigger_time, true, Unknown, Vacant, with_pair, with_sender, with_sender_at, ℕ}
+use Rattle.is_rules.proofs.Common.{SwitchRole, sym, triggered_time, true, Unknown, Vacant, with_pair, with_sender, with_sender_at, ℕ}
 use Rattle.is_rules.proofs.ServedRequests.RecomputedPriorities.{between-reprioritized, place-reprioritized}
 
 unequal : (b : Bool) → (b && true) ≡ false → b ≡ false
@@ -22,7 +22,7 @@ module _ {H P : Type 0} (mac : H → List ℕ → List ℕ → List ℕ) where
   RecordsAndResponds q l r number s emitted new =
       (path : Option Path) × (mid : AgentRecord H P)
       × NominatesWhere (selects_at_requests s && is_valid_at number s.pairs) (pair_served q number s) path mid
-      × Replies mac q (path_between s l r) path (state_updated (is_some path) (trigger_time q s) mid) emitted new
+      × Replies mac q (path_between s l r) path (state_updated (is_some path) (triggered_time q s) mid) emitted new
 
   abbrev pub AddsPairAndResponds : RequestRecord → ℕ → ℕ → AgentRecord H P → Emitted → AgentRecord H P → Type 0
   AddsPairAndResponds q l r s emitted new = (s.next_number == MAX ≡ false) × RecordsAndResponds q l r s.next_number (with_pair (formed s l r) s) emitted new

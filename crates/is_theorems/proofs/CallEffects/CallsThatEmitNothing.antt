@@ -10,7 +10,7 @@ use Rattle.is_theorems.proofs.Common.{nominated_emitted, None, NotCalled, nothin
 use Rattle.is_theorems.proofs.Common.{PollTransmit, quiet, ReceivePacket, RecreateCandidatePairs, Recreates, refl, Rejected}
 use Rattle.is_theorems.proofs.Common.{remote_discarded, remote_to_discard, Reselects, restarted, RestartIce, Restarts, Result}
 use Rattle.is_theorems.proofs.Common.{selected_only, SetConsent, SetControlling, SetControlTieBreaker, SetIceLite, SetInitialStunRto}
-use Rattle.is_theorems.proofs.Common.{SetLiteTimeout, SetLocalCredentials, SetLocalPreference, SetMaxCandidatePairs, SetMaxDiscovered}
+use Rattle.is_theorems.proofs.Common.{SetLiteTimeout, SetLocalCredentials, SetLocalPreference, SetMaxCandidatePairs, SetMaxCandidates, SetMaxDiscovered}
 use Rattle.is_theorems.proofs.Common.{SetMaxStunRetransmits, SetMaxStunRto, SetMtu, SetProfile, SetRemoteCredentials, SetRenomination}
 use Rattle.is_theorems.proofs.Common.{SetsLocal, SetsMtu, SetsRemote, SetTimingAdvance, SkipPairIds, Some, Step, Stream, StunTiming, subst}
 use Rattle.is_theorems.proofs.Common.{suc, sym, true, with_consent, with_lite_timeout, with_profile, with_remote, with_retransmits}
@@ -185,6 +185,7 @@ module _ {H P : Type 0} where
     silent (SetControlTieBreaker tie) is other h = becomes (SetControlTieBreaker tie) _ (local_alike (Unit {0}) old _ refl refl refl refl) h
     silent (SetMaxCandidatePairs n) is other h = becomes (SetMaxCandidatePairs n) _ (local_alike (Unit {0}) old _ refl refl refl refl) h
     silent (SetMaxDiscovered n) is other h = becomes (SetMaxDiscovered n) _ (local_alike (Unit {0}) old _ refl refl refl refl) h
+    silent (SetMaxCandidates n) is other h = becomes (SetMaxCandidates n) _ (local_alike (Unit {0}) old _ refl refl refl refl) h
     silent (SetIceLite lite) is other h = becomes (SetIceLite lite) _ (local_alike (Unit {0}) old _ refl refl refl refl) h
     silent (SetRenomination on) is other h = becomes (SetRenomination on) _ (local_alike (Unit {0}) old _ refl refl refl refl) h
     silent (SetProfile profile) is other h = becomes (SetProfile profile) (with_profile profile old) (record { selected_paths = refl; last = refl; checks = λ k. k; based = λ _ b. b }) h

@@ -10,7 +10,7 @@ use Rattle.is_theorems.proofs.Common.{not, NotCalled, nothing_emitted, Ok, Optio
 use Rattle.is_theorems.proofs.Common.{PollTimeout, PollTransmit, position, preferred, PriorityTooHigh, quiet, ReceivePacket, Receives}
 use Rattle.is_theorems.proofs.Common.{RecreateCandidatePairs, Recreates, refl, RejectionKeeps, Reselects, RestartIce, Restarts, Result}
 use Rattle.is_theorems.proofs.Common.{selected_only, SetConsent, SetControlling, SetControlTieBreaker, SetIceLite, SetInitialStunRto}
-use Rattle.is_theorems.proofs.Common.{SetLiteTimeout, SetLocalCredentials, SetLocalPreference, SetMaxCandidatePairs, SetMaxDiscovered}
+use Rattle.is_theorems.proofs.Common.{SetLiteTimeout, SetLocalCredentials, SetLocalPreference, SetMaxCandidatePairs, SetMaxCandidates, SetMaxDiscovered}
 use Rattle.is_theorems.proofs.Common.{SetMaxStunRetransmits, SetMaxStunRto, SetMtu, SetProfile, SetRemoteCredentials, SetRenomination}
 use Rattle.is_theorems.proofs.Common.{SetsLocal, SetsMtu, SetsRemote, SetTimingAdvance, updates_late, SkipPairIds, Some, Step, Stream, subst}
 use Rattle.is_theorems.proofs.Common.{sym, true, with_retransmits, ℕ}
@@ -171,6 +171,7 @@ module _ {H P : Type 0} where
     kept (SetControlTieBreaker tie) h r = silent Done h.0 refl r
     kept (SetMaxCandidatePairs n) h r = silent Done h.0 refl r
     kept (SetMaxDiscovered n) h r = silent Done h.0 refl r
+    kept (SetMaxCandidates n) h r = silent Done h.0 refl r
     kept (SetIceLite lite) h r = silent Done h.0 refl r
     kept (SetRenomination on) h r = silent Done h.0 refl r
     kept (SetProfile profile) h r = silent Done h.0 refl r

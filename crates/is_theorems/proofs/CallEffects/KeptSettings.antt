@@ -13,7 +13,7 @@ use Rattle.is_theorems.proofs.Common.{Receives, RecordsAndResponds, RecreateCand
 use Rattle.is_theorems.proofs.Common.{RemotePlace, RemovesExpired, request_at, request_counted, request_in, RequestRecord, Reselects}
 use Rattle.is_theorems.proofs.Common.{ResolvesRoleConflict, ResolvesRoleConflictBy, RestartIce, selection_of, selects_at_requests, Send487}
 use Rattle.is_theorems.proofs.Common.{Serves, ServesQueued, SetConsent, SetControlling, SetControlTieBreaker, SetIceLite, SetInitialStunRto}
-use Rattle.is_theorems.proofs.Common.{SetLiteTimeout, SetLocalCredentials, SetLocalPreference, SetMaxCandidatePairs, SetMaxDiscovered}
+use Rattle.is_theorems.proofs.Common.{SetLiteTimeout, SetLocalCredentials, SetLocalPreference, SetMaxCandidatePairs, SetMaxCandidates, SetMaxDiscovered}
 use Rattle.is_theorems.proofs.Common.{SetMaxStunRetransmits, SetMaxStunRto, SetMtu, SetProfile, SetRemoteCredentials, SetRenomination}
 use Rattle.is_theorems.proofs.Common.{SetTimingAdvance, settings_of, SettingsAreSet, SettingsRecord, SkipPairIds, Some, Stream, subst}
 use Rattle.is_theorems.proofs.Common.{switched, SwitchRole, sym, Takes, timeout_begun, true, Unknown, Vacant, with_pair, with_retransmits}
@@ -186,6 +186,7 @@ module _ {H P : Type 0} where
     settings-are-set old new s t (SetControlTieBreaker tie) e h = search (made-of _ new h.1)
     settings-are-set old new s t (SetMaxCandidatePairs n) e h = search (made-of _ new h.1)
     settings-are-set old new s t (SetMaxDiscovered limit) e h = search (made-of _ new h.1)
+    settings-are-set old new s t (SetMaxCandidates limit) e h = search (made-of _ new h.1)
     settings-are-set old new s t (SetIceLite lite) e h = search (made-of _ new h.1)
     settings-are-set old new s t (SetRenomination renominates) e h = search (made-of _ new h.1)
     settings-are-set old new s t (SetProfile profile) e h = search (made-of _ new h.1)

@@ -14,7 +14,7 @@ use Rattle.is_theorems.proofs.Common.{PollTransmit, queued, quiet, Reads, Receiv
 use Rattle.is_theorems.proofs.Common.{Rejected, request_at, request_in, RequestRecord, RestartIce, Restarts, Result, reversed, rising-each}
 use Rattle.is_theorems.proofs.Common.{selected_in, selected_only, Send487, Serves, ServesQueued, SetConsent, SetControlling}
 use Rattle.is_theorems.proofs.Common.{SetControlTieBreaker, SetIceLite, SetInitialStunRto, SetLiteTimeout, SetLocalCredentials}
-use Rattle.is_theorems.proofs.Common.{SetLocalPreference, SetMaxCandidatePairs, SetMaxDiscovered, SetMaxStunRetransmits, SetMaxStunRto}
+use Rattle.is_theorems.proofs.Common.{SetLocalPreference, SetMaxCandidatePairs, SetMaxCandidates, SetMaxDiscovered, SetMaxStunRetransmits, SetMaxStunRto}
 use Rattle.is_theorems.proofs.Common.{SetMtu, SetProfile, SetRemoteCredentials, SetRenomination, SetsLocal, SetsMtu, SetsRemote}
 use Rattle.is_theorems.proofs.Common.{SetTimingAdvance, SkipPairIds, Some, Step, Stream, subst, switched, sym, Takes, timeout_begun}
 use Rattle.is_theorems.proofs.Common.{TimesOut, true, with_retransmits, written, ℕ}
@@ -344,6 +344,7 @@ module _ {H P : Type 0} (mac : H → List ℕ → List ℕ → List ℕ) (answer
   paired (SetControlTieBreaker tie) sound h = becomes (SetControlTieBreaker tie) (fits (SetControlTieBreaker tie) sound) _ (as_it_was (SetControlTieBreaker tie) sound) (calms (SetControlTieBreaker tie) refl refl h) h
   paired (SetMaxCandidatePairs n) sound h = becomes (SetMaxCandidatePairs n) (fits (SetMaxCandidatePairs n) sound) _ (as_it_was (SetMaxCandidatePairs n) sound) (calms (SetMaxCandidatePairs n) refl refl h) h
   paired (SetMaxDiscovered n) sound h = becomes (SetMaxDiscovered n) (fits (SetMaxDiscovered n) sound) _ (as_it_was (SetMaxDiscovered n) sound) (calms (SetMaxDiscovered n) refl refl h) h
+  paired (SetMaxCandidates n) sound h = becomes (SetMaxCandidates n) (fits (SetMaxCandidates n) sound) _ (as_it_was (SetMaxCandidates n) sound) (calms (SetMaxCandidates n) refl refl h) h
   paired (SetIceLite lite) sound h = becomes (SetIceLite lite) (fits (SetIceLite lite) sound) _ (as_it_was (SetIceLite lite) sound) (calms (SetIceLite lite) refl refl h) h
   paired (SetRenomination on) sound h = becomes (SetRenomination on) (fits (SetRenomination on) sound) _ (as_it_was (SetRenomination on) sound) (calms (SetRenomination on) refl refl h) h
   paired (SetProfile profile) sound h = becomes (SetProfile profile) (fits (SetProfile profile) sound) _ (as_it_was (SetProfile profile) sound) (calms (SetProfile profile) refl refl h) h

@@ -17,10 +17,10 @@ use Rattle.is_theorems.proofs.Common.{refl, remote_to_discard, RemotePlace, Remo
 use Rattle.is_theorems.proofs.Common.{RequestRecord, Reselects, ResolvesRoleConflict, ResolvesRoleConflictBy, restarted, RestartIce}
 use Rattle.is_theorems.proofs.Common.{same_state, selected_in, selected_only, selecting, selects_at_requests, Send487, Serves, ServesQueued}
 use Rattle.is_theorems.proofs.Common.{SetConsent, SetControlling, SetControlTieBreaker, SetIceLite, SetInitialStunRto, SetLiteTimeout}
-use Rattle.is_theorems.proofs.Common.{SetLocalCredentials, SetLocalPreference, SetMaxCandidatePairs, SetMaxDiscovered}
+use Rattle.is_theorems.proofs.Common.{SetLocalCredentials, SetLocalPreference, SetMaxCandidatePairs, SetMaxCandidates, SetMaxDiscovered}
 use Rattle.is_theorems.proofs.Common.{SetMaxStunRetransmits, SetMaxStunRto, SetMtu, SetProfile, SetRemoteCredentials, SetRenomination}
 use Rattle.is_theorems.proofs.Common.{SetTimingAdvance, state_updated, SkipPairIds, Some, start_emitted, started, state_at_start, updated_state}
-use Rattle.is_theorems.proofs.Common.{Step, Stream, subst, switched, SwitchRole, sym, Takes, timeout_begun, trigger_time, true, Unknown}
+use Rattle.is_theorems.proofs.Common.{Step, Stream, subst, switched, SwitchRole, sym, Takes, timeout_begun, triggered_time, true, Unknown}
 use Rattle.is_theorems.proofs.Common.{unpaired, Vacant, with_pair, with_retransmits, with_selection, with_sender, with_sender_at}
 use Rattle.is_theorems.proofs.Common.{with_state, ℕ}
 use Rattle.is_theorems.proofs.CallEffects.AddedCandidates.{by_adding_local, by_adding_remote, by_waking}
@@ -173,11 +173,11 @@ module _ {H P : Type 0} (In : Path → Type 0) where
   module _ (mac : H → List ℕ → List ℕ → List ℕ) (q : RequestRecord) (emitted : Emitted) (may : (path : Path) → Has emitted.selected_paths (Some path) → In path) where
     pair : (l r number : ℕ) (s new : AgentRecord H P) → RecordsAndResponds mac q l r number s emitted new → Adds s new
     pair l r number s new (o, mid, nominates, (values, is, made)) =
-        let at : AgentRecord H P = state_updated (is_some o) (trigger_time q s) mid in
+        let at : AgentRecord H P = state_updated (is_some o) (triggered_time q s) mid in
         more s mid new
         (where_adds (selects_at_requests s && is_valid_at number s.pairs) (pair_served q number s) mid o
         (λ path x. may path (subst (λ (y : Emitted). Has y.selected_paths (Some path)) (sym is) (first-in o None path x))) nominates)
-        (more mid at new (updated_adds (is_some o) (trigger_time q s) mid) (same at new (ap (λ (a : AgentRecord H P). a.events) made)))
+        (more mid at new (updated_adds (is_some o) (triggered_time q s) mid) (same at new (ap (λ (a : AgentRecord H P). a.events) made)))
 
     takes : (l r : ℕ) (number : Option ℕ) (s new : AgentRecord H P) → FindsOrAddsPair mac q l r number s emitted new → Adds s new
     takes l r (Some number) s new h = pair l r number s new h
@@ -279,6 +279,7 @@ module _ {H P : Type 0} (In : Path → Type 0) where
     steps old new s t (SetControlTieBreaker tie) e may h = same old new (ap (λ (a : AgentRecord H P). a.events) h.1)
     steps old new s t (SetMaxCandidatePairs n) e may h = same old new (ap (λ (a : AgentRecord H P). a.events) h.1)
     steps old new s t (SetMaxDiscovered limit) e may h = same old new (ap (λ (a : AgentRecord H P). a.events) h.1)
+    steps old new s t (SetMaxCandidates limit) e may h = same old new (ap (λ (a : AgentRecord H P). a.events) h.1)
     steps old new s t (SetIceLite lite) e may h = same old new (ap (λ (a : AgentRecord H P). a.events) h.1)
     steps old new s t (SetRenomination renominates) e may h = same old new (ap (λ (a : AgentRecord H P). a.events) h.1)
     steps old new s t (SetProfile profile) e may h = same old new (ap (λ (a : AgentRecord H P). a.events) h.1)

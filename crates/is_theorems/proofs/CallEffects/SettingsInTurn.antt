@@ -53,7 +53,13 @@ module _ {H P : Type 0} where
 
   -- those after them
   abbrev ended : Settings → AgentRecord H P → AgentRecord H P
-  ended s a = record a { timing_advance = s.timing_advance.0; max_pairs = s.max_pairs; max_discovered = s.max_discovered; renominates = s.renomination }
+  ended s a = record a {
+    timing_advance = s.timing_advance.0;
+    max_pairs = s.max_pairs;
+    max_discovered = s.max_discovered;
+    max_candidates = s.max_candidates;
+    renominates = s.renomination;
+  }
 
   retransmits : (n : ℕ) (a : AgentRecord H P) (r : Stream) → (n == 0) ≡ false
       → MatchBool (n == 0) ((quiet Done ≡ quiet NotCalled) × (with_retransmits n a ≡ a) × (r ≡ r)) (Becomes (with_retransmits n a) r (quiet Done) (with_retransmits n a) r)
@@ -73,6 +79,7 @@ module _ {H P : Type 0} where
         let paced : AgentRecord H P = record both { timing_advance = s.timing_advance.0 } in
         let paired : AgentRecord H P = record paced { max_pairs = s.max_pairs } in
         let found : AgentRecord H P = record paired { max_discovered = s.max_discovered } in
+        let listed : AgentRecord H P = record found { max_candidates = s.max_candidates } in
         let positive : 0 < s.max_retransmits = search some in (
           profiled,
           r,
@@ -128,12 +135,19 @@ module _ {H P : Type 0} where
                           tt,
                           (refl, refl, refl),
                           (
-                            record found { renominates = s.renomination },
+                            listed,
                             r,
                             r,
                             tt,
                             (refl, refl, refl),
-                            sym (ap (λ (a : AgentRecord H P). ended s a) (rtos-in-turn s.initial_rto.0 s.max_rto.0 timed)),
+                            (
+                              record listed { renominates = s.renomination },
+                              r,
+                              r,
+                              tt,
+                              (refl, refl, refl),
+                              sym (ap (λ (a : AgentRecord H P). ended s a) (rtos-in-turn s.initial_rto.0 s.max_rto.0 timed)),
+                            ),
                           ),
                         ),
                       ),

@@ -11,7 +11,7 @@ use Rattle.is_theorems.proofs.Common.{PollTransmit, Queues, ReceivePacket, Recei
 use Rattle.is_theorems.proofs.Common.{RemotePlace, request_at, request_counted, request_in, RequestRecord, ResolvesRoleConflict}
 use Rattle.is_theorems.proofs.Common.{ResolvesRoleConflictBy, RestartIce, Send487, sends_check, Serves, ServesQueued, SetConsent}
 use Rattle.is_theorems.proofs.Common.{SetControlling, SetControlTieBreaker, SetIceLite, SetInitialStunRto, SetLiteTimeout}
-use Rattle.is_theorems.proofs.Common.{SetLocalCredentials, SetLocalPreference, SetMaxCandidatePairs, SetMaxDiscovered}
+use Rattle.is_theorems.proofs.Common.{SetLocalCredentials, SetLocalPreference, SetMaxCandidatePairs, SetMaxCandidates, SetMaxDiscovered}
 use Rattle.is_theorems.proofs.Common.{SetMaxStunRetransmits, SetMaxStunRto, SetMtu, SetProfile, SetRemoteCredentials, SetRenomination}
 use Rattle.is_theorems.proofs.Common.{SetTimingAdvance, SkipPairIds, Some, Step, Stream, switched, SwitchRole, sym, Takes, timeout_begun}
 use Rattle.is_theorems.proofs.Common.{true, Unknown, unwrap_or, Vacant, with_pair, with_sender, with_sender_at, ℕ}
@@ -104,6 +104,7 @@ module _ {H P : Type 0} where
     others-send-none (SetControlTieBreaker tie) old new s t e is h = quiet-call (SetControlTieBreaker tie) old new s t e refl h
     others-send-none (SetMaxCandidatePairs n) old new s t e is h = quiet-call (SetMaxCandidatePairs n) old new s t e refl h
     others-send-none (SetMaxDiscovered n) old new s t e is h = quiet-call (SetMaxDiscovered n) old new s t e refl h
+    others-send-none (SetMaxCandidates n) old new s t e is h = quiet-call (SetMaxCandidates n) old new s t e refl h
     others-send-none (SetIceLite lite) old new s t e is h = quiet-call (SetIceLite lite) old new s t e refl h
     others-send-none (SetRenomination on) old new s t e is h = quiet-call (SetRenomination on) old new s t e refl h
     others-send-none (SetProfile profile) old new s t e is h = quiet-call (SetProfile profile) old new s t e refl h

@@ -14,7 +14,7 @@ use Rattle.is_theorems.proofs.Common.{pair_served, PairRecord, Path, Queues, Rec
 use Rattle.is_theorems.proofs.Common.{removes, RemovesExpired, RemovesInTurn, request_counted, request_in, RequestRecord, Reselects}
 use Rattle.is_theorems.proofs.Common.{ResolvesRoleConflict, ResolvesRoleConflictBy, Result, selection_of, selects_at_requests, Send487}
 use Rattle.is_theorems.proofs.Common.{served, Serves, state_updated, sides_of, SidesRecord, slice_set, Some, subst, Succeeded, Success, switched}
-use Rattle.is_theorems.proofs.Common.{switched_sides, SwitchRole, sym, Takes, TakesAnswer, taking_over, Tries, trigger_time, true, undue}
+use Rattle.is_theorems.proofs.Common.{switched_sides, SwitchRole, sym, Takes, TakesAnswer, taking_over, Tries, triggered_time, true, undue}
 use Rattle.is_theorems.proofs.Common.{Unknown, unwrap_or, Vacant, validated, with_pair, with_priority_in, with_request, with_sender}
 use Rattle.is_theorems.proofs.Common.{with_sender_at, without, ℕ}
 use Rattle.is_theorems.proofs.BasicLemmas.ServedPairs.{taken-time}
@@ -82,7 +82,7 @@ module _ {H P : Type 0} (q : RequestRecord) (a : AgentRecord H P) (p : PairRecor
   pub request-number : (after_request q a p).number ≡ p.number
   request-number =
       ap (λ (x : PairRecord). x.number) (served-is a.controlling a.lite (as_taken (numbers a) q) (triggered_by q a p)).is
-      ∙ ap (λ (x : PairRecord). x.number) (triggered_is (is_modern a.timing) (trigger_time q a) p).1
+      ∙ ap (λ (x : PairRecord). x.number) (triggered_is (is_modern a.timing) (triggered_time q a) p).1
 
 -- ---- lists
 
@@ -118,7 +118,7 @@ pub record IsRequested (p : PairRecord) (time : ℕ) (after : PairRecord) : Type
 
 request-at : {H P : Type 0} (q : RequestRecord) (a : AgentRecord H P) (p : PairRecord) → IsRequested p q.time (after_request q a p)
 request-at q a p =
-    let t = triggered_is (is_modern a.timing) (trigger_time q a) p in
+    let t = triggered_is (is_modern a.timing) (triggered_time q a) p in
     let s = served-is a.controlling a.lite (as_taken (numbers a) q) (triggered_by q a p) in
     let is : after_request q a p ≡ once_requested (record p { due = t.0 }) (as_taken (numbers a) q).time s.state s.nomination s.number =
     s.is ∙ ap (λ (x : PairRecord). once_requested x (as_taken (numbers a) q).time s.state s.nomination s.number) t.1 in

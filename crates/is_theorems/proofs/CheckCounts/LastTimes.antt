@@ -5,7 +5,7 @@ use Rattle.is_theorems.proofs.Common.{InvalidatesAt, is_timeout, List, local_to_
 use Rattle.is_theorems.proofs.Common.{Option, Path, PollEvent, PollTimeout, PollTransmit, quiet, ReceivePacket, RecreateCandidatePairs}
 use Rattle.is_theorems.proofs.Common.{remote_to_discard, Reselects, RestartIce, SetConsent, SetControlling, SetControlTieBreaker}
 use Rattle.is_theorems.proofs.Common.{SetIceLite, SetInitialStunRto, SetLiteTimeout, SetLocalCredentials, SetLocalPreference}
-use Rattle.is_theorems.proofs.Common.{SetMaxCandidatePairs, SetMaxDiscovered, SetMaxStunRetransmits, SetMaxStunRto, SetMtu, SetProfile}
+use Rattle.is_theorems.proofs.Common.{SetMaxCandidatePairs, SetMaxCandidates, SetMaxDiscovered, SetMaxStunRetransmits, SetMaxStunRto, SetMtu, SetProfile}
 use Rattle.is_theorems.proofs.Common.{SetRemoteCredentials, SetRenomination, SetTimingAdvance, SkipPairIds, Some, Step, Stream, true}
 use Rattle.is_theorems.proofs.Common.{with_retransmits, ℕ}
 use Rattle.is_theorems.proofs.CallEffects.AddedCandidates.{by_adding_local, by_adding_remote, by_waking}
@@ -55,6 +55,7 @@ module _ {H P : Type 0} where
     both-stay (SetControlTieBreaker tie) old new s t e is h = made-of _ new h.1
     both-stay (SetMaxCandidatePairs n) old new s t e is h = made-of _ new h.1
     both-stay (SetMaxDiscovered limit) old new s t e is h = made-of _ new h.1
+    both-stay (SetMaxCandidates limit) old new s t e is h = made-of _ new h.1
     both-stay (SetIceLite lite) old new s t e is h = made-of _ new h.1
     both-stay (SetRenomination renominates) old new s t e is h = made-of _ new h.1
     both-stay (SetProfile profile) old new s t e is h = made-of _ new h.1

@@ -2,8 +2,8 @@
 use Rattle.is_theorems.proofs.Common.{◌&&◌, ◌*◌, ◌+◌, ◌-◌, ◌<◌, ◌==◌, ◌||◌, ◌∙◌, ◌≡◌, ◌≤◌, ◌⊎◌, ap, arith, scheduled, Bool, cases_lt, Check}
 use Rattle.is_theorems.proofs.Common.{check_of, check_time, checked, computed_due_time, delay_of, due_time_of, early_delay, early_span}
 use Rattle.is_theorems.proofs.Common.{eqb-true, false, hushed_delay, if◌then◌else◌, inl, inr, is_asked_first, is_due, is_early_on}
-use Rattle.is_theorems.proofs.Common.{is_early_silence, is_heard, is_hushed, is_in_time, is_modern, is_nominated, is_nominating}
-use Rattle.is_theorems.proofs.Common.{is_possible, is_recent, is_repeated_early, is_silent, is_valid, is_within, is_within_series, is_young}
+use Rattle.is_theorems.proofs.Common.{first_unanswered, is_hushed, is_modern, is_nominated, is_nominating, max, option_map, possible_until}
+use Rattle.is_theorems.proofs.Common.{is_possible, is_repeated_early, is_silent, is_valid, is_within, request_end, response_end, series_end, series_start}
 use Rattle.is_theorems.proofs.Common.{last_check, last_resend_delay, later, least_delay, length, List, MAX, min, nat_lt}
 use Rattle.is_theorems.proofs.Common.{nomination_once_sent, None, not, Option, option_map_or, PairRecord, refl, repeated_delay}
 use Rattle.is_theorems.proofs.Common.{resend_delay, rto_after, SECOND, silent_count, Some, StunTiming, subst, suc, sym, timeout_of, true}
@@ -193,16 +193,9 @@ module _ (t : StunTiming) (bound : Bound) where
 
   -- ---- when it ends
 
-  ends-by : (m w h a b c : Bool) → (h ≡ true → ⊥) → a ≡ false → b ≡ false → (m ≡ true → w ≡ true → ⊥) → (c ≡ true → ⊥) → ((m && w) || (h || a || b || c)) ≡ true → ⊥
-  ends-by true true h a b c one two three early late is = early refl refl
-  ends-by true false true a b c one two three early late is = one refl
-  ends-by true false false true b c one two three early late is = no-case (sym two)
-  ends-by true false false false true c one two three early late is = no-case (sym three)
-  ends-by true false false false false c one two three early late is = late is
-  ends-by false w true a b c one two three early late is = one refl
-  ends-by false w false true b c one two three early late is = no-case (sym two)
-  ends-by false w false false true c one two three early late is = no-case (sym three)
-  ends-by false w false false false c one two three early late is = late is
+  ends-by : (l u : Bool) → l ≡ false → (u ≡ true → ⊥) → (l || u) ≡ true → ⊥
+  ends-by true u none past is = no-case (sym none)
+  ends-by false u none past is = past is
 
   module _ (ends : Ends t bound) (base by now : ℕ) (p : PairRecord) (clean : IsPast now p) (h : HasRun base by p) (covers : Covers bound p) (passes : by ≤ now) (invalid : is_valid p ≡ false) (goes_on : now < MAX)
       (kept : (p.requests ≡ 0) ⊎ IsPastRequest t bound) (all : bound.checks ≤ h.count) (due : later h.last.sent (least_delay t span (h.last.sent - h.start) h.count) ≤ now) where
@@ -215,74 +208,71 @@ module _ (t : StunTiming) (bound : Bound) where
     next-sent : later h.start (check_time t span (suc bound.checks)) ≤ now
     next-sent = subst (λ n. later h.start (check_time t span (suc n)) ≤ now) same (later-next t span h.count h.start h.last.sent now h.some h.late due)
 
-    series-is : is_within_series now t p ≡ (not (is_asked_first p) && nat_lt now (later h.first (timeout_of t)))
+    series-is : series_start p ≡ (if is_asked_first p then None else Some h.first)
     series-is =
-        ap (λ a. if a == 0 then not (is_asked_first p) && is_young now t p else is_early_silence now t p.checks) clean.answers
-        ∙ ap (λ o. not (is_asked_first p) && option_map_or (λ at. nat_lt now (later at (timeout_of t))) o false) h.began
+        ap (λ a. if a == 0 then (if is_asked_first p then None else p.first_sent) else option_map (λ (c : Check). c.sent) (first_unanswered p.checks)) clean.answers
+        ∙ ap (λ o. if is_asked_first p then None else o) h.began
 
     -- the time of a series of checks is over, or does not count
-    series-over : is_modern t ≡ true → is_within_series now t p ≡ true → ⊥
-    series-over modern within = by-kind bound.asked refl where
-      none : (first start series next : ℕ) → first ≤ start → now < later first series → series ≤ next → later start next ≤ now → ⊥
-      none first start series next before lt over sent = let no : ⊥ = omega (arith, before, lt, over, sent) in no
+    series-over : series_end t p ≤ now
+    series-over = subst (λ o. (if is_modern t then option_map_or (λ at. later at (timeout_of t)) o 0 else 0) ≤ now) (sym series-is) (by-kind (is_modern t) (is_asked_first p) refl refl) where
+      over-by : (first start series next : ℕ) → first ≤ start → series ≤ next → later start next ≤ now → later first series ≤ now
+      over-by first start series next before over sent = omega (arith, before, over, sent)
 
-      counts : (a b : Bool) → (not a && b) ≡ true → (a ≡ false) × (b ≡ true)
-      counts true b h = no-case h
-      counts false b h = (refl, h)
+      counts : (b : Bool) → bound.asked ≡ b → is_asked_first p ≡ false → bound.asked ≡ false
+      counts true is other = no-case (sym other ∙ first-asked base by now now p clean h covers passes invalid is)
+      counts false is other = is
 
-      both : (is_asked_first p ≡ false) × (nat_lt now (later h.first (timeout_of t)) ≡ true)
-      both = counts (is_asked_first p) (nat_lt now (later h.first (timeout_of t))) (sym series-is ∙ within)
-
-      by-kind : (b : Bool) → bound.asked ≡ b → ⊥
-      by-kind true is = no-case (sym both.0 ∙ first-asked base by now now p clean h covers passes invalid is)
-      by-kind false is = none h.first h.start (timeout_of t) (check_time t span (suc bound.checks)) h.before (lt-of now (later h.first (timeout_of t)) both.1) (ends.over is modern) next-sent
+      by-kind : (m a : Bool) → is_modern t ≡ m → is_asked_first p ≡ a → (if m then option_map_or (λ at. later at (timeout_of t)) (if a then None else Some h.first) 0 else 0) ≤ now
+      by-kind false a modern asked = omega arith
+      by-kind true true modern asked = omega arith
+      by-kind true false modern asked = over-by h.first h.start (timeout_of t) (check_time t span (suc bound.checks)) h.before (ends.over (counts bound.asked refl asked) modern) next-sent
 
     -- so is that for which a request keeps it
-    request-over : is_heard now p ≡ true → ⊥
-    request-over heard = from p.last_request refl heard where
-      none : (at next : ℕ) → at ≤ h.start → now - at < 15 * SECOND → 15 * SECOND ≤ next → later h.start next ≤ now → ⊥
-      none at next le lt long sent = let no : ⊥ = omega (arith, le, lt, long, sent, goes_on) in no
+    request-over : request_end p ≤ now
+    request-over = from p.last_request refl where
+      over-by : (at next : ℕ) → at ≤ h.start → 15 * SECOND ≤ next → later h.start next ≤ now → at + 15 * SECOND ≤ now
+      over-by at next le long sent = omega (arith, le, long, sent, goes_on)
 
-      from : (o : Option ℕ) → p.last_request ≡ o → option_map_or (is_recent now) o false ≡ true → ⊥
-      from None is wrong = no-case wrong
-      from (Some at) is recent = elim kept [
+      from : (o : Option ℕ) → p.last_request ≡ o → option_map_or (λ at. at + 15 * SECOND) o 0 ≤ now
+      from None is = omega arith
+      from (Some at) is = elim kept [
         | inl zero_is ↦ none-some at (sym (clean.quiet zero_is) ∙ is)
-        | inr long ↦ none at (check_time t span (suc bound.checks)) (h.heard at is) (lt-of (now - at) (15 * SECOND) recent) (omega (arith, long)) next-sent
+        | inr long ↦ over-by at (check_time t span (suc bound.checks)) (h.heard at is) (omega (arith, long)) next-sent
       ]
-
-    many : nat_lt (length p.checks) t.max_retransmits ≡ false
-    many = let enough = h.enough in let is = full in not-lt (length p.checks) t.max_retransmits (omega (arith, enough, is))
 
     many-free : nat_lt (unanswered_count p.checks) t.max_retransmits ≡ false
     many-free = let enough = counted-enough base by now now p clean h covers passes invalid in let is = full in not-lt (unanswered_count p.checks) t.max_retransmits (omega (arith, enough, is))
 
     -- and so is that of a response to the last one
-    response-over : is_in_time now t p.checks ≡ true → ⊥
-    response-over in_time =
-        by-delay (is_modern t) (nat_lt (h.last.sent - h.start) span) refl refl due
-        (lt-of now (later h.last.sent (last_resend_delay t)) (sym (ap (λ o. option_map_or (λ (c : Check). nat_lt now (later c.sent (last_resend_delay t))) o false) h.stored) ∙ in_time)) where
+    response-over : response_end t p.checks ≤ now
+    response-over =
+        subst (λ o. option_map_or (λ (c : Check). later c.sent (last_resend_delay t)) o 0 ≤ now) (sym h.stored)
+        (by-delay (is_modern t) (nat_lt (h.last.sent - h.start) span) refl refl due) where
           rto-is : rto_after t h.count ≡ last_resend_delay t
           rto-is = ap (resend_delay t) full
 
-          usual : later h.last.sent (rto_after t h.count) ≤ now → now < later h.last.sent (last_resend_delay t) → ⊥
-          usual late lt = let is = rto-is in (let no : ⊥ = omega (arith, is, late, lt) in no)
+          usual : later h.last.sent (rto_after t h.count) ≤ now → later h.last.sent (last_resend_delay t) ≤ now
+          usual late = let is = rto-is in omega (arith, is, late)
 
           rare : (start sent e s : ℕ) → later start s ≤ sent → sent ≤ by → e ≤ s → sent - start < e → ⊥
           rare start sent e s late past long lt = let no : ⊥ = omega (arith, late, past, long, lt, goes_on, passes) in no
 
           by-delay : (m x : Bool) → is_modern t ≡ m → nat_lt (h.last.sent - h.start) span ≡ x
               → later h.last.sent (if m && x then min (early_delay h.count) (rto_after t h.count) else rto_after t h.count) ≤ now
-              → now < later h.last.sent (last_resend_delay t) → ⊥
-          by-delay false x modern is late lt = usual late lt
-          by-delay true false modern is late lt = usual late lt
-          by-delay true true modern is late lt =
-              rare h.start h.last.sent span (check_time t span h.count) h.late h.past (subst (λ n. span ≤ check_time t span n) (sym same) (ends.rare modern))
-              (lt-of (h.last.sent - h.start) span is)
+              → later h.last.sent (last_resend_delay t) ≤ now
+          by-delay false x modern is late = usual late
+          by-delay true false modern is late = usual late
+          by-delay true true modern is late =
+              absurd (rare h.start h.last.sent span (check_time t span h.count) h.late h.past (subst (λ n. span ≤ check_time t span n) (sym same) (ends.rare modern))
+              (lt-of (h.last.sent - h.start) span is))
 
     over : is_possible now t p ≡ true → ⊥
     over possible =
-        ends-by (is_modern t) (is_within_series now t p) (is_heard now p) (nat_lt (length p.checks) t.max_retransmits) (nat_lt (unanswered_count p.checks) t.max_retransmits) (is_in_time now t p.checks)
-        request-over many many-free series-over response-over possible
+        ends-by (nat_lt (unanswered_count p.checks) t.max_retransmits) (nat_lt now (possible_until t p)) many-free
+        (λ early. last-over (request_end p) (response_end t p.checks) (series_end t p) request-over response-over series-over (lt-of now (possible_until t p) early)) possible where
+          last-over : (r a b : ℕ) → r ≤ now → a ≤ now → b ≤ now → now < max r (max a b) → ⊥
+          last-over r a b one two three lt = let no : ⊥ = omega (arith, one, two, three, lt) in no
 
   -- ---- a check
 

@@ -10,7 +10,7 @@ use Rattle.is_theorems.proofs.Common.{MaySelect, NextTimeoutFrom, None, not, Ok,
 use Rattle.is_theorems.proofs.Common.{PollsTimeout, PollTimeout, PollTransmit, ReceivePacket, RecreateCandidatePairs, Recreates, refl}
 use Rattle.is_theorems.proofs.Common.{remote_discarded, remote_to_discard, request_at, RequestRecord, RestartIce, Restarts, Result}
 use Rattle.is_theorems.proofs.Common.{ServesQueued, SetConsent, SetControlling, SetControlTieBreaker, SetIceLite, SetInitialStunRto}
-use Rattle.is_theorems.proofs.Common.{SetLiteTimeout, SetLocalCredentials, SetLocalPreference, SetMaxCandidatePairs, SetMaxDiscovered}
+use Rattle.is_theorems.proofs.Common.{SetLiteTimeout, SetLocalCredentials, SetLocalPreference, SetMaxCandidatePairs, SetMaxCandidates, SetMaxDiscovered}
 use Rattle.is_theorems.proofs.Common.{SetMaxStunRetransmits, SetMaxStunRto, SetMtu, SetProfile, SetRemoteCredentials, SetRenomination}
 use Rattle.is_theorems.proofs.Common.{SetsLocal, SetsMtu, SetsRemote, SetTimingAdvance, SharedRun, silent_gone, SkipPairIds, Some, Step}
 use Rattle.is_theorems.proofs.Common.{Stream, StunTiming, subst, sym, time_after, time_of, timeout_begun, true, undue, unwrap_or, ℕ}
@@ -112,6 +112,7 @@ module _ {H P : Type 0} where
         others (SetControlTieBreaker tie) is other_than le h = made-at _ new h.1 k
         others (SetMaxCandidatePairs n) is other_than le h = made-at _ new h.1 k
         others (SetMaxDiscovered limit) is other_than le h = made-at _ new h.1 k
+        others (SetMaxCandidates limit) is other_than le h = made-at _ new h.1 k
         others (SetIceLite lite) is other_than le h = made-at _ new h.1 k
         others (SetRenomination on) is other_than le h = made-at _ new h.1 k
         others (SetProfile profile) is other_than le h = made-at _ new h.1 k

@@ -7,7 +7,7 @@ use Rattle.is_theorems.proofs.Common.{local_discarded, local_to_discard, loses_s
 use Rattle.is_theorems.proofs.Common.{PollEvent, PollTimeout, PollTransmit, ReceivePacket, RecreateCandidatePairs, Recreates, refl}
 use Rattle.is_theorems.proofs.Common.{remote_discarded, remote_to_discard, RestartIce, Restarts, Result, SetConsent, SetControlling}
 use Rattle.is_theorems.proofs.Common.{SetControlTieBreaker, SetIceLite, SetInitialStunRto, SetLiteTimeout, SetLocalCredentials}
-use Rattle.is_theorems.proofs.Common.{SetLocalPreference, SetMaxCandidatePairs, SetMaxDiscovered, SetMaxStunRetransmits, SetMaxStunRto}
+use Rattle.is_theorems.proofs.Common.{SetLocalPreference, SetMaxCandidatePairs, SetMaxCandidates, SetMaxDiscovered, SetMaxStunRetransmits, SetMaxStunRto}
 use Rattle.is_theorems.proofs.Common.{SetMtu, SetProfile, SetRemoteCredentials, SetRenomination, SetsLocal, SetsMtu, SetsRemote}
 use Rattle.is_theorems.proofs.Common.{SetTimingAdvance, SkipPairIds, Some, Step, Stream, subst, sym, true, ValidHaveConsented, ℕ}
 use Rattle.is_theorems.proofs.CallEffects.AddedCandidates.{by_adding_local, by_adding_remote, by_waking}
@@ -74,6 +74,7 @@ module _ {H P : Type 0} (mac : H → List ℕ → List ℕ → List ℕ) (answer
     steps (SetControlTieBreaker tie) full (is, made, drawn) = subst (λ (a : AgentRecord H P). IsFirm a) (sym made) f
     steps (SetMaxCandidatePairs k) full (is, made, drawn) = subst (λ (a : AgentRecord H P). IsFirm a) (sym made) f
     steps (SetMaxDiscovered limit) full (is, made, drawn) = subst (λ (a : AgentRecord H P). IsFirm a) (sym made) f
+    steps (SetMaxCandidates limit) full (is, made, drawn) = subst (λ (a : AgentRecord H P). IsFirm a) (sym made) f
     steps (SetIceLite lite) full (is, made, drawn) = subst (λ (a : AgentRecord H P). IsFirm a) (sym made) (full, f.1)
     steps (SetRenomination on) full (is, made, drawn) = subst (λ (a : AgentRecord H P). IsFirm a) (sym made) f
     steps (SetProfile profile) full (is, made, drawn) = subst (λ (a : AgentRecord H P). IsFirm a) (sym made) (f.0, f.1)

@@ -1,7 +1,7 @@
 -- A connected agent that is never lite has a response to a recent check on its path, or a recent check of the peer.
-use Rattle.is_theorems.proofs.Common.{◌&&◌, ◌*◌, ◌-◌, ◌<◌, ◌||◌, ◌≡◌, ◌⊎◌, AgentRecord, AreNeverLite, arith, Bool, CandidateRecord}
+use Rattle.is_theorems.proofs.Common.{◌&&◌, ◌*◌, ◌+◌, ◌-◌, ◌<◌, ◌||◌, ◌≡◌, ◌⊎◌, AgentRecord, AreNeverLite, arith, Bool, CandidateRecord}
 use Rattle.is_theorems.proofs.Common.{ConnectedAreAnswered, Consent, consent_of, false, HandleTimeout, has_consent, inl, inr, is_heard}
-use Rattle.is_theorems.proofs.Common.{is_nominated, is_recent, is_some, is_valid, IsAliveBy, later, List, nat_lt, nat_tests, None, not}
+use Rattle.is_theorems.proofs.Common.{is_nominated, is_some, is_valid, IsAliveBy, later, List, nat_lt, nat_tests, None, not}
 use Rattle.is_theorems.proofs.Common.{Option, option_map_or, PairRecord, refl, SECOND, Some, subst, sym, true, ℕ}
 use Rattle.is_theorems.proofs.BasicLemmas.EqualAddresses.{both}
 use Rattle.is_theorems.proofs.ConnectedConsent.AnsweredExecutions.{along, steps}
@@ -19,9 +19,9 @@ alive c now p some consent = from p.consented refl some consent where
   Heard : Type 0
   Heard = (c.strict ≡ false) × ((at : ℕ) × (p.last_request ≡ Some at) × (now - at < 15 * SECOND))
 
-  arrived : c.strict ≡ false → (o : Option ℕ) → p.last_request ≡ o → option_map_or (is_recent now) o false ≡ true → Heard
-  arrived loose None is h = absurd (no-case h)
-  arrived loose (Some at) is h = (loose, (at, is, less (now - at) (15 * SECOND) h))
+  arrived : c.strict ≡ false → (o : Option ℕ) → p.last_request ≡ o → nat_lt now (option_map_or (λ at. at + 15 * SECOND) o 0) ≡ true → Heard
+  arrived loose None is h = absurd (let lt = less now 0 h in let no : ⊥ = omega (arith, lt) in no)
+  arrived loose (Some at) is h = (loose, (at, is, (let lt = less now (at + 15 * SECOND) h in omega (arith, lt))))
 
   heard : (strict : Bool) → c.strict ≡ strict → (not strict && is_heard now p) ≡ true → Heard
   heard true is h = absurd (no-case h)

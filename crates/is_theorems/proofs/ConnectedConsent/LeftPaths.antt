@@ -6,8 +6,8 @@ use Rattle.is_theorems.proofs.Common.{arith, Bool, Call, CandidateRecord, Consen
 use Rattle.is_theorems.proofs.Common.{Execution, ExecutionRound, false, GivesBased, HandleTimeout, Has, heard_until, IceCreds}
 use Rattle.is_theorems.proofs.Common.{if◌then◌else◌, inl, inr, is_connected, is_done, is_in_round, is_some, is_valid, IsAliveBy}
 use Rattle.is_theorems.proofs.Common.{IsAnsweredAlong, IsConnectedAfter, IsFresh, IsPrompt, IsPunctual, IsSound, KeepsPace, later, List}
-use Rattle.is_theorems.proofs.Common.{lite_set_by, MAX, max, next_request, NextTimeout, None, Option, option_map_or, PairRecord, PassRounds}
-use Rattle.is_theorems.proofs.Common.{Path, path_of, PollTimeout, queue_left, refl, remote_after, request_at, RequestRecord, RestartIce}
+use Rattle.is_theorems.proofs.Common.{lite_set_by, MAX, max, min, next_request, NextTimeout, None, Option, option_map_or, PairRecord, PassRounds}
+use Rattle.is_theorems.proofs.Common.{Path, path_of, PollTimeout, queue_left, refl, remote_after, request_at, request_end, RequestRecord, RestartIce}
 use Rattle.is_theorems.proofs.Common.{SECOND, selected_along, SetIceLite, SetRemoteCredentials, SetTimingAdvance, Some, Step, Stream}
 use Rattle.is_theorems.proofs.Common.{StunTiming, subst, sym, timeout_begun, true, Waits, WaitsPast, WaitsWith, ℕ}
 use Rattle.is_theorems.proofs.CallEffects.FailedCallsAndNewAgents.{fresh_sound}
@@ -59,15 +59,15 @@ module _ (c : Consent) (sent heard : ℕ) (path : Path) where
   -- its consent ends by then
   ends-by : (p : PairRecord) → Over p → is_some p.consented ≡ true → consent_end c p ≤ ends
   ends-by p over some = from p.consented refl some where
-    asked-by : (o : Option ℕ) → c.strict ≡ false → p.last_request ≡ o → option_map_or (λ at. later at (15 * SECOND)) o 0 ≤ heard + 15 * SECOND
+    asked-by : (o : Option ℕ) → c.strict ≡ false → p.last_request ≡ o → option_map_or (λ at. at + 15 * SECOND) o 0 ≤ heard + 15 * SECOND
     asked-by None loose is = omega arith
     asked-by (Some at) loose is = let le = over.asked loose at is in omega (arith, le)
 
     by : (b : Bool) (at : ℕ) → c.strict ≡ b → at ≤ sent
-        → max (later at c.timeout.0) (if b then 0 else option_map_or (λ at. later at (15 * SECOND)) p.last_request 0)
+        → max (later at c.timeout.0) (if b then 0 else min (request_end p) MAX)
         ≤ (if b then sent + c.timeout.0 else max (sent + c.timeout.0) (heard + 15 * SECOND))
     by true at is le = omega (arith, le)
-    by false at is le = let k = asked-by p.last_request is refl in omega (arith, le, k)
+    by false at is le = let k : request_end p ≤ heard + 15 * SECOND = asked-by p.last_request is refl in omega (arith, le, k)
 
     from : (o : Option ℕ) → p.consented ≡ o → is_some o ≡ true → option_map_or (λ at. max (later at c.timeout.0) (heard_until c p)) o MAX ≤ ends
     from None is none = no-case none

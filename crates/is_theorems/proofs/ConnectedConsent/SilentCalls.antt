@@ -7,7 +7,7 @@ use Rattle.is_theorems.proofs.Common.{HandlesSuccess, HandleTimeout, Has, IceErr
 use Rattle.is_theorems.proofs.Common.{keeps_check_on, List, local_discarded, loses_selected, MaintainsPairs, map, Message, None, not, Ok}
 use Rattle.is_theorems.proofs.Common.{Option, PairRecord, Path, path_of, PollEvent, PollTimeout, PollTransmit, ReceivePacket, Receives}
 use Rattle.is_theorems.proofs.Common.{refl, request_in, Result, reversed, SetControlling, SetControlTieBreaker, SetLocalCredentials}
-use Rattle.is_theorems.proofs.Common.{SetLocalPreference, SetMaxCandidatePairs, SetMaxDiscovered, SetMtu, SetRenomination, SetTimingAdvance}
+use Rattle.is_theorems.proofs.Common.{SetLocalPreference, SetMaxCandidatePairs, SetMaxCandidates, SetMaxDiscovered, SetMtu, SetRenomination, SetTimingAdvance}
 use Rattle.is_theorems.proofs.Common.{Some, Step, Stream, subst, switched_sides, sym, Takes, timeout_begun, true, with_priority_in}
 use Rattle.is_theorems.proofs.Common.{with_remote, ℕ}
 use Rattle.is_theorems.proofs.BasicLemmas.EqualAddresses.{both}
@@ -149,6 +149,7 @@ module _ {H P : Type 0} (mac : H → List ℕ → List ℕ → List ℕ) (answer
   step-over (SetControlTieBreaker tie) e old new s t is silent sound h o = subst (λ (a : AgentRecord H P). Over a) (sym h.1) o
   step-over (SetMaxCandidatePairs k) e old new s t is silent sound h o = subst (λ (a : AgentRecord H P). Over a) (sym h.1) o
   step-over (SetMaxDiscovered limit) e old new s t is silent sound h o = subst (λ (a : AgentRecord H P). Over a) (sym h.1) o
+  step-over (SetMaxCandidates limit) e old new s t is silent sound h o = subst (λ (a : AgentRecord H P). Over a) (sym h.1) o
   step-over (SetRenomination renominates) e old new s t is silent sound h o = subst (λ (a : AgentRecord H P). Over a) (sym h.1) o
   step-over (SetTimingAdvance by) e old new s t is silent sound h o = subst (λ (a : AgentRecord H P). Over a) (sym h.1) o
   step-over (SetLocalPreference object) e old new s t is silent sound h o = subst (λ (a : AgentRecord H P). Over a) (sym h.1) o

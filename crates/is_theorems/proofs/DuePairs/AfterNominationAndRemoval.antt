@@ -1,13 +1,13 @@
 -- What nomination and removal leave of a list of pairs: fewer of them, each due as it was. As a silent path is left, pairs may become due
 -- sooner, but only after the call.
 use Rattle.is_pair.specs.Due as due
-use Rattle.is_theorems.proofs.Common.{[], ◌&&◌, ◌<◌, ◌||◌, ◌∙◌, ◌∷◌, ◌≡◌, ◌≤◌, ◌⊎◌, AgentRecord, ap, arith, awaits_nomination, Bool}
+use Rattle.is_theorems.proofs.Common.{[], ◌&&◌, ◌*◌, ◌+◌, ◌<◌, ◌||◌, ◌∙◌, ◌∷◌, ◌≡◌, ◌≤◌, ◌⊎◌, AgentRecord, ap, arith, awaits_nomination, Bool}
 use Rattle.is_theorems.proofs.Common.{CandidateRecord, change_at, Check, ChecksInTurn, Consent, consent_of, expired_gone, false, filter}
 use Rattle.is_theorems.proofs.Common.{followed, gives_way, Has, hastened, IceCreds, if◌then◌else◌, inl, inr, is_eligible, is_expired}
-use Rattle.is_theorems.proofs.Common.{is_modern, is_named_by, is_nominated, is_numbered, is_recent, is_silent_enough, is_some, is_valid}
+use Rattle.is_theorems.proofs.Common.{is_modern, is_named_by, is_nominated, is_numbered, is_silent_enough, is_some, is_valid}
 use Rattle.is_theorems.proofs.Common.{IsGone, IsLasting, IsSound, later, length, List, list_any, map, may_replace, min, nat_le, nat_lt}
 use Rattle.is_theorems.proofs.Common.{nat_tests, no-more, nominated, nominated_by_self, Nominates, None, not, Option, option_map}
-use Rattle.is_theorems.proofs.Common.{option_map_or, PairRecord, Path, path_left, refl, remains, RemovesExpired, RequestRecord}
+use Rattle.is_theorems.proofs.Common.{option_map_or, PairRecord, Path, path_left, refl, remains, RemovesExpired, RequestRecord, SECOND}
 use Rattle.is_theorems.proofs.Common.{selection_of, silence_of, silent_gone, Some, StunTiming, subst, sym, thinner, true, unanswered_count}
 use Rattle.is_theorems.proofs.Common.{unwrap_or, ℕ}
 use Rattle.is_theorems.proofs.RuleEffects.UnchangedSettings.{either}
@@ -243,13 +243,6 @@ fifth-off false b c d e f g is = refl
 not-under : (n m : ℕ) → nat_lt n m ≡ true → nat_le m n ≡ false
 not-under n m h = grind (arith, nat_tests, h)
 
-possible : (e h b u i : Bool) → u ≡ true → (e || (h || b || u || i)) ≡ true
-possible true h b u i is = refl
-possible false true b u i is = refl
-possible false false true u i is = refl
-possible false false false true i is = refl
-possible false false false false i is = absurd (cc)
-
 -- ---- consent
 
 either-way : (b c : Bool) → b ≡ true → (b || c) ≡ true
@@ -272,7 +265,7 @@ pub consent-same : (o : Option Consent) (now : ℕ) (p q : PairRecord) → q.con
 consent-same None now p q same heard = refl
 consent-same (Some c) now p q same heard =
     ap (λ had. option_map_or (λ at. nat_lt now (later at c.timeout.0)) had true || (not c.strict && due.is_heard now q)) same
-    ∙ ap (λ was. due.is_answered_lately c now p || (not c.strict && option_map_or (is_recent now) was false)) heard
+    ∙ ap (λ was. due.is_answered_lately c now p || (not c.strict && nat_lt now (option_map_or (λ at. at + 15 * SECOND) was 0))) heard
 
 -- A pair that is not valid never had a response.
 pub answered-invalid : (o : Option Consent) (now : ℕ) (p : PairRecord) → (is_some p.consented ≡ true → is_valid p ≡ true) → is_valid p ≡ false → due.stays_answered o now p ≡ true
@@ -287,7 +280,7 @@ answered-invalid o now p had invalid = from p.consented refl where
 pub stays-young : (lite : Bool) (now : ℕ) (t : StunTiming) (p : PairRecord) → lite ≡ false → due.stays_answered (consent_of t) now p ≡ true → nat_lt (unanswered_count p.checks) t.max_retransmits ≡ true → not (due.is_pair_expired lite now t p) ≡ true
 stays-young true now t p full answered young = absurd (cc)
 stays-young false now t p full answered young =
-    ap (λ b. not (not b)) (ap (λ b. b && due.is_possible now t p) (answered-consents (consent_of t) now p answered) ∙ possible (due.has_early_checks now t p) (due.is_heard now p) (nat_lt (length p.checks) t.max_retransmits) (nat_lt (unanswered_count p.checks) t.max_retransmits) (due.is_in_time now t p.checks) young)
+    ap (λ b. not (not b)) (ap (λ b. b && due.is_possible now t p) (answered-consents (consent_of t) now p answered) ∙ either-way (due.has_checks_left t p) (nat_lt now (due.possible_until t p)) young)
 
 module _ {H P : Type 0} where
   -- the time of the last `handle_timeout` call

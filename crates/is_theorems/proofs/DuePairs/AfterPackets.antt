@@ -17,7 +17,7 @@ use Rattle.is_theorems.proofs.Common.{numbers, Ok, Option, option_map, option_ma
 use Rattle.is_theorems.proofs.Common.{path_between, priority_between, Queues, ReceivePacket, RecordsAndResponds, refl, RemotePlace, replied}
 use Rattle.is_theorems.proofs.Common.{request_counted, request_in, RequestRecord, ResolvesRoleConflict, ResolvesRoleConflictBy, same}
 use Rattle.is_theorems.proofs.Common.{selects_at_requests, Send487, sender_candidate, served, Serves, state_updated, SHORT_INTERVAL, Some, Step}
-use Rattle.is_theorems.proofs.Common.{Stream, StunTiming, subst, Success, switched, SwitchRole, sym, Takes, trigger_time, triggered, true}
+use Rattle.is_theorems.proofs.Common.{Stream, StunTiming, subst, Success, switched, SwitchRole, sym, Takes, triggered_time, triggered, true}
 use Rattle.is_theorems.proofs.Common.{unanswered_count, Unknown, unwrap_or, usual_delay, Vacant, with_pair, with_request, with_sender}
 use Rattle.is_theorems.proofs.Common.{with_sender_at, ℕ}
 use Rattle.is_theorems.proofs.RuleEffects.UnchangedSettings.{either, Frame, admits}
@@ -368,12 +368,12 @@ module _ {H P : Type 0} where
       pair l r number s new emitted role full none (path, mid, nominates, (values, is, made)) =
           let k : (path ≡ None) × (mid ≡ pair_served q number s) =
           subst (λ b. NominatesWhere b (pair_served q number s) path mid) (and-false (selects_at_requests s) (is_valid_at number s.pairs) (none-passes number s.pairs none)) nominates in
-          subst (λ (a : AgentRecord H P). Rests s a) (sym (made ∙ ap (λ (a : AgentRecord H P). replied mac q (path_between s l r) (state_updated (is_some path) (trigger_time q s) a)) k.1)) (
+          subst (λ (a : AgentRecord H P). Rests s a) (sym (made ∙ ap (λ (a : AgentRecord H P). replied mac q (path_between s l r) (state_updated (is_some path) (triggered_time q s) a)) k.1)) (
             refl,
             refl,
             spares-map by (last_time_of s) at s.timing s.next_number (change_at number (after_request q s)) s.pairs
-                (λ p. served-matches (trigger_time q s) number (as_taken (numbers s) q) (is_modern s.timing) s.controlling s.lite p role full)
-                (λ late p. served-alike (trigger_time q s) number (as_taken (numbers s) q) (is_modern s.timing) by at s.timing s.controlling s.lite p role full (omega (arith, late))),
+                (λ p. served-matches (triggered_time q s) number (as_taken (numbers s) q) (is_modern s.timing) s.controlling s.lite p role full)
+                (λ late p. served-alike (triggered_time q s) number (as_taken (numbers s) q) (is_modern s.timing) by at s.timing s.controlling s.lite p role full (omega (arith, late))),
           )
 
       takes : (l r : ℕ) (number : Option ℕ) (s new : AgentRecord H P) (emitted : Emitted) → s.controlling ≡ true → s.lite ≡ false → NoneValid s.pairs → FindsOrAddsPair mac q l r number s emitted new → Rests s new

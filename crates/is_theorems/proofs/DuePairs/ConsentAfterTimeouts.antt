@@ -1,10 +1,10 @@
 -- After a `handle_timeout` call that serves no early request each pair has consent, and the responses and requests that it had before.
-use Rattle.is_theorems.proofs.Common.{[], ◌&&◌, ◌*◌, ◌-◌, ◌<◌, ◌||◌, ◌∙◌, ◌∷◌, ◌≡◌, ◌≤◌, AgentRecord, all_scheduled, ap, arith, scheduled}
+use Rattle.is_theorems.proofs.Common.{[], ◌&&◌, ◌<◌, ◌||◌, ◌∙◌, ◌∷◌, ◌≡◌, ◌≤◌, AgentRecord, all_scheduled, ap, arith, scheduled}
 use Rattle.is_theorems.proofs.Common.{at_timeout, Bool, change_at, ChecksTop, Consent, consent_end, consent_of, Emitted, expired_gone}
 use Rattle.is_theorems.proofs.Common.{false, Has, has_consent, HaveConsent, heard_until, IceCreds, if◌then◌else◌, inl, inr}
-use Rattle.is_theorems.proofs.Common.{is_answered_lately, is_expired, is_heard, is_numbered, is_pair_expired, is_possible, is_recent}
-use Rattle.is_theorems.proofs.Common.{Issued, later, List, list_any, MaintainsPairs, map, MAX, max, MayCheck, nat_lt, nat_tests}
-use Rattle.is_theorems.proofs.Common.{nominates_at_once, None, not, Option, option_map_or, PairRecord, Path, refl, RemovesExpired, SECOND}
+use Rattle.is_theorems.proofs.Common.{is_answered_lately, is_expired, is_heard, is_numbered, is_pair_expired, is_possible}
+use Rattle.is_theorems.proofs.Common.{Issued, later, List, list_any, MaintainsPairs, map, MAX, max, MayCheck, min, nat_lt, nat_tests}
+use Rattle.is_theorems.proofs.Common.{nominates_at_once, None, not, Option, option_map_or, PairRecord, Path, refl, RemovesExpired, request_end}
 use Rattle.is_theorems.proofs.Common.{Some, Stream, StunTiming, subst, sym, true, ℕ}
 use Rattle.is_theorems.proofs.RuleEffects.UnchangedSettings.{either}
 use Rattle.is_theorems.proofs.RuleEffects.ChangedPairs.{Has-map}
@@ -31,13 +31,9 @@ consent-ended c p by now ended early late = at p.consented refl ended where
   neither true b h k = h
   neither false b h k = k
 
-  heard-ended : (o : Option ℕ) → option_map_or (λ at. later at (15 * SECOND)) o 0 ≤ by → option_map_or (is_recent now) o false ≡ false
-  heard-ended None le = refl
-  heard-ended (Some at) le = lt-not (now - at) (15 * SECOND) (omega (arith, le, early, late))
-
-  by-rule : (strict : Bool) → (if strict then 0 else option_map_or (λ at. later at (15 * SECOND)) p.last_request 0) ≤ by → (not strict && is_heard now p) ≡ false
+  by-rule : (strict : Bool) → (if strict then 0 else min (request_end p) MAX) ≤ by → (not strict && is_heard now p) ≡ false
   by-rule true le = refl
-  by-rule false le = heard-ended p.last_request le
+  by-rule false le = lt-not now (request_end p) (omega (arith, le, early, late))
 
   at : (o : Option ℕ) → p.consented ≡ o → option_map_or (λ at. max (later at c.timeout.0) (heard_until c p)) o MAX ≤ by → has_consent (Some c) now p ≡ false
   at None is le = absurd (let no : ⊥ = omega (arith, le, early) in no)

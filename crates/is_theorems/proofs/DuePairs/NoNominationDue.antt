@@ -17,9 +17,9 @@ use Rattle.is_theorems.proofs.Common.{Receives, RecordsAndResponds, refl, Remote
 use Rattle.is_theorems.proofs.Common.{request_in, RequestRecord, Reselects, ResolvesRoleConflict, ResolvesRoleConflictBy, rises, same}
 use Rattle.is_theorems.proofs.Common.{selection_of, selects_at_requests, Send487, Serves, ServesQueued, SetControlling}
 use Rattle.is_theorems.proofs.Common.{SetControlTieBreaker, SetIceLite, SetLocalCredentials, SetLocalPreference, SetMaxCandidatePairs}
-use Rattle.is_theorems.proofs.Common.{SetMaxDiscovered, SetMaxStunRetransmits, SetMtu, SetProfile, SetRenomination, SetTimingAdvance}
+use Rattle.is_theorems.proofs.Common.{SetMaxCandidates, SetMaxDiscovered, SetMaxStunRetransmits, SetMtu, SetProfile, SetRenomination, SetTimingAdvance}
 use Rattle.is_theorems.proofs.Common.{settings_after, SettingsRecord, state_updated, Some, Step, Stream, subst, switched, switched_sides}
-use Rattle.is_theorems.proofs.Common.{SwitchRole, sym, Takes, timeout_begun, trigger_time, true, Unknown, unwrap_or, Vacant, with_pair}
+use Rattle.is_theorems.proofs.Common.{SwitchRole, sym, Takes, timeout_begun, triggered_time, true, Unknown, unwrap_or, Vacant, with_pair}
 use Rattle.is_theorems.proofs.Common.{with_priority_in, with_sender, with_sender_at, ℕ}
 use Rattle.is_theorems.proofs.CallEffects.AddedCandidates.{by_adding_local, by_adding_remote, by_waking}
 use Rattle.is_theorems.proofs.CallEffects.ChangedCandidates.{adds_local_goes, adds_remote_goes}
@@ -209,7 +209,7 @@ module _ {H P : Type 0} where
           let k : (path ≡ None) × (mid ≡ pair_served q number s) =
           subst (λ b. NominatesWhere b (pair_served q number s) path mid) (and-false (selects_at_requests s) (is_valid_at number s.pairs) (none-passes number s.pairs none)) nominates in
           calmer-as s _ new (λ is. is, λ is. is, refl) (
-          made ∙ ap (λ (a : AgentRecord H P). replied mac q (path_between s l r) (state_updated (is_some path) (trigger_time q s) a)) k.1)
+          made ∙ ap (λ (a : AgentRecord H P). replied mac q (path_between s l r) (state_updated (is_some path) (triggered_time q s) a)) k.1)
 
       takes : (l r : ℕ) (number : Option ℕ) (s new : AgentRecord H P) (emitted : Emitted) → NoneValid s.pairs → FindsOrAddsPair mac q l r number s emitted new → Calmer s new
       takes l r (Some number) s new emitted none h = pair l r number s new emitted none h
@@ -346,6 +346,7 @@ module _ {H P : Type 0} where
       calls-calmer (SetControlTieBreaker tie) e old new s t is sound none h = inr (calmer-as old _ new (λ is. is, λ is. is, refl) h.1)
       calls-calmer (SetMaxCandidatePairs k) e old new s t is sound none h = inr (calmer-as old _ new (λ is. is, λ is. is, refl) h.1)
       calls-calmer (SetMaxDiscovered limit) e old new s t is sound none h = inr (calmer-as old _ new (λ is. is, λ is. is, refl) h.1)
+      calls-calmer (SetMaxCandidates limit) e old new s t is sound none h = inr (calmer-as old _ new (λ is. is, λ is. is, refl) h.1)
       calls-calmer (SetRenomination on) e old new s t is sound none h = inr (calmer-as old _ new (λ none. not-numbered (is_modern old.timing) on (search is), λ is. is, refl) h.1)
       calls-calmer (SetTimingAdvance by) e old new s t is sound none h = inr (calmer-as old _ new (λ is. is, λ is. is, refl) h.1)
       calls-calmer (SetLocalPreference object) e old new s t is sound none h = inr (calmer-as old _ new (λ is. is, λ is. is, refl) h.1)

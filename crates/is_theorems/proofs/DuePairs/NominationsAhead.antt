@@ -14,9 +14,9 @@ use Rattle.is_theorems.proofs.Common.{PollEvent, PollTimeout, PollTransmit, Queu
 use Rattle.is_theorems.proofs.Common.{remains, RemotePlace, RemovesExpired, replied, request_at, request_counted, request_in, RequestRecord}
 use Rattle.is_theorems.proofs.Common.{Reselects, ResolvesRoleConflict, ResolvesRoleConflictBy, selected_in, selected_only, selection_of}
 use Rattle.is_theorems.proofs.Common.{selects, selects_at_requests, Send487, Serves, ServesQueued, SetControlling, SetControlTieBreaker}
-use Rattle.is_theorems.proofs.Common.{SetLocalCredentials, SetLocalPreference, SetMaxCandidatePairs, SetMaxDiscovered, SetMtu}
+use Rattle.is_theorems.proofs.Common.{SetLocalCredentials, SetLocalPreference, SetMaxCandidatePairs, SetMaxCandidates, SetMaxDiscovered, SetMtu}
 use Rattle.is_theorems.proofs.Common.{SetRenomination, SetTimingAdvance, state_updated, Some, Step, Stream, subst, switched, SwitchRole, sym}
-use Rattle.is_theorems.proofs.Common.{Takes, timeout_begun, trigger_time, true, Unknown, Vacant, with_pair, with_sender, with_sender_at, ℕ}
+use Rattle.is_theorems.proofs.Common.{Takes, timeout_begun, triggered_time, true, Unknown, Vacant, with_pair, with_sender, with_sender_at, ℕ}
 use Rattle.is_theorems.proofs.BasicLemmas.PairsInTurn.{none-to-send}
 use Rattle.is_theorems.proofs.CallEffects.AddedCandidates.{by_adding_local, by_adding_remote, by_waking}
 use Rattle.is_theorems.proofs.CallEffects.FailedCallsAndNewAgents.{mtu_kept, local_kept, enrolment_kept, storing_kept}
@@ -154,7 +154,7 @@ module _ {H P : Type 0} where
             ],
           ) made))
           (λ _ k. dues-as (selected emitted) s _ new (λ is. is, λ is. inl is) (
-          made ∙ ap (λ (a : AgentRecord H P). replied mac q (path_between s l r) (state_updated (is_some path) (trigger_time q s) a)) k.1))
+          made ∙ ap (λ (a : AgentRecord H P). replied mac q (path_between s l r) (state_updated (is_some path) (triggered_time q s) a)) k.1))
 
       takes : (l r : ℕ) (number : Option ℕ) (s new : AgentRecord H P) (emitted : Emitted) → FindsOrAddsPair mac q l r number s emitted new → Dues (selected emitted) s new
       takes l r (Some number) s new emitted h = pair l r number s new emitted h
@@ -314,6 +314,7 @@ module _ {H P : Type 0} where
       calls-due (SetControlTieBreaker tie) e old new s t is h = dues-as (selects e) old _ new (λ is. is, λ is. inl is) h.1
       calls-due (SetMaxCandidatePairs k) e old new s t is h = dues-as (selects e) old _ new (λ is. is, λ is. inl is) h.1
       calls-due (SetMaxDiscovered limit) e old new s t is h = dues-as (selects e) old _ new (λ is. is, λ is. inl is) h.1
+      calls-due (SetMaxCandidates limit) e old new s t is h = dues-as (selects e) old _ new (λ is. is, λ is. inl is) h.1
       calls-due (SetRenomination on) e old new s t is h = dues-as (selects e) old _ new (λ none. not-numbered (is_modern old.timing) on (search is), λ is. inl is) h.1
       calls-due (SetTimingAdvance by) e old new s t is h = dues-as (selects e) old _ new (λ is. is, λ is. inl is) h.1
       calls-due (SetLocalPreference object) e old new s t is h = dues-as (selects e) old _ new (λ is. is, λ is. inl is) h.1

@@ -11,7 +11,7 @@ use Rattle.is_theorems.proofs.Common.{Nominates, None, numbers, Ok, Option, pair
 use Rattle.is_theorems.proofs.Common.{Queues, Reads, Receives, RecordsAndResponds, refl, remains, RemotePlace, request_counted, request_in}
 use Rattle.is_theorems.proofs.Common.{RequestRecord, ResolvesRoleConflict, ResolvesRoleConflictBy, selection_of, selects_at_requests}
 use Rattle.is_theorems.proofs.Common.{Send487, served, Serves, Some, StunTiming, subst, switched, switched_sides, SwitchRole, sym, Takes}
-use Rattle.is_theorems.proofs.Common.{trigger_time, triggered, true, Unknown, unwrap_or, Vacant, with_pair, with_priority_in, with_sender}
+use Rattle.is_theorems.proofs.Common.{triggered_time, triggered, true, Unknown, unwrap_or, Vacant, with_pair, with_priority_in, with_sender}
 use Rattle.is_theorems.proofs.Common.{with_sender_at, ℕ}
 use Rattle.is_theorems.proofs.BasicLemmas.EqualAddresses.{both}
 use Rattle.is_theorems.proofs.CallEffects.ChecksAndResponses.{Has-get}
@@ -140,8 +140,8 @@ module _ {H P : Type 0} where
             (λ _ k. goes-same (pair_served q number s) mid k.1)) in (k.0, k.1)) made where
               request-moves : (p : PairRecord) → MovedUp by (last_time_of s) p (after_request q s p)
               request-moves p =
-                  let first : PairRecord = triggered (is_modern s.timing) (trigger_time q s) p in
-                  triggered-mild by (last_time_of s) (trigger_time q s) (is_modern s.timing) p (served s.controlling s.lite (as_taken (numbers s) q) first) (omega arith)
+                  let first : PairRecord = triggered (is_modern s.timing) (triggered_time q s) p in
+                  triggered-mild by (last_time_of s) (triggered_time q s) (is_modern s.timing) p (served s.controlling s.lite (as_taken (numbers s) q) first) (omega arith)
                   (served-mild s.controlling s.lite (as_taken (numbers s) q) first)
 
         takes : (l r : ℕ) (number : Option ℕ) (s new : AgentRecord H P) (emitted : Emitted) → FindsOrAddsPair mac q l r number s emitted new → Goes s new

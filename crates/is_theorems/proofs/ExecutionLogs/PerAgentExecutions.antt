@@ -12,7 +12,7 @@ use Rattle.is_theorems.proofs.Common.{MatchOption, MayCheck, None, NotCalled, Ok
 use Rattle.is_theorems.proofs.Common.{PollTransmit, quiet, ReceivePacket, RecreateCandidatePairs, refl, request_at, RequestRecord}
 use Rattle.is_theorems.proofs.Common.{RestartIce, Result, Run, RunsOn, SelectsAmong, ServesQueued, SetConsent, SetControlling}
 use Rattle.is_theorems.proofs.Common.{SetControlTieBreaker, SetIceLite, SetInitialStunRto, SetLiteTimeout, SetLocalCredentials}
-use Rattle.is_theorems.proofs.Common.{SetLocalPreference, SetMaxCandidatePairs, SetMaxDiscovered, SetMaxStunRetransmits, SetMaxStunRto}
+use Rattle.is_theorems.proofs.Common.{SetLocalPreference, SetMaxCandidatePairs, SetMaxCandidates, SetMaxDiscovered, SetMaxStunRetransmits, SetMaxStunRto}
 use Rattle.is_theorems.proofs.Common.{SetMtu, SetProfile, SetRemoteCredentials, SetRenomination, SetTimingAdvance, SkipPairIds, Some, Step}
 use Rattle.is_theorems.proofs.Common.{Stream, subst, sym, timeout_begun, TimesOut, true, with_retransmits, ℕ}
 use Rattle.is_theorems.proofs.PollingRounds.AnsweredRoundsInLogs.{answered-rounds-announce}
@@ -179,6 +179,7 @@ module _ {H P : Type 0} (mac : H → List ℕ → List ℕ → List ℕ) (answer
   recomputed (SetControlTieBreaker tie) e old new s t u (is, made, drawn) = (u, (is, made, refl))
   recomputed (SetMaxCandidatePairs n) e old new s t u (is, made, drawn) = (u, (is, made, refl))
   recomputed (SetMaxDiscovered n) e old new s t u (is, made, drawn) = (u, (is, made, refl))
+  recomputed (SetMaxCandidates n) e old new s t u (is, made, drawn) = (u, (is, made, refl))
   recomputed (SetIceLite lite) e old new s t u (is, made, drawn) = (u, (is, made, refl))
   recomputed (SetRenomination on) e old new s t u (is, made, drawn) = (u, (is, made, refl))
   recomputed (SetProfile profile) e old new s t u (is, made, drawn) = (u, (is, made, refl))

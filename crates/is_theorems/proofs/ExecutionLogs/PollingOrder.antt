@@ -18,10 +18,10 @@ use Rattle.is_theorems.proofs.Common.{remote_to_discard, RemotePlace, RemovesExp
 use Rattle.is_theorems.proofs.Common.{RequestRecord, Reselects, ResolvesRoleConflict, ResolvesRoleConflictBy, restarted, RestartIce, Result}
 use Rattle.is_theorems.proofs.Common.{same, same_state, selects_at_requests, Send487, Serves, ServesQueued, SetConsent, SetControlling}
 use Rattle.is_theorems.proofs.Common.{SetControlTieBreaker, SetIceLite, SetInitialStunRto, SetLiteTimeout, SetLocalCredentials}
-use Rattle.is_theorems.proofs.Common.{SetLocalPreference, SetMaxCandidatePairs, SetMaxDiscovered, SetMaxStunRetransmits, SetMaxStunRto}
+use Rattle.is_theorems.proofs.Common.{SetLocalPreference, SetMaxCandidatePairs, SetMaxCandidates, SetMaxDiscovered, SetMaxStunRetransmits, SetMaxStunRto}
 use Rattle.is_theorems.proofs.Common.{SetMtu, SetProfile, SetRemoteCredentials, SetRenomination, SetTimingAdvance, state_updated, SkipPairIds}
 use Rattle.is_theorems.proofs.Common.{Some, start_emitted, Step, Stream, subst, switched, SwitchRole, sym, Takes, timeout_begun, TimesOut}
-use Rattle.is_theorems.proofs.Common.{trigger_time, true, Unknown, Vacant, with_pair, with_remote, with_retransmits, with_rtos}
+use Rattle.is_theorems.proofs.Common.{triggered_time, true, Unknown, Vacant, with_pair, with_remote, with_retransmits, with_rtos}
 use Rattle.is_theorems.proofs.Common.{with_selection, with_sender, with_sender_at, with_state, ℕ}
 use Rattle.is_theorems.proofs.RuleEffects.Reselection.{by-reselecting}
 use Rattle.is_theorems.proofs.RuleEffects.UnchangedSettings.{either}
@@ -111,7 +111,7 @@ module _ {H P : Type 0} where
     pair_grows : (l r number : ℕ) (s new : AgentRecord H P) (emitted : Emitted) → RecordsAndResponds mac q l r number s emitted new → Grows s new
     pair_grows l r number s new emitted (path, mid, nominates, (put, is, made)) =
         let k : Grows s mid = where_grows (selects_at_requests s && is_valid_at number s.pairs) (pair_served q number s) mid path nominates in
-        let at : AgentRecord H P = state_updated (is_some path) (trigger_time q s) mid in
+        let at : AgentRecord H P = state_updated (is_some path) (triggered_time q s) mid in
         both s mid new k (both mid at new (state_grows _ mid) (same_events at new (ap (λ (a : AgentRecord H P). a.events) made)))
 
     takes_grows : (l r : ℕ) (number : Option ℕ) (s new : AgentRecord H P) (emitted : Emitted) → FindsOrAddsPair mac q l r number s emitted new → Grows s new
@@ -274,6 +274,7 @@ module _ {H P : Type 0} where
     reports (SetControlTieBreaker tie) h = becomes _ refl h
     reports (SetMaxCandidatePairs n) h = becomes _ refl h
     reports (SetMaxDiscovered n) h = becomes _ refl h
+    reports (SetMaxCandidates n) h = becomes _ refl h
     reports (SetIceLite lite) h = becomes _ refl h
     reports (SetRenomination on) h = becomes _ refl h
     reports (SetProfile profile) h = becomes _ refl h

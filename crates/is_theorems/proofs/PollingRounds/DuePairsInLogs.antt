@@ -11,7 +11,7 @@ use Rattle.is_theorems.proofs.Common.{nat_tests, NextTimeoutFrom, NextTimeouts, 
 use Rattle.is_theorems.proofs.Common.{Ok, Option, PairRecord, PairsAreReached, Part, Path, path_of, PollEvent, PollsTimeout, PollTimeout}
 use Rattle.is_theorems.proofs.Common.{PollTransmit, ReceivePacket, refl, Reselects, rising-each, Run, RunsOn, selection_count}
 use Rattle.is_theorems.proofs.Common.{SetControlling, SetControlTieBreaker, SetLocalCredentials, SetLocalPreference, SetMaxCandidatePairs}
-use Rattle.is_theorems.proofs.Common.{SetMaxDiscovered, SetMtu, SetRenomination, SetTimingAdvance, Some, Stays, stays_answered, Step}
+use Rattle.is_theorems.proofs.Common.{SetMaxCandidates, SetMaxDiscovered, SetMtu, SetRenomination, SetTimingAdvance, Some, Stays, stays_answered, Step}
 use Rattle.is_theorems.proofs.Common.{Stream, StunTiming, subst, suc, sym, timeout_begun, true, unanswered_count, unwrap_or, ℕ}
 use Rattle.is_theorems.proofs.PathSelection.NominatedByPeer.{asked-are-selected_paths}
 use Rattle.is_theorems.proofs.CallEffects.PathAndTradeEffects.{path_theorem}
@@ -230,6 +230,7 @@ module _ {H P : Type 0} where
     between-goes at following early x (SetControlTieBreaker tie) called old new s t known last p sound has number on is (reported, made, drawn) = inr (inr (goes-to n by old _ new (refl, onward-same n by (last_time_of old) old.pairs old.next_number) made))
     between-goes at following early x (SetMaxCandidatePairs k) called old new s t known last p sound has number on is (reported, made, drawn) = inr (inr (goes-to n by old _ new (refl, onward-same n by (last_time_of old) old.pairs old.next_number) made))
     between-goes at following early x (SetMaxDiscovered limit) called old new s t known last p sound has number on is (reported, made, drawn) = inr (inr (goes-to n by old _ new (refl, onward-same n by (last_time_of old) old.pairs old.next_number) made))
+    between-goes at following early x (SetMaxCandidates limit) called old new s t known last p sound has number on is (reported, made, drawn) = inr (inr (goes-to n by old _ new (refl, onward-same n by (last_time_of old) old.pairs old.next_number) made))
     between-goes at following early x (SetRenomination renominates) called old new s t known last p sound has number on is (reported, made, drawn) =
         inr (inr (goes-to n by old _ new (refl, onward-same n by (last_time_of old) old.pairs old.next_number) made))
     between-goes at following early x (SetTimingAdvance advance) called old new s t known last p sound has number on is (reported, made, drawn) = inr (inr (goes-to n by old _ new (refl, onward-same n by (last_time_of old) old.pairs old.next_number) made))

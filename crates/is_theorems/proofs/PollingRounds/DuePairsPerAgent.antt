@@ -9,7 +9,7 @@ use Rattle.is_theorems.proofs.Common.{IsAnsweredAmong, IsAnsweredIn, IsAnsweredO
 use Rattle.is_theorems.proofs.Common.{issued_as, length, List, Logged, LoggedRound, MayEnd, nominations_ahead, None, Option, PairRecord}
 use Rattle.is_theorems.proofs.Common.{PassRounds, Path, path_of, PollEvent, PollTimeout, PollTransmit, ReceivePacket, refl, RunsOn}
 use Rattle.is_theorems.proofs.Common.{same_address, same_protocol, SetControlling, SetControlTieBreaker, SetLocalCredentials}
-use Rattle.is_theorems.proofs.Common.{SetLocalPreference, SetMaxCandidatePairs, SetMaxDiscovered, SetMtu, SetRenomination, SetTimingAdvance}
+use Rattle.is_theorems.proofs.Common.{SetLocalPreference, SetMaxCandidatePairs, SetMaxCandidates, SetMaxDiscovered, SetMtu, SetRenomination, SetTimingAdvance}
 use Rattle.is_theorems.proofs.Common.{Some, Stream, subst, sym, true, ℕ}
 use Rattle.is_theorems.proofs.BasicLemmas.EqualAddresses.{both, same_address-sound, same_protocol-sound}
 use Rattle.is_theorems.proofs.ExecutionLogs.PerAgentExecutions.{entry_of, part_of, pushed, part_is, round_of, rounds_of, begun, as_many}
@@ -48,6 +48,7 @@ module _ {P : Type 0} where
   between_in m (SetControlTieBreaker tie_breaker) is = refl
   between_in m (SetMaxCandidatePairs n) is = refl
   between_in m (SetMaxDiscovered limit) is = refl
+  between_in m (SetMaxCandidates limit) is = refl
   between_in m (SetRenomination renominates) is = no-case is
   between_in m (SetTimingAdvance by) is = refl
   between_in m (SetLocalPreference object) is = refl

@@ -9,7 +9,7 @@ use Rattle.is_theorems.proofs.Common.{IsReachedIn, IsSomeAnd, IsSound, issued_as
 use Rattle.is_theorems.proofs.Common.{nat_tests, NextTimeoutFrom, NextTimeouts, nominations_ahead, None, not, numbers, Ok, Option}
 use Rattle.is_theorems.proofs.Common.{PairRecord, PairsAreReachedFromDue, Part, Path, path_of, PollEvent, PollsTimeout, PollTimeout}
 use Rattle.is_theorems.proofs.Common.{PollTransmit, ReceivePacket, refl, rising-each, Run, RunsOn, selection_count, SetControlling}
-use Rattle.is_theorems.proofs.Common.{SetControlTieBreaker, SetLocalCredentials, SetLocalPreference, SetMaxCandidatePairs, SetMaxDiscovered}
+use Rattle.is_theorems.proofs.Common.{SetControlTieBreaker, SetLocalCredentials, SetLocalPreference, SetMaxCandidatePairs, SetMaxCandidates, SetMaxDiscovered}
 use Rattle.is_theorems.proofs.Common.{SetMtu, SetRenomination, SetTimingAdvance, Some, Stays, stays_answered, Step, Stream, StunTiming}
 use Rattle.is_theorems.proofs.Common.{subst, SufficesFromDue, sym, timeout_begun, true, unanswered_count, unwrap_or, ℕ}
 use Rattle.is_theorems.proofs.CallEffects.PathAndTradeEffects.{path_theorem}
@@ -207,6 +207,7 @@ module _ {H P : Type 0} where
     between-keeps (SetControlTieBreaker tie) e old new s t known last p sound has number on m is (reported, made, drawn) = inr (inr (keeps-to n old _ new (refl, λ d cs le f. f) made))
     between-keeps (SetMaxCandidatePairs k) e old new s t known last p sound has number on m is (reported, made, drawn) = inr (inr (keeps-to n old _ new (refl, λ d cs le f. f) made))
     between-keeps (SetMaxDiscovered limit) e old new s t known last p sound has number on m is (reported, made, drawn) = inr (inr (keeps-to n old _ new (refl, λ d cs le f. f) made))
+    between-keeps (SetMaxCandidates limit) e old new s t known last p sound has number on m is (reported, made, drawn) = inr (inr (keeps-to n old _ new (refl, λ d cs le f. f) made))
     between-keeps (SetRenomination renominates) e old new s t known last p sound has number on m is (reported, made, drawn) = inr (inr (keeps-to n old _ new (refl, λ d cs le f. f) made))
     between-keeps (SetTimingAdvance advance) e old new s t known last p sound has number on m is (reported, made, drawn) = inr (inr (keeps-to n old _ new (refl, λ d cs le f. f) made))
     between-keeps (SetLocalPreference object) e old new s t known last p sound has number on m is (reported, made, drawn) = inr (inr (keeps-to n old _ new (refl, λ d cs le f. f) made))

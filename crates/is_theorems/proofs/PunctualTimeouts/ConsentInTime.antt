@@ -7,7 +7,7 @@ use Rattle.is_theorems.proofs.Common.{consent_end, consent_of, Emitted, Entry, E
 use Rattle.is_theorems.proofs.Common.{KeepsPace, List, loses_selected, MaintainsPairs, MatchOption, max, NextTimeout, None, Ok, Option}
 use Rattle.is_theorems.proofs.Common.{pacing-short, PairRecord, Path, PollEvent, PollsTimeout, PollTimeout, PollTransmit, ReceivePacket}
 use Rattle.is_theorems.proofs.Common.{refl, request_at, Reselects, ServesQueued, SetControlling, SetControlTieBreaker, SetLocalCredentials}
-use Rattle.is_theorems.proofs.Common.{SetLocalPreference, SetMaxCandidatePairs, SetMaxDiscovered, SetMtu, SetRenomination, SetTimingAdvance}
+use Rattle.is_theorems.proofs.Common.{SetLocalPreference, SetMaxCandidatePairs, SetMaxCandidates, SetMaxDiscovered, SetMtu, SetRenomination, SetTimingAdvance}
 use Rattle.is_theorems.proofs.Common.{Some, soon, Step, Stream, subst, sym, timeout_begun, timeouts-in-time, TimesOut, true, ℕ}
 use Rattle.is_theorems.proofs.CallEffects.AddedCandidates.{by_adding_local, by_adding_remote, by_waking}
 use Rattle.is_theorems.proofs.CallEffects.FailedCallsAndNewAgents.{mtu_kept, local_kept, enrolment_kept, storing_kept}
@@ -52,6 +52,7 @@ module _ {H P : Type 0} where
     round-clock (SetControlTieBreaker tie) e old new s t is h = clocked _ new h.1
     round-clock (SetMaxCandidatePairs k) e old new s t is h = clocked _ new h.1
     round-clock (SetMaxDiscovered limit) e old new s t is h = clocked _ new h.1
+    round-clock (SetMaxCandidates limit) e old new s t is h = clocked _ new h.1
     round-clock (SetRenomination renominates) e old new s t is h = clocked _ new h.1
     round-clock (SetTimingAdvance by) e old new s t is h = clocked _ new h.1
     round-clock (SetLocalPreference object) e old new s t is h = clocked _ new h.1

@@ -15,7 +15,7 @@ use Rattle.is_theorems.proofs.Common.{remote_to_discard, RemotePlace, RemovesExp
 use Rattle.is_theorems.proofs.Common.{RequestRecord, Reselects, ResolvesRoleConflict, ResolvesRoleConflictBy, RestartIce, selection_of}
 use Rattle.is_theorems.proofs.Common.{selects_at_requests, Send487, Serves, ServesQueued, SetConsent, SetControlling, SetControlTieBreaker}
 use Rattle.is_theorems.proofs.Common.{SetIceLite, SetInitialStunRto, SetLiteTimeout, SetLocalCredentials, SetLocalPreference}
-use Rattle.is_theorems.proofs.Common.{SetMaxCandidatePairs, SetMaxDiscovered, SetMaxStunRetransmits, SetMaxStunRto, SetMtu, SetProfile}
+use Rattle.is_theorems.proofs.Common.{SetMaxCandidatePairs, SetMaxCandidates, SetMaxDiscovered, SetMaxStunRetransmits, SetMaxStunRto, SetMtu, SetProfile}
 use Rattle.is_theorems.proofs.Common.{SetRemoteCredentials, SetRenomination, SetTimingAdvance, SkipPairIds, Some, Stream, StunTiming}
 use Rattle.is_theorems.proofs.Common.{switched, SwitchRole, sym, Takes, timeout_begun, true, Unknown, Vacant, with_pair, with_retransmits}
 use Rattle.is_theorems.proofs.Common.{with_sender, with_sender_at, ℕ}
@@ -207,6 +207,7 @@ module _ {H P : Type 0} where
     pacing-is-set old new s t (SetControlTieBreaker tie) e h = paced-of _ new h.1
     pacing-is-set old new s t (SetMaxCandidatePairs n) e h = paced-of _ new h.1
     pacing-is-set old new s t (SetMaxDiscovered limit) e h = paced-of _ new h.1
+    pacing-is-set old new s t (SetMaxCandidates limit) e h = paced-of _ new h.1
     pacing-is-set old new s t (SetIceLite lite) e h = paced-of _ new h.1
     pacing-is-set old new s t (SetRenomination renominates) e h = paced-of _ new h.1
     pacing-is-set old new s t (SetProfile profile) e h = paced-of _ new h.1

@@ -3,7 +3,7 @@ use Rattle.is_theorems.proofs.Common.{[], ◌++◌, ◌∙◌, ◌∷◌, ◌≡
 use Rattle.is_theorems.proofs.Common.{cond, ConsentLastsIn, Entry, Err, false, HandleTimeout, HaveConsent, inl, inr, is_steady, is_timeout}
 use Rattle.is_theorems.proofs.Common.{IsFresh, IsSound, length, List, Logged, map, Ok, PollEvent, PollTimeout, PollTransmit, ReceivePacket}
 use Rattle.is_theorems.proofs.Common.{refl, RequestsAddFew, Run, RunsOn, SetControlling, SetControlTieBreaker, SetLocalCredentials}
-use Rattle.is_theorems.proofs.Common.{SetLocalPreference, SetMaxCandidatePairs, SetMaxDiscovered, SetMtu, SetRenomination, SetTimingAdvance}
+use Rattle.is_theorems.proofs.Common.{SetLocalPreference, SetMaxCandidatePairs, SetMaxCandidates, SetMaxDiscovered, SetMtu, SetRenomination, SetTimingAdvance}
 use Rattle.is_theorems.proofs.Common.{Step, Stream, subst, sum_by-cons, sym, timeout_count, true, ℕ}
 use Rattle.is_theorems.proofs.CallEffects.PathAndTradeEffects.{path_theorem}
 use Rattle.is_theorems.proofs.CallEffects.AddedCandidates.{by_waking}
@@ -38,6 +38,7 @@ module _ {H P : Type 0} (mac : H → List ℕ → List ℕ → List ℕ) (answer
   call-spends (SetControlTieBreaker tie) old new s t e sound full most is consents (reported, made, drawn) = kept old _ new (refl, omega arith, omega arith) made
   call-spends (SetMaxCandidatePairs k) old new s t e sound full most is consents (reported, made, drawn) = kept old _ new (refl, omega arith, omega arith) made
   call-spends (SetMaxDiscovered limit) old new s t e sound full most is consents (reported, made, drawn) = kept old _ new (refl, omega arith, omega arith) made
+  call-spends (SetMaxCandidates limit) old new s t e sound full most is consents (reported, made, drawn) = kept old _ new (refl, omega arith, omega arith) made
   call-spends (SetRenomination renominates) old new s t e sound full most is consents (reported, made, drawn) = kept old _ new (refl, omega arith, omega arith) made
   call-spends (SetTimingAdvance advance) old new s t e sound full most is consents (reported, made, drawn) = kept old _ new (refl, omega arith, omega arith) made
   call-spends (SetLocalPreference object) old new s t e sound full most is consents (reported, made, drawn) = kept old _ new (refl, omega arith, omega arith) made

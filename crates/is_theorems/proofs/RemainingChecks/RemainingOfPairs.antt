@@ -4,7 +4,7 @@ use Rattle.is_theorems.proofs.Common.{[], ◌&&◌, ◌*◌, ◌++◌, ◌+◌, 
 use Rattle.is_theorems.proofs.Common.{Bool, change_at, change_pair, Check, check_of, checked, consent_of, eqb-true, false, filter, Has}
 use Rattle.is_theorems.proofs.Common.{if◌then◌else◌, inl, inr, is_numbered, last_checks, length, length-append, length-drop, List}
 use Rattle.is_theorems.proofs.Common.{ltb-false, map, nat_lt, not, PairRecord, refl, slice_get, slice_set, Some, StunTiming, subst, suc}
-use Rattle.is_theorems.proofs.Common.{suc-mul, sym, true, unanswered_count, zero, ℕ}
+use Rattle.is_theorems.proofs.Common.{suc-mul, sym, true, unanswered-most, unanswered_count, zero, ℕ}
 use Rattle.is_theorems.proofs.RuleEffects.SelectedPaths.{some_is}
 
 -- ---- one pair
@@ -36,21 +36,20 @@ checked-length n cs c =
 pub unspent-checked : (m now : ℕ) (t : StunTiming) (b : Bool) (id : List ℕ) (p : PairRecord) → unspent m p ≤ unspent m (checked now t b id p) + 1
 unspent-checked m now t b id p = let k = checked-length t.max_retransmits p.checks (check_of now b id p) in omega (arith, k)
 
--- a pair that is removed after timeout
-spent-by : (c e h b u i : Bool) → c ≡ true → not (not (c && (e || (h || b || u || i)))) ≡ false → b ≡ false
-spent-by false e h b u i has is = absurd (cc)
-spent-by true true h b u i has is = absurd (cc)
-spent-by true false true b u i has is = absurd (cc)
-spent-by true false false true u i has is = absurd (cc)
-spent-by true false false false u i has is = refl
+-- a pair that is removed after timeout has no checks left
+spent-by : (c l u : Bool) → c ≡ true → not (not (c && (l || u))) ≡ false → l ≡ false
+spent-by false l u has is = absurd (cc)
+spent-by true true u has is = absurd (cc)
+spent-by true false u has is = refl
 
 pub all-spent : (lite : Bool) (now : ℕ) (t : StunTiming) (p : PairRecord) → lite ≡ false → due.has_consent (consent_of t) now p ≡ true → not (due.is_pair_expired lite now t p) ≡ false → unspent t.max_retransmits p ≡ 0
 all-spent true now t p full has gone = absurd (cc)
 all-spent false now t p full has gone =
-    let many : t.max_retransmits ≤ length p.checks =
-    ltb-false (length p.checks) t.max_retransmits
-    (spent-by (due.has_consent (consent_of t) now p) (due.has_early_checks now t p) (due.is_heard now p) (nat_lt (length p.checks) t.max_retransmits) (nat_lt (unanswered_count p.checks) t.max_retransmits) (due.is_in_time now t p.checks) has gone) in
-    omega (arith, many)
+    let many : t.max_retransmits ≤ unanswered_count p.checks =
+    ltb-false (unanswered_count p.checks) t.max_retransmits
+    (spent-by (due.has_consent (consent_of t) now p) (due.has_checks_left t p) (nat_lt now (due.possible_until t p)) has gone) in
+    let most = unanswered-most p.checks in
+    omega (arith, many, most)
 
 -- ---- lists of pairs
 

@@ -14,7 +14,7 @@ use Rattle.is_theorems.proofs.Common.{Path, path_between, path_left, path_of, qu
 use Rattle.is_theorems.proofs.Common.{refl, RemotePlace, RemovesExpired, replied, request_at, request_counted, request_in, RequestRecord}
 use Rattle.is_theorems.proofs.Common.{ResolvesRoleConflict, ResolvesRoleConflictBy, Result, reversed, selects_at_requests, Send487}
 use Rattle.is_theorems.proofs.Common.{sender_candidate, served, Serves, ServesQueued, state_updated, slice_set, Some, Step, Stream, subst}
-use Rattle.is_theorems.proofs.Common.{switched, SwitchRole, sym, Takes, timeout_begun, TimesOut, trigger_time, true, Unknown, Vacant}
+use Rattle.is_theorems.proofs.Common.{switched, SwitchRole, sym, Takes, timeout_begun, TimesOut, triggered_time, true, Unknown, Vacant}
 use Rattle.is_theorems.proofs.Common.{validated, validated_by_peer, with_pair, with_request, with_selection, with_sender, with_sender_at, ℕ}
 use Rattle.is_theorems.proofs.BasicLemmas.EqualAddresses.{both}
 use Rattle.is_theorems.proofs.PathSelection.NominatedByPeer.{uses-too}
@@ -132,7 +132,7 @@ module _ {H P : Type 0} where
         (path : Option Path) (mid : AgentRecord H P)
         (nominating : NominatesWhere (selects_at_requests s && is_valid_at number s.pairs) (pair_served q number s) path mid)
         (out : emitted.issued ≡ Some (issued_as (path_between s l r) class.Success q.id))
-        (made : new ≡ replied mac q (path_between s l r) (state_updated (is_some path) (trigger_time q s) mid)) where
+        (made : new ≡ replied mac q (path_between s l r) (state_updated (is_some path) (triggered_time q s) mid)) where
       record-is : new.last_nominated ≡ nominated_last s.controlling (as_taken (numbers s) q) number s.last_nominated
       record-is = ap (λ (a : AgentRecord H P). a.last_nominated) made ∙ where-last (selects_at_requests s && is_valid_at number s.pairs) (pair_served q number s) mid path nominating
 

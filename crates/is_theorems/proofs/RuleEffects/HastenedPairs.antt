@@ -1,7 +1,7 @@
 -- When a silent path is left, other pairs may become due next: nothing else of them changes, and none of those that were due before then.
-use Rattle.is_theorems.proofs.Common.{[], ◌&&◌, ◌+◌, ◌||◌, ◌∙◌, ◌∷◌, ◌≡◌, AgentRecord, ap, awaits_nomination, Bool, Consent, consent_of}
-use Rattle.is_theorems.proofs.Common.{false, filter, gives_way, Has, has_consent, has_early_checks, hastened, if◌then◌else◌, inl, inr}
-use Rattle.is_theorems.proofs.Common.{is_lite_alive, is_open, is_pair_expired, List, list_any, map, moved_up, None, not, Option, PairRecord}
+use Rattle.is_theorems.proofs.Common.{[], ◌&&◌, ◌+◌, ◌∙◌, ◌∷◌, ◌≡◌, AgentRecord, ap, awaits_nomination, Bool, Consent, consent_of}
+use Rattle.is_theorems.proofs.Common.{false, filter, gives_way, Has, has_consent, hastened, if◌then◌else◌, inl, inr}
+use Rattle.is_theorems.proofs.Common.{is_lite_alive, is_pair_expired, is_possible, List, list_any, map, moved_up, None, not, Option, PairRecord}
 use Rattle.is_theorems.proofs.Common.{path_left, refl, Some, StunTiming, subst, sym, true, ℕ}
 
 -- ---- lists
@@ -55,7 +55,7 @@ pub hastened-expires : (controlling : Bool) (now : ℕ) (p : PairRecord) (lite :
     → is_pair_expired lite now t (hastened controlling now p) ≡ is_pair_expired lite now t p
 hastened-expires controlling now p lite t = by-hastened (λ q. is_pair_expired lite now t q ≡ is_pair_expired lite now t p) controlling now p sooner refl where
   expires : (consents : Bool) → Bool
-  expires consents = not (if lite then is_lite_alive now t p else consents && (has_early_checks now t p || is_open now t p))
+  expires consents = not (if lite then is_lite_alive now t p else consents && is_possible now t p)
 
   consents : (o : Option Consent) (at : ℕ) → has_consent o now (moved_up at p) ≡ has_consent o now p
   consents None at = refl

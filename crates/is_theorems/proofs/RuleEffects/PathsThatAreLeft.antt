@@ -1,9 +1,9 @@
 -- When a selected pair gives way, and that all pairs stay otherwise.
-use Rattle.is_theorems.proofs.Common.{[], ◌&&◌, ◌<◌, ◌||◌, ◌∙◌, ◌∷◌, ◌≡◌, ◌≤◌, AgentRecord, ap, arith, Bool, Check, false, filter}
-use Rattle.is_theorems.proofs.Common.{gives_way, Has, hastened, if◌then◌else◌, inl, inr, is_answered, is_eligible, is_modern, is_named_by}
-use Rattle.is_theorems.proofs.Common.{is_nominated, is_silent_enough, is_valid, length, length-reverse, List, list_any, map, may_replace}
-use Rattle.is_theorems.proofs.Common.{nat_le, nat_tests, None, not, Option, option_map_or, PairRecord, path_left, position, position-Some}
-use Rattle.is_theorems.proofs.Common.{refl, reverse, silence_of, silent_gone, Some, Span, true, unanswered_count, unwrap_or, ℕ}
+use Rattle.is_theorems.proofs.Common.{[], ◌&&◌, ◌||◌, ◌∙◌, ◌∷◌, ◌≡◌, ◌≤◌, AgentRecord, ap, arith, Bool, false, filter}
+use Rattle.is_theorems.proofs.Common.{gives_way, Has, hastened, if◌then◌else◌, inl, inr, is_eligible, is_modern, is_named_by}
+use Rattle.is_theorems.proofs.Common.{is_nominated, is_silent_enough, is_valid, length, List, list_any, map, may_replace}
+use Rattle.is_theorems.proofs.Common.{nat_le, nat_tests, None, not, Option, option_map_or, PairRecord, path_left}
+use Rattle.is_theorems.proofs.Common.{refl, silence_of, silent_gone, Some, Span, true, unanswered-most, unanswered_count, ℕ}
 use Rattle.is_theorems.proofs.RuleEffects.HastenedPairs.{none-hastened}
 
 -- ---- lists
@@ -24,16 +24,6 @@ passes {X} test (x ∷ xs) h = by (test x) refl h (passes test xs) where
   by : (b : Bool) → test x ≡ b → (b || list_any test xs) ≡ true → (list_any test xs ≡ true → (y : X) × Has xs y × (test y ≡ true)) → (y : X) × Has (x ∷ xs) y × (test y ≡ true)
   by true is h later = (x, inl refl, is)
   by false is h later = let k = later h in (k.0, inr k.1, k.2)
-
--- at most all checks are without a response
-pub unanswered-most : (cs : List Check) → unanswered_count cs ≤ length cs
-unanswered-most cs = by (position is_answered (reverse cs)) refl where
-  by : (o : Option ℕ) → position is_answered (reverse cs) ≡ o → unwrap_or o (length cs) ≤ length cs
-  by None is = omega arith
-  by (Some i) is =
-      let lt : i < length (reverse cs) = (position-Some is_answered (reverse cs) i (record { id = []; sent = 0; answered = None; nominated = false; controlling = false }) is).0 in
-      let same : length (reverse cs) ≡ length cs = length-reverse cs in
-      omega (arith, lt, same)
 
 -- ---- when a pair gives way
 

@@ -6,7 +6,7 @@ use Rattle.is_theorems.proofs.Common.{InvalidateCandidate, Invalidates, is_conne
 use Rattle.is_theorems.proofs.Common.{numbers_skipped, Ok, PollEvent, PollTimeout, PollTransmit, ReceivePacket, RecreateCandidatePairs}
 use Rattle.is_theorems.proofs.Common.{Recreates, refl, RestartIce, Restarts, Result, same_state, SetConsent, SetControlling}
 use Rattle.is_theorems.proofs.Common.{SetControlTieBreaker, SetIceLite, SetInitialStunRto, SetLiteTimeout, SetLocalCredentials}
-use Rattle.is_theorems.proofs.Common.{SetLocalPreference, SetMaxCandidatePairs, SetMaxDiscovered, SetMaxStunRetransmits, SetMaxStunRto}
+use Rattle.is_theorems.proofs.Common.{SetLocalPreference, SetMaxCandidatePairs, SetMaxCandidates, SetMaxDiscovered, SetMaxStunRetransmits, SetMaxStunRto}
 use Rattle.is_theorems.proofs.Common.{SetMtu, SetProfile, SetRemoteCredentials, SetRenomination, SetsLocal, SetsMtu, SetsRemote}
 use Rattle.is_theorems.proofs.Common.{SetTimingAdvance, SkipPairIds, Some, Step, Stream, subst, sym, true, undue, with_consent}
 use Rattle.is_theorems.proofs.Common.{with_lite_timeout, with_profile, with_retransmits, with_rtos, ℕ}
@@ -71,6 +71,7 @@ module _ {H P : Type 0} (mac : H → List ℕ → List ℕ → List ℕ) (answer
     steps (SetControlTieBreaker tie) full may h = becomes (record old { tie_breaker = tie }) refl (λ live. live) (λ was. was) h
     steps (SetMaxCandidatePairs n) full may h = becomes (record old { max_pairs = n }) refl (λ live. live) (λ was. was) h
     steps (SetMaxDiscovered limit) full may h = becomes (record old { max_discovered = limit }) refl (λ live. live) (λ was. was) h
+    steps (SetMaxCandidates limit) full may h = becomes (record old { max_candidates = limit }) refl (λ live. live) (λ was. was) h
     steps (SetIceLite lite) full may h = becomes (record old { lite = lite }) refl (λ live. live) (λ was. was) h
     steps (SetRenomination on) full may h = becomes (record old { renominates = on }) refl (λ live. live) (λ was. was) h
     steps (SetProfile profile) full may h = becomes (with_profile profile old) refl (λ live. live) (λ was. was) h

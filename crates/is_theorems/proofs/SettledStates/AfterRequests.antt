@@ -8,7 +8,7 @@ use Rattle.is_theorems.proofs.Common.{is_valid_at, Known, last_of, List, local_p
 use Rattle.is_theorems.proofs.Common.{not, numbers, Option, pair_served, PairRecord, passes_at, Path, path_between, Queues}
 use Rattle.is_theorems.proofs.Common.{RecordsAndResponds, refl, RemotePlace, replied, request_counted, RequestRecord, ResolvesRoleConflict}
 use Rattle.is_theorems.proofs.Common.{ResolvesRoleConflictBy, same_state, selected_in, selects_at_requests, Send487, served, Serves}
-use Rattle.is_theorems.proofs.Common.{state_updated, updates_late, Some, state_at, subst, switched, switched_sides, SwitchRole, sym, trigger_time}
+use Rattle.is_theorems.proofs.Common.{state_updated, updates_late, Some, state_at, subst, switched, switched_sides, SwitchRole, sym, triggered_time}
 use Rattle.is_theorems.proofs.Common.{true, Unknown, Vacant, with_pair, with_priority_in, with_request, with_sender, with_sender_at, ℕ}
 use Rattle.is_theorems.proofs.BasicLemmas.EqualAddresses.{both}
 use Rattle.is_theorems.proofs.BasicLemmas.MembersOfLists.{has-front}
@@ -70,7 +70,7 @@ module _ {H P : Type 0} where
         subst (λ (a : AgentRecord H P). Outcome s emitted a) (sym made)
         (either (selects_at_requests s && is_valid_at number s.pairs) nominating (λ _ k. evaluates path refl k) (λ off k. leaves off k)) where
           after : AgentRecord H P
-          after = replied mac q (path_between s l r) (state_updated (is_some path) (trigger_time q s) mid)
+          after = replied mac q (path_between s l r) (state_updated (is_some path) (triggered_time q s) mid)
 
           silent : path ≡ None → last_of emitted.selected_paths ≡ None
           silent none = ap (λ (x : Emitted). last_of x.selected_paths) is ∙ ap (λ o. last_of (selected_in o None)) none
@@ -80,8 +80,8 @@ module _ {H P : Type 0} where
 
           leaves : (selects_at_requests s && is_valid_at number s.pairs) ≡ false → (path ≡ None) × (mid ≡ y l r number s full) → Outcome s emitted after
           leaves off (none, same) =
-              inl (subst (λ (o : Option Path). Stays s emitted (replied mac q (path_between s l r) (state_updated (is_some o) (trigger_time q s) mid))) (sym none)
-              (subst (λ (a : AgentRecord H P). Stays s emitted (replied mac q (path_between s l r) (state_updated false (trigger_time q s) a))) (sym same) (record {
+              inl (subst (λ (o : Option Path). Stays s emitted (replied mac q (path_between s l r) (state_updated (is_some o) (triggered_time q s) mid))) (sym none)
+              (subst (λ (a : AgentRecord H P). Stays s emitted (replied mac q (path_between s l r) (state_updated false (triggered_time q s) a))) (sym same) (record {
                 state = refl;
                 unasked = unasked;
                 silent = λ _. silent none;
@@ -91,7 +91,7 @@ module _ {H P : Type 0} where
 
           evaluates : (o : Option Path) → path ≡ o → Nominates (y l r number s full) path mid → Outcome s emitted after
           evaluates None none k = inl (subst
-              (λ (o : Option Path). Stays s emitted (replied mac q (path_between s l r) (state_updated (is_some o) (trigger_time q s) mid))) (sym none) (record {
+              (λ (o : Option Path). Stays s emitted (replied mac q (path_between s l r) (state_updated (is_some o) (triggered_time q s) mid))) (sym none) (record {
                 state = nominates-state (y l r number s full) mid path k;
                 unasked = unasked;
                 silent = λ _. silent none;
@@ -99,26 +99,26 @@ module _ {H P : Type 0} where
                 keeps = λ _ was. nominates-keeps (y l r number s full) mid path k (served-keeps l r number s full was);
               }))
           evaluates (Some one) some k =
-              subst (λ (o : Option Path). Outcome s emitted (replied mac q (path_between s l r) (state_updated (is_some o) (trigger_time q s) mid))) (sym some)
+              subst (λ (o : Option Path). Outcome s emitted (replied mac q (path_between s l r) (state_updated (is_some o) (triggered_time q s) mid))) (sym some)
               (by (updates_late s) refl) where
                 on : updates_late mid ≡ updates_late s
                 on = settles-named (y l r number s full) mid path k
 
                 selected : AgentRecord H P
-                selected = replied mac q (path_between s l r) (state_updated true (trigger_time q s) mid)
+                selected = replied mac q (path_between s l r) (state_updated true (triggered_time q s) mid)
 
                 by : (b : Bool) → updates_late s ≡ b → Outcome s emitted selected
                 by true rule =
-                    let state : selected.state ≡ state_at (trigger_time q s) mid =
-                    ap (λ b. if b then state_at (trigger_time q s) mid else mid.state) (on ∙ rule) in
+                    let state : selected.state ≡ state_at (triggered_time q s) mid =
+                    ap (λ b. if b then state_at (triggered_time q s) mid else mid.state) (on ∙ rule) in
                     inr (record {
-                      begun = ap (λ z. same_state z New) state ∙ begun-evaluated (trigger_time q s) mid;
-                      backed = λ connected. evaluated-backed (trigger_time q s) mid (ap (λ z. is_connected z) (sym state) ∙ connected);
-                      connects = λ rules live. ap (λ z. is_connected z) state ∙ evaluated-connects (trigger_time q s) mid (settles-begun mid (on ∙ rule)) live;
+                      begun = ap (λ z. same_state z New) state ∙ begun-evaluated (triggered_time q s) mid;
+                      backed = λ connected. evaluated-backed (triggered_time q s) mid (ap (λ z. is_connected z) (sym state) ∙ connected);
+                      connects = λ rules live. ap (λ z. is_connected z) state ∙ evaluated-connects (triggered_time q s) mid (settles-begun mid (on ∙ rule)) live;
                       selects = λ _ live. nominates-selects (y l r number s full) mid path k live;
                     })
                 by false rule = inl (record {
-                  state = ap (λ b. if b then state_at (trigger_time q s) mid else mid.state) (on ∙ rule) ∙ nominates-state (y l r number s full) mid path k;
+                  state = ap (λ b. if b then state_at (triggered_time q s) mid else mid.state) (on ∙ rule) ∙ nominates-state (y l r number s full) mid path k;
                   unasked = unasked;
                   silent = λ rules. no-live (sym rule ∙ rules.0);
                   back = λ rules. no-live (sym rule ∙ rules.0);

@@ -8,7 +8,7 @@ use Rattle.is_theorems.proofs.Common.{local_to_discard, Logged, loses_selected, 
 use Rattle.is_theorems.proofs.Common.{PollTimeout, PollTransmit, ReceivePacket, RecreateCandidatePairs, Recreates, refl, remote_discarded}
 use Rattle.is_theorems.proofs.Common.{remote_to_discard, Reselects, restarted, RestartIce, Restarts, Result, Run, run_to, SetConsent}
 use Rattle.is_theorems.proofs.Common.{SetControlling, SetControlTieBreaker, SetIceLite, SetInitialStunRto, SetLiteTimeout}
-use Rattle.is_theorems.proofs.Common.{SetLocalCredentials, SetLocalPreference, SetMaxCandidatePairs, SetMaxDiscovered}
+use Rattle.is_theorems.proofs.Common.{SetLocalCredentials, SetLocalPreference, SetMaxCandidatePairs, SetMaxCandidates, SetMaxDiscovered}
 use Rattle.is_theorems.proofs.Common.{SetMaxStunRetransmits, SetMaxStunRto, SetMtu, SetProfile, SetRemoteCredentials, SetRenomination}
 use Rattle.is_theorems.proofs.Common.{SetsLocal, SetsMtu, SetsRemote, SetTimingAdvance, signal_count, SkipPairIds, Some, Source, Step}
 use Rattle.is_theorems.proofs.Common.{Stream, subst, sum_by-cons, sym, true, with_remote, with_ufrag, ℕ}
@@ -149,6 +149,7 @@ module _ {H P : Type 0} where
     bounds (SetControlTieBreaker tie) _ (is, made, drawn) = kept (ap (λ (a : AgentRecord H P). lists_of a) made)
     bounds (SetMaxCandidatePairs k) _ (is, made, drawn) = kept (ap (λ (a : AgentRecord H P). lists_of a) made)
     bounds (SetMaxDiscovered limit) _ (is, made, drawn) = relimited limit made
+    bounds (SetMaxCandidates limit) _ (is, made, drawn) = kept (ap (λ (a : AgentRecord H P). lists_of a) made)
     bounds (SetIceLite lite) _ (is, made, drawn) = kept (ap (λ (a : AgentRecord H P). lists_of a) made)
     bounds (SetRenomination on) _ (is, made, drawn) = kept (ap (λ (a : AgentRecord H P). lists_of a) made)
     bounds (SetProfile profile) _ (is, made, drawn) = kept (ap (λ (a : AgentRecord H P). lists_of a) made)

@@ -8,7 +8,7 @@ use Rattle.is_theorems.proofs.Common.{loses_selected, map, may_form, MayDo, mul-
 use Rattle.is_theorems.proofs.Common.{PeerReflexive, PollEvent, PollTimeout, PollTransmit, ReceivePacket, RecreateCandidatePairs, Recreates}
 use Rattle.is_theorems.proofs.Common.{refl, remote_discarded, remote_to_discard, Reselects, RestartIce, Restarts, Result, Run, run_to}
 use Rattle.is_theorems.proofs.Common.{same_kind, SetConsent, SetControlling, SetControlTieBreaker, SetIceLite, SetInitialStunRto}
-use Rattle.is_theorems.proofs.Common.{SetLiteTimeout, SetLocalCredentials, SetLocalPreference, SetMaxCandidatePairs, SetMaxDiscovered}
+use Rattle.is_theorems.proofs.Common.{SetLiteTimeout, SetLocalCredentials, SetLocalPreference, SetMaxCandidatePairs, SetMaxCandidates, SetMaxDiscovered}
 use Rattle.is_theorems.proofs.Common.{SetMaxStunRetransmits, SetMaxStunRto, SetMtu, SetProfile, SetRemoteCredentials, SetRenomination}
 use Rattle.is_theorems.proofs.Common.{SetsLocal, SetsMtu, SetsRemote, SetTimingAdvance, SkipPairIds, slice_set, Some, Step, Stream, subst}
 use Rattle.is_theorems.proofs.Common.{suc, sum_by-cons, sym, true, undue, zero, ℕ}
@@ -131,6 +131,7 @@ module _ {H P : Type 0} where
     steps sound (SetControlTieBreaker tie) (is, made, drawn) = inl (placed (cells_in _ made))
     steps sound (SetMaxCandidatePairs k) (is, made, drawn) = inl (placed (cells_in _ made))
     steps sound (SetMaxDiscovered limit) (is, made, drawn) = inl (placed (cells_in _ made))
+    steps sound (SetMaxCandidates limit) (is, made, drawn) = inl (placed (cells_in _ made))
     steps sound (SetIceLite lite) (is, made, drawn) = inl (placed (cells_in _ made))
     steps sound (SetRenomination on) (is, made, drawn) = inl (placed (cells_in _ made))
     steps sound (SetProfile profile) (is, made, drawn) = inl (placed (cells_in _ made))

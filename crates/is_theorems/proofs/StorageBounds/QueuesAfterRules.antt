@@ -11,7 +11,7 @@ use Rattle.is_theorems.proofs.Common.{NominatesWhere, None, not, Option, other_c
 use Rattle.is_theorems.proofs.Common.{Queues, RecordsAndResponds, refl, RemotePlace, RemovesExpired, request_counted, RequestRecord}
 use Rattle.is_theorems.proofs.Common.{Reselects, ResolvesRoleConflict, ResolvesRoleConflictBy, same_state, selects_at_requests, Send487}
 use Rattle.is_theorems.proofs.Common.{Serves, state_updated, Some, start_emitted, started, state_at_start, updated_state, Stream, subst}
-use Rattle.is_theorems.proofs.Common.{sum_by-append, sum_by-cons, switched, SwitchRole, sym, timeout_begun, trigger_time, true, Unknown}
+use Rattle.is_theorems.proofs.Common.{sum_by-append, sum_by-cons, switched, SwitchRole, sym, timeout_begun, triggered_time, true, Unknown}
 use Rattle.is_theorems.proofs.Common.{unpaired, Vacant, with_pair, with_selection, with_sender, with_sender_at, with_state, ℕ}
 use Rattle.is_theorems.proofs.RuleEffects.Reselection.{by-reselecting}
 use Rattle.is_theorems.proofs.RuleEffects.UnchangedSettings.{either}
@@ -210,10 +210,10 @@ module _ {H P : Type 0} where
 
     pair : (l r number : ℕ) (s new : AgentRecord H P) (emitted : Emitted) → RecordsAndResponds mac q l r number s emitted new → Adds 1 2 s new
     pair l r number s new emitted (path, mid, nominates, (values, is, made)) =
-        let at : AgentRecord H P = state_updated (is_some path) (trigger_time q s) mid in
+        let at : AgentRecord H P = state_updated (is_some path) (triggered_time q s) mid in
         more 0 1 1 1 s mid new
         (where_adds (selects_at_requests s && is_valid_at number s.pairs) (pair_served q number s) mid path nominates)
-        (more 0 1 1 0 mid at new (updated_adds (is_some path) (trigger_time q s) mid) (as-made 1 0 at _ new made (one-packet (lines_of at) _)))
+        (more 0 1 1 0 mid at new (updated_adds (is_some path) (triggered_time q s) mid) (as-made 1 0 at _ new made (one-packet (lines_of at) _)))
 
     takes : (l r : ℕ) (number : Option ℕ) (s new : AgentRecord H P) (emitted : Emitted) → FindsOrAddsPair mac q l r number s emitted new → Adds 1 2 s new
     takes l r (Some number) s new emitted h = pair l r number s new emitted h

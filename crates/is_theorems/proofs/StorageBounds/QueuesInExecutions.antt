@@ -13,7 +13,7 @@ use Rattle.is_theorems.proofs.Common.{Polled, PollEvent, PollTimeout, PollTransm
 use Rattle.is_theorems.proofs.Common.{RecreateCandidatePairs, Recreates, refl, remote_to_discard, reports_none, request_at, request_in}
 use Rattle.is_theorems.proofs.Common.{RequestRecord, Reselects, RestartIce, Restarts, Result, Serves, SetConsent, SetControlling}
 use Rattle.is_theorems.proofs.Common.{SetControlTieBreaker, SetIceLite, SetInitialStunRto, SetLiteTimeout, SetLocalCredentials}
-use Rattle.is_theorems.proofs.Common.{SetLocalPreference, SetMaxCandidatePairs, SetMaxDiscovered, SetMaxStunRetransmits, SetMaxStunRto}
+use Rattle.is_theorems.proofs.Common.{SetLocalPreference, SetMaxCandidatePairs, SetMaxCandidates, SetMaxDiscovered, SetMaxStunRetransmits, SetMaxStunRto}
 use Rattle.is_theorems.proofs.Common.{SetMtu, SetProfile, SetRemoteCredentials, SetRenomination, SetsLocal, SetsMtu, SetsRemote}
 use Rattle.is_theorems.proofs.Common.{SetTimingAdvance, SharedRun, SkipPairIds, Some, Step, Stream, subst, suc, sum_by-cons, sym, Takes}
 use Rattle.is_theorems.proofs.Common.{timeout_begun, TimesOut, true, unpaired, ℕ}
@@ -337,6 +337,7 @@ module _ {H P : Type 0} where
       moves (SetControlTieBreaker tie) (is, made, drawn) = still (same old new (ap (λ (a : AgentRecord H P). lines_of a) made))
       moves (SetMaxCandidatePairs k) (is, made, drawn) = still (same old new (ap (λ (a : AgentRecord H P). lines_of a) made))
       moves (SetMaxDiscovered limit) (is, made, drawn) = relimited limit made
+      moves (SetMaxCandidates limit) (is, made, drawn) = still (same old new (ap (λ (a : AgentRecord H P). lines_of a) made))
       moves (SetIceLite lite) (is, made, drawn) = still (same old new (ap (λ (a : AgentRecord H P). lines_of a) made))
       moves (SetRenomination on) (is, made, drawn) = still (same old new (ap (λ (a : AgentRecord H P). lines_of a) made))
       moves (SetProfile profile) (is, made, drawn) = still (same old new (ap (λ (a : AgentRecord H P). lines_of a) made))

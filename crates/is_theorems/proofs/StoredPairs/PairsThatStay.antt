@@ -10,7 +10,7 @@ use Rattle.is_theorems.proofs.Common.{Ok, Option, PairRecord, PairsStay, PairsSt
 use Rattle.is_theorems.proofs.Common.{PollTransmit, preferred, ReceivePacket, Receives, RecreateCandidatePairs, refl, remote_discarded}
 use Rattle.is_theorems.proofs.Common.{remote_to_discard, request_at, RequestRecord, Reselects, RestartIce, Result, rising-each, Run, RunsOn}
 use Rattle.is_theorems.proofs.Common.{ServesQueued, SetConsent, SetControlling, SetControlTieBreaker, SetIceLite, SetInitialStunRto}
-use Rattle.is_theorems.proofs.Common.{SetLiteTimeout, SetLocalCredentials, SetLocalPreference, SetMaxCandidatePairs, SetMaxDiscovered}
+use Rattle.is_theorems.proofs.Common.{SetLiteTimeout, SetLocalCredentials, SetLocalPreference, SetMaxCandidatePairs, SetMaxCandidates, SetMaxDiscovered}
 use Rattle.is_theorems.proofs.Common.{SetMaxStunRetransmits, SetMaxStunRto, SetMtu, SetProfile, SetRemoteCredentials, SetRenomination}
 use Rattle.is_theorems.proofs.Common.{SetTimingAdvance, SkipPairIds, Some, Stays, Step, Stream, subst, sym, timeout_begun, true, undue}
 use Rattle.is_theorems.proofs.Common.{with_rtos, ℕ}
@@ -119,6 +119,7 @@ module _ {H P : Type 0} where
       lasts (SetControlTieBreaker tie) (is, made, drawn) = inl (becomes _ (λ n asks x. x) made)
       lasts (SetMaxCandidatePairs n) (is, made, drawn) = inl (becomes _ (λ n asks x. x) made)
       lasts (SetMaxDiscovered n) (is, made, drawn) = inl (becomes _ (λ n asks x. x) made)
+      lasts (SetMaxCandidates n) (is, made, drawn) = inl (becomes _ (λ n asks x. x) made)
       lasts (SetIceLite lite) (is, made, drawn) = inl (becomes _ (λ n asks x. x) made)
       lasts (SetRenomination on) (is, made, drawn) = inl (becomes _ (λ n asks x. x) made)
       lasts (SetProfile profile) (is, made, drawn) = inl (becomes _ (λ n asks x. x) made)

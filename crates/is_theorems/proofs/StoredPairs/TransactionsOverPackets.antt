@@ -15,7 +15,7 @@ use Rattle.is_theorems.proofs.Common.{RecordsAndResponds, refl, remains, RemoteP
 use Rattle.is_theorems.proofs.Common.{ResolvesRoleConflict, ResolvesRoleConflictBy, Result, same, selection_of, selects_at_requests}
 use Rattle.is_theorems.proofs.Common.{Send487, sender_candidate, served, Serves, state_updated, slice_get, slice_set, SocketAddr, Some, Step}
 use Rattle.is_theorems.proofs.Common.{Stream, subst, suc, success_counted, switched, switched_sides, SwitchRole, sym, Takes, TakesAnswer}
-use Rattle.is_theorems.proofs.Common.{trigger_time, true, Unknown, Vacant, validated, validated_by_peer, with_pair, with_priority_in}
+use Rattle.is_theorems.proofs.Common.{triggered_time, true, Unknown, Vacant, validated, validated_by_peer, with_pair, with_priority_in}
 use Rattle.is_theorems.proofs.Common.{with_request, with_sender, with_sender_at, zero, ℕ}
 use Rattle.is_theorems.proofs.BasicLemmas.EqualAddresses.{both}
 use Rattle.is_theorems.proofs.DuePairs.AfterPackets.{Grown}
@@ -210,7 +210,7 @@ module _ {H P : Type 0} where
           (stays_by s (pair_served q number s) (inl refl) (inl refl)
           (mapped_pairs (change_at number (after_request q s)) s.pairs (λ p. at_alike number (after_request q s) p (request_alike q s p))))
           (stays_on (pair_served q number s) mid new (nominates_where (selects_at_requests s && is_valid_at number s.pairs) (pair_served q number s) mid path nominates)
-          (subst (λ (a : AgentRecord H P). Stays mid a) (sym made) (stays_by mid (replied mac q (path_between s l r) (state_updated (is_some path) (trigger_time q s) mid)) (inl refl) (inl refl) (same_pairs mid.pairs))))
+          (subst (λ (a : AgentRecord H P). Stays mid a) (sym made) (stays_by mid (replied mac q (path_between s l r) (state_updated (is_some path) (triggered_time q s) mid)) (inl refl) (inl refl) (same_pairs mid.pairs))))
 
       takes_at : (l r : ℕ) (number : Option ℕ) (s new : AgentRecord H P) (emitted : Emitted) → FindsOrAddsPair mac q l r number s emitted new → Stays s new
       takes_at l r (Some number) s new emitted h = at_pair l r number s new emitted h

@@ -18,7 +18,7 @@ use Rattle.is_theorems.proofs.Common.{preferred, protocol_number, ReceivedPacket
 use Rattle.is_theorems.proofs.Common.{remote_discarded, remote_to_discard, renominated, request_at, RequestRecord, Reselects, RestartIce}
 use Rattle.is_theorems.proofs.Common.{Result, ReturnedWhilePending, rising-each, SendsLater, sent_of, SentCheck, ServedCheck, ServesQueued}
 use Rattle.is_theorems.proofs.Common.{SetConsent, SetControlling, SetControlTieBreaker, SetIceLite, SetInitialStunRto, SetLiteTimeout}
-use Rattle.is_theorems.proofs.Common.{SetLocalCredentials, SetLocalPreference, SetMaxCandidatePairs, SetMaxDiscovered}
+use Rattle.is_theorems.proofs.Common.{SetLocalCredentials, SetLocalPreference, SetMaxCandidatePairs, SetMaxCandidates, SetMaxDiscovered}
 use Rattle.is_theorems.proofs.Common.{SetMaxStunRetransmits, SetMaxStunRto, SetMtu, SetProfile, SetRemoteCredentials, SetRenomination}
 use Rattle.is_theorems.proofs.Common.{SetTimingAdvance, SkipPairIds, Some, Step, Stream, subst, suc, SucceedsOrEnds, sym, timeout_begun}
 use Rattle.is_theorems.proofs.Common.{true, undue, via_out, with_rtos, ℕ}
@@ -144,6 +144,7 @@ module _ {H P : Type 0} where
       lasts (SetControlTieBreaker tie) (is, made, drawn) = inl (becomes _ (keeps-self old.pairs) made)
       lasts (SetMaxCandidatePairs n) (is, made, drawn) = inl (becomes _ (keeps-self old.pairs) made)
       lasts (SetMaxDiscovered n) (is, made, drawn) = inl (becomes _ (keeps-self old.pairs) made)
+      lasts (SetMaxCandidates n) (is, made, drawn) = inl (becomes _ (keeps-self old.pairs) made)
       lasts (SetIceLite lite) (is, made, drawn) = inl (becomes _ (keeps-self old.pairs) made)
       lasts (SetRenomination on) (is, made, drawn) = inl (becomes _ (keeps-self old.pairs) made)
       lasts (SetProfile profile) (is, made, drawn) = inl (becomes _ (keeps-self old.pairs) made)

@@ -35,13 +35,13 @@ static FAULTS: [(&str, &str); 36] = [
     ),
     (
         r#"{"on":"A"}"#,
-        "missing call, which is one of agent, controlling, lite, renomination, profile, consent, tie, mtu, local, remote, pairs, discovered, \
+        "missing call, which is one of agent, controlling, lite, renomination, profile, consent, tie, mtu, local, remote, pairs, discovered, candidates, \
         retransmits, rto, maxrto, litetimeout, advance, preference, skip, host, srflx, relay, candidate, invalidate, \
         restart, recreate, timeout, packet, deliver, poll",
     ),
     (
         r#"{"call":"sleep"}"#,
-        "bad call: \"sleep\" is not one of agent, controlling, lite, renomination, profile, consent, tie, mtu, local, remote, pairs, discovered, \
+        "bad call: \"sleep\" is not one of agent, controlling, lite, renomination, profile, consent, tie, mtu, local, remote, pairs, discovered, candidates, \
         retransmits, rto, maxrto, litetimeout, advance, preference, skip, host, srflx, relay, candidate, invalidate, \
         restart, recreate, timeout, packet, deliver, poll",
     ),

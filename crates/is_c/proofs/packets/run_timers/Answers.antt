@@ -28,4 +28,4 @@ returns c =
     subst
     (λ (new : HeldRecord). RunsTimers mac-value.it c.args.now c.args.random.now old (to_z w32 (of_z w32 c.done_code.result)) new)
     (sym c.see_timeout.ensures)
-    (r, (emitted, (left, handled, back ∙ c.done_code.ensures, refl, seen, refl, (refl, refl))))
+    (r, (emitted, (left, handled, back ∙ c.done_code.ensures, refl, seen, refl, refl)))

@@ -1,7 +1,7 @@
 //! Triggered checks: which requests move the next check of a pair up, and which pairs are urgent.
 
 use super::{Path, at};
-use is_pair::{is_urgent, trigger};
+use is_pair::{is_urgent, schedule_triggered};
 use is_proto::Instant;
 use std::alloc::Global;
 use std::test::Fail;
@@ -18,7 +18,7 @@ fn due_path(alloc: Global) -> Result<Path, Fail> {
 
 /// When the path is due after a request at this time, with the profile `Modern`.
 fn due_after_request(path: &mut Path, now: Instant) -> Instant {
-    trigger(&mut path.pair, true, now);
+    schedule_triggered(&mut path.pair, true, now);
     path.pair.increase_remote_binding_requests(now);
     path.due(now)
 }
@@ -40,7 +40,7 @@ fn a_request_moves_no_check_down(rt: HostRuntime) -> Result<(), Fail> {
 #[test]
 fn by_the_original_a_request_moves_nothing(rt: HostRuntime) -> Result<(), Fail> {
     let mut path = due_path(rt.alloc())?;
-    trigger(&mut path.pair, false, at(100));
+    schedule_triggered(&mut path.pair, false, at(100));
     assert!(rt; path.due(at(100)) == at(250));
     Ok(())
 }
