@@ -516,7 +516,7 @@ IS_ICE_QUIET_CALL int32_t is_ice_set_max_pairs(is_ice_agent *agent, size_t limit
 IS_ICE_QUIET_CALL int32_t is_ice_set_max_discovered(is_ice_agent *agent, size_t limit);
 
 /* is_ice_set_max_candidates - limits how many candidates of each side there are when the program adds one, so that the
- * other agent's signaling costs no more memory and time. If is_ice_local_candidate returns as many, is_ice_add_local
+ * other agent's signaling forms no more pairs; a text is read all the same. If is_ice_local_candidate returns as many, is_ice_add_local
  * fails with IS_ICE_TOO_MANY_CANDIDATES, and so does is_ice_add_remote for is_ice_remote_candidate. So candidates that
  * packets brought count; they come without regard to this limit (is_ice_set_max_discovered is theirs). An invalidated
  * candidate does not count. A lower limit removes no candidate. IS_ICE_NO_LIMIT: as many as are added. IS_ICE_OK. */
@@ -544,7 +544,8 @@ IS_ICE_QUIET_CALL int32_t is_ice_set_max_rto(is_ice_agent *agent, uint64_t nanos
  * removed while the last of them may still be answered in time, nor within 15 s of a check of the other agent on it.
  * With few pairs that is up to max_rto and ice_timeout of is_ice_status together after its last answered check; with many
  * pairs each check waits for its turn, and the consent_timeout of is_ice_set_settings ends the pair. With `modern` a pair
- * is not removed within ice_timeout after the first of its checks without a response, either.
+ * is not removed within ice_timeout after the first of its checks without a response, either. Two pairs end sooner: the
+ * selected one, if it is silent while another one works, and one whose first check followed a request.
  *
  * IS_ICE_OK. IS_ICE_BAD_LIMIT: the limit is 0. */
 IS_ICE_CALL int32_t is_ice_set_max_retransmits(is_ice_agent *agent, size_t limit);

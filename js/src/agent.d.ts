@@ -30,8 +30,9 @@ export class IceAgent extends Settings {
   // ---- candidates
 
   /**
-   * Adds a candidate that was gathered, and returns its text for signaling, or null if it is redundant. A text ("candidate:..") is added
-   * with its own priority and foundation, and its address as its base.
+   * Adds a candidate that was gathered, and returns its text for signaling, or null if it is redundant, or if the agent is lite and the
+   * candidate no host. A text ("candidate:..") is added with its own priority and foundation, and its address as its base.
+   * `TooManyCandidates`: there are as many as `setMaxCandidates` allows.
    */
   addLocalCandidate(candidate: Candidate | string): string | null;
   /**

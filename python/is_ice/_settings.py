@@ -84,8 +84,8 @@ class Setters(Unique):
         """Limits how many candidates of each side there are when one is added. None: no limit, as in the original.
 
         If `local_candidates` has as many, `add_local_candidate` raises TooManyCandidates, and so does `add_remote_candidate` for
-        `remote_candidates`. So the peer's signaling costs no more memory and time. A lower limit removes no candidate, and packets
-        bring candidates without regard to it: `set_max_discovered` limits them.
+        `remote_candidates`. So the peer's signaling forms no more pairs; a text is read all the same. A lower limit removes no
+        candidate, and packets bring candidates without regard to it: `set_max_discovered` limits them.
         """
         done(self._c.is_ice_set_max_candidates(self._at, limit_of(limit)))
 
@@ -124,7 +124,8 @@ class Setters(Unique):
 
         A pair is not removed while the last check may still be answered in time, nor within 15 s of a check of the peer on it. With
         early retransmissions (`Profile.MODERN`) it is not removed within `ice_timeout` after the first of its checks without a
-        response, either.
+        response, either. Two pairs end sooner: the selected one, if it is silent while another one works, and one whose first check
+        followed a request.
         """
         done(self._c.is_ice_set_max_retransmits(self._at, in_range(limit, 64, "a limit")))
 

@@ -134,8 +134,8 @@ class IceAgent(Media):
     def add_local_candidate(self, candidate: Candidate | str) -> str | None:
         """Adds a candidate that was gathered, and returns its text for signaling, or None if it is redundant.
 
-        A text ("candidate:..") is added with its own priority and foundation, and its address as its base. TooManyCandidates if there are
-        as many as `set_max_candidates` allows.
+        None too if the agent is lite and the candidate no host. A text ("candidate:..") is added with its own priority and foundation,
+        and its address as its base. TooManyCandidates if there are as many as `set_max_candidates` allows.
         """
         index = c_size_t()
         if isinstance(candidate, str):

@@ -25,9 +25,10 @@ class Profile(enum.Enum):
     - Until a path is selected, every second check goes to the next kind of pairs, and the others to the pair that is due first (RFC 8445,
       section 6.1.4.2). So a path through NATs is found soon, however many host candidates there are. The kind of a pair is the kind of its
       remote candidate, its IP version, and whether packets of its local candidate reach the outside. They do if the candidate is relayed,
-      if its base has a server-reflexive candidate or a public address, or if no base of its IP version has either. A host candidate with a
-      public address counts as server-reflexive. While there are more pairs than `set_max_candidate_pairs` allows, the lowest pair of the
-      kind that has the most is removed.
+      or if its base has a server-reflexive candidate or a public address. As long as no base of its IP version has either, this is not
+      known: then the pairs whose addresses share 24 bits of IPv4 or 48 of IPv6 are of a kind. A host candidate with a public address counts
+      as server-reflexive. While there are more pairs than `set_max_candidate_pairs` allows, the lowest pair of the kind that has the most
+      is removed.
     - The first request on a pair makes its next check due at once, unless the pair is valid (RFC 8445, section 7.3.1.4). Every second
       check may go to such a pair, to one whose nomination has no response yet, or to the selected pair, before pairs that are due earlier.
     - As long as no response arrived on a pair, its first two retransmissions come 100 ms apart, and each later delay is twice the one
@@ -37,6 +38,7 @@ class Profile(enum.Enum):
     - A controlled agent selects a pair in the `handle_packet` call of the request that nominates it, if the pair was valid before (RFC
       8445, section 7.3.1.5).
     - A pair is removed at the end of its `Consent`, however many pairs there are.
+    - A selected pair that has had no response for about 4 s is removed if another one has: the agent leaves a path that died.
     - Until the agent has a path, and if it is controlling has sent the check that nominates it, the pacing interval Ta is at most 25 ms for
       half a second after the first check of the newest pair, and 10 ms after a pause: at most 49 checks come in a second. A shorter
       `set_timing_advance` stays.

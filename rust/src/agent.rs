@@ -178,8 +178,8 @@ impl IceAgent {
             .map(Candidate::listed_local)
     }
 
-    /// Adds a local candidate, and returns it as the agent lists it. Returns `None` if it is redundant, or if there are as many as
-    /// [`IceAgent::set_max_candidates`] allows.
+    /// Adds a local candidate, and returns it as the agent lists it. Returns `None` if it is redundant, if the agent is lite and the
+    /// candidate no host, or if there are as many as [`IceAgent::set_max_candidates`] allows.
     ///
     /// The agent gives one that was gathered its priority and its foundation. One that was read from a text, or made by
     /// [`Candidate::from_parts`], keeps its own, and has its address as its base, since a text has none. Of two with the same address, base and

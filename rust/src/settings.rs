@@ -69,8 +69,8 @@ impl IceAgent {
     /// Limits how many candidates of each side there are when one is added. `None`: no limit, as in the original.
     ///
     /// If [`IceAgent::local_candidates`] has as many, [`IceAgent::add_local_candidate`] returns `None`; if
-    /// [`IceAgent::remote_candidates`] has, [`IceAgent::add_remote_candidate`] leaves the candidate out. So the peer's signaling costs
-    /// no more memory and time. The forms that return an error fail with [`CallError::TooManyCandidates`]. A lower limit removes no
+    /// [`IceAgent::remote_candidates`] has, [`IceAgent::add_remote_candidate`] leaves the candidate out. So the peer's signaling
+    /// forms no more pairs; a text is read all the same. The forms that return an error fail with [`CallError::TooManyCandidates`]. A lower limit removes no
     /// candidate, and packets bring candidates without regard to it: [`IceAgent::set_max_discovered`] limits them.
     pub fn set_max_candidates(&mut self, max: Option<usize>) {
         self.set(|agent| ffi::is_ice_set_max_candidates(agent, max.unwrap_or(usize::MAX)));
@@ -138,7 +138,8 @@ impl IceAgent {
     /// Sets after how many checks in a row without a response a pair is removed. It is not removed while the last check may still
     /// be answered in time, nor within 15 s of a check of the peer on it. With early retransmissions
     /// ([`Profile::Modern`](crate::Profile::Modern)) it is not removed within [`IceAgent::ice_timeout`] after the first of its checks
-    /// without a response, either. A limit of 0 is not taken: `try_set_max_stun_retransmits` returns an error then.
+    /// without a response, either. Two pairs end sooner: the selected one, if it is silent while another one works, and one whose
+    /// first check followed a request. A limit of 0 is not taken: `try_set_max_stun_retransmits` returns an error then.
     pub fn set_max_stun_retransmits(&mut self, num: usize) {
         kept(self.try_set_max_stun_retransmits(num));
     }

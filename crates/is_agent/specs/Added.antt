@@ -31,7 +31,7 @@ reported report_on (Ok x) = Ok (report_on x)
 reported report_on (Err e) = Err e
 
 module _ {H P : Type 0} where
-  -- why a local candidate is not added: for the limit, or for one that it equals
+  -- why a local candidate is not added: for the limit, or for one that it equals; a lite agent may have neither reason
   abbrev pub unwanted_addition : AgentRecord H P → CandidateRecord → Addition
   unwanted_addition old c = if is_full old.max_candidates old.local then TooMany else not_added (first_listed (is_same_place c) old.local)
 

@@ -130,7 +130,8 @@ fn unwanted_addition<H: Sha1HmacProvider + Drop, P: LocalPreference>(
 }
 
 /// Adds a local candidate like `add_local_candidate`, and returns the index at which it is listed. A candidate that is not added
-/// equals one with the same address, base and protocol (RFC 8445, section 5.1.3), unless as many are listed as `set_max_candidates` allows.
+/// equals one with the same address, base and protocol (RFC 8445, section 5.1.3), unless as many are listed as `set_max_candidates` allows, or
+/// the agent is lite and the candidate no host.
 pub fn add_local_listed<H: Sha1HmacProvider + Drop, P: LocalPreference>(
     agent: &mut Agent<H, P>,
     candidate: Candidate,

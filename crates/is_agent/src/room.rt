@@ -89,7 +89,7 @@ impl<H: Sha1HmacProvider + Drop, P: LocalPreference> Agent<H, P> {
         }
     }
 
-    /// Gives back the capacity for events that is not used, if that is more than half of it.
+    /// Gives back the capacity for events that is not used, if that is more than a fourth of it.
     fn shrink_events(&mut self)
         ensures { record_of self.new ≡ record_of self.old }
     {
@@ -98,7 +98,7 @@ impl<H: Sha1HmacProvider + Drop, P: LocalPreference> Agent<H, P> {
             .len()
             .saturating_add(self.kept_room)
             .saturating_add(OF_TIMEOUT);
-        if used < self.events.capacity() / 2 {
+        if used < self.events.capacity() - self.events.capacity() / 4 {
             self.events.shrink_to(used);
         }
     }

@@ -81,7 +81,7 @@ impl<H: Sha1HmacProvider + Drop, P: LocalPreference> Agent<H, P> {
         self.max_discovered = limit;
     }
 
-    /// Sets how many candidates of each side may be listed when the program adds one, so that the peer's signaling costs no more: a
+    /// Sets how many candidates of each side may be listed when the program adds one, so that signaling forms no more pairs: a
     /// candidate beyond that is not added. Those that packets brought count; they come without regard to this limit. Discarded ones do
     /// not count. None until it is set, which means no limit.
     pub fn set_max_candidates(&mut self, limit: Option<usize>)

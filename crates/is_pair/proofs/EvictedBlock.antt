@@ -1,5 +1,5 @@
 -- Pairs of lowest priority that are removed at once: they could be removed one after another, in the order by priority.
-use Rattle.is_pair.proofs.Common.{[], ◌&&◌, ◌++◌, ◌+◌, ◌<◌, ◌==◌, ◌||◌, ◌∙◌, ◌∷◌, ◌≡◌, ◌≤◌, ◌⊎◌, ap, are_ordered, are_single, arith, Bool}
+use Rattle.is_pair.proofs.Common.{[], ◌&&◌, ◌++◌, ◌+◌, ◌<◌, ◌==◌, ◌||◌, ◌∙◌, ◌∷◌, ◌≡◌, ◌≤◌, ◌⊎◌, ap, are_single, arith, Bool}
 use Rattle.is_pair.proofs.Common.{cons_option, eqb-true, EvictsInTurn, false, filter, Has, if◌then◌else◌, inl, inr, is_low, is_numbered}
 use Rattle.is_pair.proofs.Common.{IsLeast, IsLeastPassing, length, List, list_all, nat_le, nat_lt, nat_tests, None, not, Option}
 use Rattle.is_pair.proofs.Common.{pair_numbered, PairRecord, pairs_of, Rank, refl, rises, Some, subst, suc, sym, true, without, ℕ}
@@ -7,7 +7,7 @@ use Rattle.is_pair.proofs.ListParts.{drops-none, filter-swap, had-filtered, has-
 use Rattle.is_pair.proofs.ListParts.{one-goes, without-both}
 use Rattle.is_pair.proofs.PairEntries.ChangedEntry.{both, found-number, rises-filter}
 use Rattle.is_pair.proofs.PriorityOrder.GreatestPair.{all-has, found-has}
-use Rattle.is_pair.proofs.PriorityOrder.OrderedPairs.{above-from, le-from}
+use Rattle.is_pair.proofs.PriorityOrder.OrderedPairs.{above-from, are_rising, le-from}
 use Rattle.is_pair.proofs.PriorityOrder.RankedPairs.{Agree, HaveRanks, narrower, pairs-other}
 
 not-less : {a b : ℕ} → nat_lt a b ≡ false → b ≤ a
@@ -50,7 +50,7 @@ first-low r rs low s (inl e) = let same : r.priority ≡ s.priority = ap (λ (q 
 first-low r rs low s (inr has) = le-from (all-has (λ (q : Rank). nat_le r.priority q.priority) rs s low has)
 
 -- those that pass go in the order of their entries
-pub ranked-go : (limit : ℕ) (t : PairRecord → Bool) (rs : List Rank) (old rest end : List PairRecord) → are_ordered rs ≡ true → are_single rs ≡ true → rises old ≡ true
+pub ranked-go : (limit : ℕ) (t : PairRecord → Bool) (rs : List Rank) (old rest end : List PairRecord) → are_rising rs ≡ true → are_single rs ≡ true → rises old ≡ true
     → HaveRanks t rs old → Agree rs old → length (filter t old) + limit ≤ length old → AreLower t old → EvictsInTurn limit rest (without t old) end
     → EvictsInTurn limit (filter t (pairs_of rs old) ++ rest) old end
 ranked-go limit t [] old rest end ordered single rising have agree room low h =
@@ -58,8 +58,8 @@ ranked-go limit t [] old rest end ordered single rising have agree room low h =
 ranked-go limit t (r ∷ rs) old rest end ordered single rising have agree room low h =
     by (λ left up f g k l j. ranked-go limit t rs left rest end ord.1 one.1 up f g k l j) (pair_numbered r.number old) refl
   where
-    ord : (list_all (λ (q : Rank). nat_le r.priority q.priority) rs ≡ true) × (are_ordered rs ≡ true)
-    ord = both (list_all (λ (q : Rank). nat_le r.priority q.priority) rs) (are_ordered rs) ordered
+    ord : (list_all (λ (q : Rank). nat_le r.priority q.priority) rs ≡ true) × (are_rising rs ≡ true)
+    ord = both (list_all (λ (q : Rank). nat_le r.priority q.priority) rs) (are_rising rs) ordered
 
     one : (list_all (λ (q : Rank). not (q.number == r.number)) rs ≡ true) × (are_single rs ≡ true)
     one = both (list_all (λ (q : Rank). not (q.number == r.number)) rs) (are_single rs) single

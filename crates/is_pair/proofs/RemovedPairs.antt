@@ -5,8 +5,8 @@ use Rattle.is_pair.proofs.Common.{[], ◌++◌, ◌+◌, ◌-◌, ◌<◌, ◌==
 use Rattle.is_pair.proofs.Common.{count_by-le-length, drop, drop-append-le, drop-drop, eqb-true, false, filter, get_or, Has, if◌then◌else◌}
 use Rattle.is_pair.proofs.Common.{is_numbered, kept_as, last_removed, length, length-append, length-drop, length-filter, length-take, List}
 use Rattle.is_pair.proofs.Common.{listed_by, map, map-append, nat_lt, nat_tests, None, not, option_to_list, pair_numbered, PairRecord}
-use Rattle.is_pair.proofs.Common.{pairs_of, Rank, refl, removed_after, REMOVED_LIMIT, RemovedFit, RemovedPair, rises, Some, sym, take}
-use Rattle.is_pair.proofs.Common.{take-append-drop, take_more, true, ℕ}
+use Rattle.is_pair.proofs.Common.{pairs_of, Rank, refl, removed_after, REMOVED_LIMIT, RemovedFit, RemovedPair, reverse, rises, Some, sym}
+use Rattle.is_pair.proofs.Common.{take, take-append-drop, take_more, true, ℕ}
 use Rattle.is_pair.proofs.ListParts.{named-once, none-numbered}
 use Rattle.is_pair.proofs.PairEntries.ChangedEntry.{above, both, found-number}
 use Rattle.is_pair.proofs.PriorityOrder.GreatestPair.{all-has, filter-none, found-has}
@@ -102,7 +102,7 @@ fit-more-after len after cap gone left pairs n fit few all = omega arith
 
 -- ---- by priority
 
-pub listed-counts : (by_priority : Bool) (t : PairRecord → Bool) (rs : List Rank) (ps : List PairRecord) → length (filter t (pairs_of rs ps)) ≡ length (filter t ps)
+pub listed-counts : (by_priority : Bool) (t : PairRecord → Bool) (rs : List Rank) (ps : List PairRecord) → length (filter t (pairs_of (reverse rs) ps)) ≡ length (filter t ps)
     → length (filter t (listed_by by_priority rs ps)) ≡ length (filter t ps)
 listed-counts true t rs ps same = same
 listed-counts false t rs ps same = refl

@@ -39,10 +39,10 @@ is_ranked priority number rs = list_any (is_rank priority number) rs
 abbrev pub IsRanking : List Rank → List PairRecord → Type 0
 IsRanking rs pairs = (priority : ℕ) (number : ℕ) → is_ranked priority number rs ≡ ranks priority number pairs
 
--- the entries are sorted by priority, the least first
+-- the entries are sorted by priority, the greatest first
 abbrev pub are_ordered : List Rank → Bool
 are_ordered [] = true
-are_ordered (r ∷ rs) = list_all (λ q. nat_le r.priority q.priority) rs && are_ordered rs
+are_ordered (r ∷ rs) = list_all (λ q. nat_le q.priority r.priority) rs && are_ordered rs
 
 -- no two entries have the same number
 abbrev pub are_single : List Rank → Bool

@@ -1,5 +1,5 @@
 -- The order by priority, and pairs of lowest priority that are removed at once.
-use Rattle.std.specs.Prelude.{◌≡◌, ℕ, ◌==◌, ◌&&◌, ◌||◌, ◌++◌, ◌∷◌, [], Bool, true, nat_lt, nat_le, List, length, if◌then◌else◌}
+use Rattle.std.specs.Prelude.{◌≡◌, ℕ, ◌==◌, ◌&&◌, ◌||◌, ◌++◌, ◌∷◌, [], Bool, true, nat_lt, nat_le, List, length, reverse, if◌then◌else◌}
 use Rattle.std.specs.List.{filter_map, list_all}
 use Rattle.is_proto.specs.Lists.{Has}
 use Rattle.is_pair.specs.declared.checklist.Checklist.{Checklist}
@@ -16,11 +16,11 @@ pairs_of rs pairs = filter_map (λ (r : Rank). pair_numbered r.number pairs) rs
 
 -- the pairs in the order by priority, the least first; those of one priority are in any order
 abbrev pub ranked_of : Checklist → List PairRecord
-ranked_of list = pairs_of list.ranks.items list.pairs.items
+ranked_of list = pairs_of (reverse list.ranks.items) list.pairs.items
 
--- the pairs of entries by priority, or all pairs by number
+-- the pairs of entries by priority, the least first, or all pairs by number
 abbrev pub listed_by : Bool → List Rank → List PairRecord → List PairRecord
-listed_by by_priority rs pairs = if by_priority then pairs_of rs pairs else pairs
+listed_by by_priority rs pairs = if by_priority then pairs_of (reverse rs) pairs else pairs
 
 abbrev pub order_of : Bool → Checklist → List PairRecord
 order_of by_priority list = listed_by by_priority list.ranks.items list.pairs.items

@@ -5,6 +5,7 @@ pub mod BestIndex
 pub mod FoundChecks
 pub mod EvictedPairs
 pub mod EvictedPairsByKind
+pub mod EvictedOneKind
 pub mod EvictedTogether
 pub mod SlotsOfPairs
 pub mod DuePairsAfterNomination

@@ -20,6 +20,9 @@ module _ (kind_of : PairRecord → ℕ) where
   abbrev pub AreCounted : List PairRecord → List ℕ → Type 0
   AreCounted pairs counts = (kind : ℕ) → kind < KINDS → slice_index counts kind ≡ kind_count pairs kind
 
+  abbrev pub AreOfOneKind : List PairRecord → Type 0
+  AreOfOneKind pairs = (kind : ℕ) × (kind_count pairs kind ≡ length pairs)
+
   -- No other kind has more pairs than this one.
   abbrev pub HasMost : List PairRecord → ℕ → Type 0
   HasMost pairs kind = (other : ℕ) → kind_count pairs other ≤ kind_count pairs kind

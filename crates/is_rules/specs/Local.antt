@@ -96,7 +96,7 @@ module _ {H P : Type 0} where
 
   -- ---- the call
 
-  -- A lite agent has only host candidates (RFC 8445, section 5.2). No agent has more than its limit.
+  -- A lite agent has only host candidates (RFC 8445, section 5.2). At the limit the program adds none; packets may still bring one.
   abbrev pub is_unwanted : AgentRecord H P → CandidateRecord → Bool
   is_unwanted a c = (a.lite && not (same_kind c.kind Host)) || is_full a.max_candidates a.local
 

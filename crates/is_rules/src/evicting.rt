@@ -8,7 +8,7 @@ ghost use Rattle.is_pair.specs.Checklists.{multiset_of};
 ghost use Rattle.is_pair.specs.Pairs.{PairRecord};
 ghost use Rattle.is_rules.specs.Kept.{is_placed, are_placed};
 ghost use Rattle.is_rules.specs.Kinds.{kind_of, KINDS};
-ghost use Rattle.is_rules.specs.Evicting.{AreCounted, IsLeastOfKind, IsLeastOfMost, EvictsOfMost};
+ghost use Rattle.is_rules.specs.Evicting.{AreCounted, AreOfOneKind, IsLeastOfKind, IsLeastOfMost, EvictsOfMost};
 ghost use Rattle.is_rules.specs.Forming.{EvictsFor};
 ghost use Rattle.is_rules.specs.FormingView.{sides_view};
 ghost use Rattle.is_rules.specs.Cuts.{KindsStay};
@@ -98,13 +98,12 @@ fn evict_one(pairs: &mut Checklist, counts: &mut [usize; 9], kinds: &KindTable<'
     }
 }
 
-/// Removes pairs of the kind with the most pairs until there are no more than the limit.
-fn evict_by_kind(pairs: &mut Checklist, limit: usize, kinds: &KindTable<'_>)
+/// Removes pairs of the kind with the most pairs, one after another, until there are no more than the limit.
+fn evict_each_by_kind(pairs: &mut Checklist, limit: usize, kinds: &KindTable<'_>)
     requires placed { are_placed kinds.now.local.now kinds.now.remote.now (multiset_of pairs.old) ≡ true }
     ensures evicted { EvictsOfMost (kind_of kinds.now.local.now kinds.now.remote.now) limit (multiset_of pairs.old) (multiset_of pairs.new) }
     ensures below { (n : ℕ) → are_below n (multiset_of pairs.old) ≡ true → are_below n (multiset_of pairs.new) ≡ true }
 {
-    evict_many(pairs, limit, kinds);
     if pairs.len() <= limit {
         return;
     }
@@ -114,6 +113,30 @@ fn evict_by_kind(pairs: &mut Checklist, limit: usize, kinds: &KindTable<'_>)
             return;
         }
     }
+}
+
+/// All pairs are of one kind.
+fn are_of_one_kind(pairs: &Checklist, counts: &[usize; 9], kinds: &KindTable<'_>) -> bool
+    requires counted { AreCounted (kind_of kinds.now.local.now kinds.now.remote.now) (multiset_of pairs.now) counts.now }
+    ensures { result ≡ true → AreOfOneKind (kind_of kinds.now.local.now kinds.now.remote.now) (multiset_of pairs.now) }
+{
+    counts[most_numerous(counts) as usize] == pairs.len()
+}
+
+/// Removes pairs of the kind with the most pairs until there are no more than the limit. If all are of one kind, as among hosts of one network,
+/// these are those of lowest priority.
+fn evict_by_kind(pairs: &mut Checklist, limit: usize, kinds: &KindTable<'_>)
+    requires placed { are_placed kinds.now.local.now kinds.now.remote.now (multiset_of pairs.old) ≡ true }
+    ensures evicted { EvictsOfMost (kind_of kinds.now.local.now kinds.now.remote.now) limit (multiset_of pairs.old) (multiset_of pairs.new) }
+    ensures below { (n : ℕ) → are_below n (multiset_of pairs.old) ≡ true → are_below n (multiset_of pairs.new) ≡ true }
+{
+    let counts = kind_counts(pairs, kinds);
+    if are_of_one_kind(pairs, &counts, kinds) {
+        pairs.evict(limit);
+        return;
+    }
+    evict_many(pairs, &counts, limit, kinds);
+    evict_each_by_kind(pairs, limit, kinds);
 }
 
 /// If there are more pairs than the limit, makes a table of the kinds and removes pairs of the kind with the most pairs down to the limit.

@@ -12,7 +12,7 @@ ghost use Rattle.is_rules.specs.Kinds.{kind_of, KINDS};
 ghost use Rattle.is_rules.specs.Evicting.{AreCounted};
 ghost use Rattle.is_rules.specs.Shares.{is_low_of_kind, AreSums, EvictsSomeOfMost, Takes};
 
-use crate::evicting::{kind_counts, most_numerous};
+use crate::evicting::most_numerous;
 use crate::kind_table::KindTable;
 use is_pair::checklist::{Checklist, PairRemoval, PairTest, Removal};
 use is_pair::pair::CandidatePair;
@@ -178,8 +178,14 @@ fn evict_together(pairs: &mut Checklist, counts: &[usize; 9], limit: usize, kind
 }
 
 /// Removes the pairs that go at once, if they are many: then no more than a few are left to go.
-pub(crate) fn evict_many(pairs: &mut Checklist, limit: usize, kinds: &KindTable<'_>)
+pub(crate) fn evict_many(
+    pairs: &mut Checklist,
+    counts: &[usize; 9],
+    limit: usize,
+    kinds: &KindTable<'_>,
+)
     requires placed { are_placed kinds.now.local.now kinds.now.remote.now (multiset_of pairs.old) ≡ true }
+    requires counted { AreCounted (kind_of kinds.now.local.now kinds.now.remote.now) (multiset_of pairs.old) counts.now }
     ensures evicted { EvictsSomeOfMost (kind_of kinds.now.local.now kinds.now.remote.now) limit (multiset_of pairs.old) (multiset_of pairs.new) }
     ensures placed { are_placed kinds.now.local.now kinds.now.remote.now (multiset_of pairs.new) ≡ true }
     ensures below { (n : ℕ) → are_below n (multiset_of pairs.old) ≡ true → are_below n (multiset_of pairs.new) ≡ true }
@@ -187,6 +193,5 @@ pub(crate) fn evict_many(pairs: &mut Checklist, limit: usize, kinds: &KindTable<
     if pairs.len().saturating_sub(limit) < FEW {
         return;
     }
-    let counts = kind_counts(pairs, kinds);
-    evict_together(pairs, &counts, limit, kinds);
+    evict_together(pairs, counts, limit, kinds);
 }

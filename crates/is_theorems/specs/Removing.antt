@@ -40,7 +40,7 @@ most_pairs s ranked = if s.modern then KINDS * ranked else ranked
 
 module _ {H P : Type 0} where
   -- Forming these combinations may remove the pair: it is replaced, or there may be more pairs than the limit, and more than that rank
-  -- with the pair; with kinds in turn, more than a sixteenth of it.
+  -- with the pair; with kinds in turn, more than a ninth of it.
   abbrev pub MayBeRemoved : AgentRecord H P → List Combination → PairRecord → Type 0
   MayBeRemoved a all p =
       (list_any (is_replaced_by (sides_of a) p) all ≡ true)

@@ -1,20 +1,20 @@
 -- The pair of least priority, found at the front of the order.
-use Rattle.is_pair.proofs.Common.{[], ◌<◌, ◌==◌, ◌∙◌, ◌∷◌, ◌≡◌, ◌≤◌, ap, are_ordered, arith, Bool, count_by-le-length, eq-eqb, false, find}
+use Rattle.is_pair.proofs.Common.{[], ◌<◌, ◌==◌, ◌∙◌, ◌∷◌, ◌≡◌, ◌≤◌, ap, arith, Bool, count_by-le-length, eq-eqb, false, find}
 use Rattle.is_pair.proofs.Common.{Has, has_passing, if◌then◌else◌, inl, inr, is_numbered, is_rank, IsLeast, IsLeastPassing, IsLowest}
 use Rattle.is_pair.proofs.Common.{IsRanking, length, length-filter, List, list_all, nat_le, None, not, pair_numbered, PairRecord, Rank}
 use Rattle.is_pair.proofs.Common.{refl, rises, slice_get, Some, subst, suc, sym, true, unwrap_or, without, ℕ}
 use Rattle.is_pair.proofs.PairEntries.ChangedEntry.{both, none-passes, one-passes}
 use Rattle.is_pair.proofs.PriorityOrder.GreatestPair.{all-has, filter-none, found-has, has-any, has-rank, rank-priority}
-use Rattle.is_pair.proofs.PriorityOrder.OrderedPairs.{le-from}
+use Rattle.is_pair.proofs.PriorityOrder.OrderedPairs.{are_rising, le-from}
 
 abbrev pub IsFirst : List Rank → Rank → Type 0
 IsFirst rs r = Has rs r × ((s : Rank) → Has rs s → r.priority ≤ s.priority)
 
-first-least : (rs : List Rank) (r : Rank) → are_ordered rs ≡ true → slice_get rs 0 ≡ Some r → IsFirst rs r
+first-least : (rs : List Rank) (r : Rank) → are_rising rs ≡ true → slice_get rs 0 ≡ Some r → IsFirst rs r
 first-least [] r ordered at = absurd (cc)
 first-least (x ∷ rs) r ordered at =
     let is : x ≡ r = cc in
-    let b = both (list_all (λ (q : Rank). nat_le x.priority q.priority) rs) (are_ordered rs) ordered in
+    let b = both (list_all (λ (q : Rank). nat_le x.priority q.priority) rs) (are_rising rs) ordered in
     (inl is, above is b.0)
   where
     above : x ≡ r → list_all (λ (q : Rank). nat_le x.priority q.priority) rs ≡ true → (s : Rank) → Has (x ∷ rs) s → r.priority ≤ s.priority
@@ -43,7 +43,7 @@ module _ (ps : List PairRecord) (rs : List Rank) (rising : rises ps ≡ true) (r
             omega (arith, low, s.3, priority),
       )
 
-  pub least-found : (r : Rank) → are_ordered rs ≡ true → slice_get rs 0 ≡ Some r → IsLowest ps (pair_numbered r.number ps)
+  pub least-found : (r : Rank) → are_rising rs ≡ true → slice_get rs 0 ≡ Some r → IsLowest ps (pair_numbered r.number ps)
   least-found r ordered at =
       let first = first-least rs r ordered at in
       elim (pair_numbered r.number ps) as (λ o. pair_numbered r.number ps ≡ o → IsLowest ps o) [
@@ -77,10 +77,10 @@ none-first t (r ∷ rs) s none has is =
     by (inl e) fails following = let here : t r ≡ true = ap t e ∙ is in absurd (cc)
     by (inr rest) fails following = following rest
 
-first-found : (t : Rank → Bool) (rs : List Rank) (r : Rank) → are_ordered rs ≡ true → find t rs ≡ Some r → IsFirstPassing t rs r
+first-found : (t : Rank → Bool) (rs : List Rank) (r : Rank) → are_rising rs ≡ true → find t rs ≡ Some r → IsFirstPassing t rs r
 first-found t [] r ordered found = absurd (cc)
 first-found t (x ∷ rs) r ordered found =
-    let b = both (list_all (λ (q : Rank). nat_le x.priority q.priority) rs) (are_ordered rs) ordered in
+    let b = both (list_all (λ (q : Rank). nat_le x.priority q.priority) rs) (are_rising rs) ordered in
     elim (t x) as (λ c. t x ≡ c → (if c then Some x else find t rs) ≡ Some r → IsFirstPassing t (x ∷ rs) r) [
       | true ↦ λ passes h. let same : x ≡ r = ap (λ o. unwrap_or o x) h in (inl same, ap t (sym same) ∙ passes, above same b.0)
       | false ↦ λ fails h. let rest = first-found t rs r b.1 h in (inr rest.0, rest.1, beyond fails rest)
@@ -106,7 +106,7 @@ module _ (ps : List PairRecord) (rs : List Rank) (rising : rises ps ≡ true) (r
             omega (arith, low, s.3, priority),
       )
 
-  pub least-passing-found : (r : Rank) → are_ordered rs ≡ true → find (has_passing test ps) rs ≡ Some r → IsLeastPassing test ps (pair_numbered r.number ps)
+  pub least-passing-found : (r : Rank) → are_rising rs ≡ true → find (has_passing test ps) rs ≡ Some r → IsLeastPassing test ps (pair_numbered r.number ps)
   least-passing-found r ordered is =
       let first = first-found (has_passing test ps) rs r ordered is in
       elim (pair_numbered r.number ps) as (λ o. pair_numbered r.number ps ≡ o → IsLeastPassing test ps o) [

@@ -1,12 +1,12 @@
 -- The pairs in the order by priority: all pairs of the list, each once.
-use Rattle.is_pair.proofs.Common.{[], ◌==◌, ◌∙◌, ◌∷◌, ◌≡◌, ◌≤◌, ap, are_ordered, are_single, AreRanked, arith, Bool, cons_option, eq-eqb}
+use Rattle.is_pair.proofs.Common.{[], ◌==◌, ◌∙◌, ◌∷◌, ◌≡◌, ◌≤◌, ap, are_single, AreRanked, arith, Bool, cons_option, eq-eqb}
 use Rattle.is_pair.proofs.Common.{eqb-true, false, filter, Has, if◌then◌else◌, inl, inr, is_numbered, is_rank, IsRanking, length, List}
 use Rattle.is_pair.proofs.Common.{list_all, nat_le, nat_tests, None, not, Option, pair_numbered, PairRecord, pairs_of, passes_at}
 use Rattle.is_pair.proofs.Common.{priorities_rise, Rank, refl, rises, slice_get, Some, subst, suc, sym, true, without, zero, ℕ}
 use Rattle.is_pair.proofs.ListParts.{filter-swap, find-other, had-filtered, has-filter, left-other, named-once, none-numbered, one-goes}
 use Rattle.is_pair.proofs.PairEntries.ChangedEntry.{both, filter-whole, found-number, rises-filter}
 use Rattle.is_pair.proofs.PriorityOrder.GreatestPair.{all-has, any-has, filter-none, found-has, has-any}
-use Rattle.is_pair.proofs.PriorityOrder.OrderedPairs.{le-from}
+use Rattle.is_pair.proofs.PriorityOrder.OrderedPairs.{are_rising, le-from}
 
 -- each pair that passes has an entry with its number and its priority
 abbrev pub HaveRanks : (PairRecord → Bool) → List Rank → List PairRecord → Type 0
@@ -152,11 +152,11 @@ all-if t (p ∷ ps) each = rw (each p (inl refl)) (all-if t ps (λ q has. each q
 nat_le-if : (a b : ℕ) → a ≤ b → nat_le a b ≡ true
 nat_le-if a b h = grind (arith, nat_tests, h)
 
-ranks-rise : (ps : List PairRecord) (rs : List Rank) → are_ordered rs ≡ true → Agree rs ps → priorities_rise (pairs_of rs ps) ≡ true
+ranks-rise : (ps : List PairRecord) (rs : List Rank) → are_rising rs ≡ true → Agree rs ps → priorities_rise (pairs_of rs ps) ≡ true
 ranks-rise ps [] ordered agree = refl
 ranks-rise ps (r ∷ rs) ordered agree = by (ranks-rise ps rs ord.1 (λ s has. agree s (inr has))) (pair_numbered r.number ps) refl where
-  ord : (list_all (λ (q : Rank). nat_le r.priority q.priority) rs ≡ true) × (are_ordered rs ≡ true)
-  ord = both (list_all (λ (q : Rank). nat_le r.priority q.priority) rs) (are_ordered rs) ordered
+  ord : (list_all (λ (q : Rank). nat_le r.priority q.priority) rs ≡ true) × (are_rising rs ≡ true)
+  ord = both (list_all (λ (q : Rank). nat_le r.priority q.priority) rs) (are_rising rs) ordered
 
   by : priorities_rise (pairs_of rs ps) ≡ true → (o : Option PairRecord) → pair_numbered r.number ps ≡ o → priorities_rise (cons_option o (pairs_of rs ps)) ≡ true
   by again None none = again
@@ -171,7 +171,7 @@ all-pass : (ps : List PairRecord) → list_all (λ (p : PairRecord). true) ps �
 all-pass [] = refl
 all-pass (p ∷ ps) = all-pass ps
 
-pub are-ranked : (ps : List PairRecord) (rs : List Rank) → rises ps ≡ true → are_ordered rs ≡ true → are_single rs ≡ true → IsRanking rs ps
+pub are-ranked : (ps : List PairRecord) (rs : List Rank) → rises ps ≡ true → are_rising rs ≡ true → are_single rs ≡ true → IsRanking rs ps
     → AreRanked ps (pairs_of rs ps)
 are-ranked ps rs rising ordered single ranked =
     let every = λ (p : PairRecord). true in

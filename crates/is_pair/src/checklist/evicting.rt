@@ -14,7 +14,7 @@ impl Checklist {
     pub fn least(&self) -> Option<&CandidatePair>
         ensures { IsLowest (multiset_of self.now) (option_copied result) }
     {
-        match self.ranks.first() {
+        match ranks::at(&self.ranks, 0) {
             Some(rank) => listed::get(&self.pairs, rank.number),
             None => None,
         }

@@ -9,7 +9,7 @@ use super::Checklist;
 /// A list with less capacity is left as it is.
 const SMALL: usize = 2;
 
-/// Gives back the capacity that a list does not use, if that is more than half of it. It may be less than what was reserved. If the allocation
+/// Gives back the capacity that a list does not use, if it uses less than half. Then there may be less than what was reserved. If the allocation
 /// fails, the capacity stays.
 fn give_back<T>(list: &mut Vec<T>)
     ensures items { list.new.items ≡ list.old.items }
@@ -17,7 +17,7 @@ fn give_back<T>(list: &mut Vec<T>)
     ensures capacity { vec_capacity list.new ≤ vec_capacity list.old }
 {
     let capacity = list.capacity();
-    if capacity > SMALL && capacity / 2 > list.len() {
+    if capacity > SMALL && list.len() < capacity - capacity / 2 {
         list.shrink_to_fit();
     }
 }

@@ -1,6 +1,7 @@
-//! The pairs of a checklist in the order of their priorities.
+//! The pairs of a checklist in the order of their priorities. The greatest comes first, since most pairs are formed in this order: a new entry
+//! then moves few others.
 
-ghost use Rattle.std.specs.Prelude.{◌≡◌, ◌<◌, ◌≤◌, ◌==◌, ◌+◌, not, true, false, Bool, ◌||◌, filter, find, map, slice_get, vec_len, vec_capacity};
+ghost use Rattle.std.specs.Prelude.{◌≡◌, ◌<◌, ◌≤◌, ◌==◌, ◌+◌, not, true, false, Bool, ◌||◌, filter, find, map, reverse, slice_get, vec_len, vec_capacity};
 ghost use Rattle.std.specs.List.{list_any};
 ghost use Rattle.is_pair.specs.Multiset.{has_number, rises};
 ghost use Rattle.is_pair.specs.Entries.{are_ordered, are_single, has_passing, rank_now};
@@ -11,7 +12,7 @@ use super::listed;
 use super::pair_test::PairTest;
 use crate::pair::CandidatePair;
 
-/// Inserts one more entry, after those of no greater priority.
+/// Inserts one more entry, after those of greater priority.
 pub(crate) fn put(ranks: &mut Vec<Rank>, rank: Rank)
     requires room { vec_len ranks.old < vec_capacity ranks.old }
     requires ordered { are_ordered ranks.old.items ≡ true }
@@ -23,17 +24,20 @@ pub(crate) fn put(ranks: &mut Vec<Rank>, rank: Rank)
     ensures len { vec_len ranks.new ≡ vec_len ranks.old + 1 }
     ensures capacity { vec_capacity ranks.new ≡ vec_capacity ranks.old }
 {
-    let place = ranks.partition_point(|other| other.priority <= rank.priority);
+    let place = ranks.partition_point(|other| other.priority > rank.priority);
     if ranks.insert(place, rank).is_err() {
         unreachable!()
     }
 }
 
-/// Returns the entry at a place.
+/// Returns the entry at a place in the order by priority, the least first.
 pub(crate) fn at(ranks: &[Rank], place: usize) -> Option<Rank>
-    ensures { result ≡ slice_get ranks.now place }
+    ensures { result ≡ slice_get (reverse ranks.now) place }
 {
-    ranks.get(place).copied()
+    if place >= ranks.len() {
+        return None;
+    }
+    Some(ranks[ranks.len() - 1 - place])
 }
 
 /// Removes the entries of pairs that no longer exist.
@@ -55,17 +59,18 @@ pub(crate) fn drop_number(ranks: &mut Vec<Rank>, number: u64)
     ranks.retain(|rank| rank.number != number);
 }
 
-/// Returns the first entry whose pair passes the test.
+/// Returns an entry of least priority among those whose pairs pass the test.
 pub(crate) fn first_passing<T: PairTest>(
     ranks: &[Rank],
     pairs: &[CandidatePair],
     test: &T,
 ) -> Option<Rank>
     requires rising { rises pairs.now ≡ true }
-    ensures { result ≡ find (has_passing (T.passes test.now) pairs.now) ranks.now }
+    ensures { result ≡ find (has_passing (T.passes test.now) pairs.now) (reverse ranks.now) }
 {
     ranks
         .iter()
+        .rev()
         .find(|rank| listed::passes(pairs, rank.number, test))
         .copied()
 }
@@ -114,4 +119,5 @@ pub(crate) fn rebuild_order(ranks: &mut Vec<Rank>, pairs: &[CandidatePair])
 {
     follow_pairs(ranks, pairs);
     ranks.sort_unstable_by_key(|rank| rank.priority);
+    ranks.reverse();
 }

@@ -1,6 +1,6 @@
 //! The pairs that were removed last, and why: for callers that ask why a session failed. Nothing is decided by them.
 
-ghost use Rattle.std.specs.Prelude.{◌≡◌, ◌≤◌, ◌+◌, ◌==◌, ◌++◌, ◌∷◌, ℕ, not, true, List, [], filter, length, slice_get, OnOk};
+ghost use Rattle.std.specs.Prelude.{◌≡◌, ◌≤◌, ◌+◌, ◌==◌, ◌++◌, ◌∷◌, ℕ, not, true, List, [], filter, length, reverse, slice_get, OnOk};
 ghost use Rattle.std.specs.Option.{option_copied, option_to_list};
 ghost use Rattle.std.specs.VecDeque.{deque_len, deque_capacity};
 ghost use Rattle.is_pair.specs.Multiset.{is_numbered, pair_numbered, rises};
@@ -9,7 +9,7 @@ ghost use Rattle.is_pair.specs.Checklists.{multiset_of, HasRoom, HasCheckRoom, r
 ghost use Rattle.is_pair.specs.Removed.{REMOVED_LIMIT, kept_as, last_removed, removed_passing, RemovedFit};
 
 use super::entries::Rank;
-use super::{Checklist, PairTest, listed};
+use super::{Checklist, PairTest, listed, ranks};
 use crate::pair::{CandidatePair, CheckState};
 use std::alloc::AllocError;
 use std::collections::VecDeque;
@@ -186,7 +186,7 @@ fn keep_if<T: PairRemoval>(
     }
 }
 
-/// Lists the pairs that pass the test, in the order of the entries.
+/// Lists the pairs that pass the test, in the order by priority, the least first.
 fn keep_ranked<T: PairRemoval>(
     removed: &mut VecDeque<RemovedPair>,
     pairs: &[CandidatePair],
@@ -195,14 +195,16 @@ fn keep_ranked<T: PairRemoval>(
 )
     requires rising { rises pairs.now ≡ true }
     requires few { deque_len removed.old ≤ REMOVED_LIMIT }
-    requires room { RemovedFit (deque_len removed.old) (deque_capacity removed.old) (length (filter (T.passes test.now) (pairs_of ranks.now pairs.now))) }
-    ensures removed { removed.new.items ≡ removed_passing (T.passes test.now) (T.reason test.now) (pairs_of ranks.now pairs.now) removed.old.items }
+    requires room { RemovedFit (deque_len removed.old) (deque_capacity removed.old) (length (filter (T.passes test.now) (pairs_of (reverse ranks.now) pairs.now))) }
+    ensures removed { removed.new.items ≡ removed_passing (T.passes test.now) (T.reason test.now) (pairs_of (reverse ranks.now) pairs.now) removed.old.items }
     ensures few { deque_len removed.new ≤ REMOVED_LIMIT }
-    ensures len { deque_len removed.new ≤ deque_len removed.old + length (filter (T.passes test.now) (pairs_of ranks.now pairs.now)) }
+    ensures len { deque_len removed.new ≤ deque_len removed.old + length (filter (T.passes test.now) (pairs_of (reverse ranks.now) pairs.now)) }
     ensures capacity { deque_capacity removed.new ≡ deque_capacity removed.old }
 {
-    for rank in ranks {
-        keep_if(removed, pairs, rank.number, test);
+    for place in 0..ranks.len() {
+        if let Some(rank) = ranks::at(ranks, place) {
+            keep_if(removed, pairs, rank.number, test);
+        }
     }
 }
 
@@ -217,7 +219,7 @@ pub(super) fn keep_passing<T: PairRemoval>(
     requires rising { rises pairs.now ≡ true }
     requires few { deque_len removed.old ≤ REMOVED_LIMIT }
     requires room { RemovedFit (deque_len removed.old) (deque_capacity removed.old) (length pairs.now) }
-    requires ranked { length (filter (T.passes test.now) (pairs_of ranks.now pairs.now)) ≤ length pairs.now }
+    requires ranked { length (filter (T.passes test.now) (pairs_of (reverse ranks.now) pairs.now)) ≤ length pairs.now }
     ensures removed { removed.new.items
         ≡ removed_passing (T.passes test.now) (T.reason test.now) (listed_by by_priority ranks.now pairs.now) removed.old.items }
     ensures few { deque_len removed.new ≤ REMOVED_LIMIT }

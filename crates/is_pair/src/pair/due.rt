@@ -64,7 +64,7 @@ impl CandidatePair {
     /// due now. Otherwise the check is due one RTO after the last one. The RTO depends on the number of pending
     /// transactions, or, if the peer has been silent for longer than half of `max_rto`, on the number of checks without a
     /// response. With `Modern`, checks without a response are repeated early at first: after 100 ms, later after at
-    /// most 350 ms. The due time is at most `max_rto` from now.
+    /// most 350 ms, and those of a nominated pair sooner. The due time is at most `max_rto` from now.
     pub fn next_binding_attempt(&mut self, now: Instant, timing_config: &StunTiming) -> Instant
         requires { 0 < timing_config.now.max_retransmits }
         ensures time { result.0 ≡ due_time_of now.0 timing_config.now self.old }
@@ -113,7 +113,8 @@ impl CandidatePair {
 
     /// Whether the path may still work. It fails if no check from the peer arrived for 15 s, `max_retransmits` checks
     /// had no response, and the delay after the last of them has passed. With `Modern` the time of a whole series of checks has to pass
-    /// besides: since the first check if there was no response at all, otherwise since the first one without.
+    /// besides: since the first check if there was no response at all, unless that check followed a request; otherwise since the first one
+    /// without.
     pub fn is_still_possible(&self, now: Instant, timing_config: &StunTiming) -> bool
         requires { 0 < timing_config.now.max_retransmits }
         ensures { result ≡ is_possible now.0 timing_config.now self.now }

@@ -1,11 +1,12 @@
+use Rattle.std.proofs.lemmas.List.Sorted.{IsPermutation-reverse}
 use Rattle.is_pair.proofs.Common.{◌+◌, ◌∙◌, ◌≡◌, ◌≤◌, ap, are_below, are_fewer, are_ordered, are_single, arith, Bool, deque_capacity}
 use Rattle.is_pair.proofs.Common.{deque_len, filter, has_number, ids_rise, keep_fewer, Kept, length, List, listed_by, nat_lt, not}
-use Rattle.is_pair.proofs.Common.{PairRecord, pairs_of, Rank, rises, subst, sym, vec_len, ℕ}
+use Rattle.is_pair.proofs.Common.{IsRanking, PairRecord, pairs_of, Rank, reverse, rises, subst, sym, true, vec_len, ℕ}
 use Rattle.is_pair.proofs.ChecklistIndex.SortedById.{rising-filter}
 use Rattle.is_pair.proofs.PairEntries.ChangedEntry.{all-filter, rises-filter}
 use Rattle.is_pair.proofs.PairEntries.AddedAndRemovedPairs.{index-left, ranking-left}
-use Rattle.is_pair.proofs.PriorityOrder.OrderedPairs.{ordered-filter}
-use Rattle.is_pair.proofs.PriorityOrder.SingleEntries.{single-filter}
+use Rattle.is_pair.proofs.PriorityOrder.OrderedPairs.{ordered-filter, ranking-reversed}
+use Rattle.is_pair.proofs.PriorityOrder.SingleEntries.{single-filter, single-permuted}
 use Rattle.is_pair.proofs.PriorityOrder.RankedPairs.{count-ranked, have-ranks}
 use Rattle.is_pair.proofs.RemovedPairs.{few-pass, fit-after, fit-more-after, listed-counts, split-lengths}
 use Rattle.is_pair.proofs.checklist.Checklist.remove_passing.Goals as goal
@@ -59,9 +60,16 @@ invariant_of-self-clause-single g c =
     ap are_single (c.keep_known-2.ensures.items ∙ ap (λ (ps : List PairRecord). filter (λ (r : Rank). has_number r.number ps) c.args.self.now.ranks.items) c.deref-4.ensures.value)
     ∙ single-filter (λ (r : Rank). has_number r.number c.drop_passing.new.pairs.items) c.args.self.now.ranks.items c.args.self.now.single
 
+-- each of the pairs that pass comes once
+all-listed : (t : PairRecord → Bool) (rs : List Rank) (ps : List PairRecord) → rises ps ≡ true → are_single rs ≡ true → IsRanking rs ps
+    → length (filter t (pairs_of (reverse rs) ps)) ≡ length (filter t ps)
+all-listed t rs ps rising single ranked =
+    count-ranked t (reverse rs) ps rising (single-permuted rs (reverse rs) (IsPermutation-reverse rs) single)
+    (have-ranks ps (reverse rs) rising (ranking-reversed rs ps ranked) t)
+
 -- as many are listed as go
 listed-few : (by_priority : Bool) (t : PairRecord → Bool) (rs given : List Rank) (ps seen left : List PairRecord) (old new before after : ℕ) → given ≡ rs → seen ≡ ps
-    → length (filter t (pairs_of rs ps)) ≡ length (filter t ps) → new ≤ old + length (filter t (listed_by by_priority given seen))
+    → length (filter t (pairs_of (reverse rs) ps)) ≡ length (filter t ps) → new ≤ old + length (filter t (listed_by by_priority given seen))
     → left ≡ filter (λ (p : PairRecord). not (t p)) ps → before ≡ length ps → after ≡ length left
     → (new ≤ old + length (filter t ps)) × (length (filter t ps) + after ≡ before)
 listed-few by_priority t rs given ps seen left old new before after one two counts few is first last =
@@ -74,19 +82,17 @@ pub keep_passing-requires-clause-ranked : goal.keep_passing-requires-clause-rank
 keep_passing-requires-clause-ranked g c =
     let list = c.args.self.now in
     let test = g.T.PairTest.passes c.args.test.now in
-    let counts = count-ranked test list.ranks.items list.pairs.items list.rising list.single
-    (have-ranks list.pairs.items list.ranks.items list.rising list.ranked test) in
+    let counts = all-listed test list.ranks.items list.pairs.items list.rising list.single list.ranked in
     let few = few-pass test list.pairs.items in
-    subst (λ (qs : List PairRecord). length (filter test (pairs_of c.deref-2.result.now qs)) ≤ length qs) (sym c.deref.ensures.value)
-    (subst (λ (xs : List Rank). length (filter test (pairs_of xs list.pairs.items)) ≤ length list.pairs.items) (sym c.deref-2.ensures.value)
+    subst (λ (qs : List PairRecord). length (filter test (pairs_of (reverse c.deref-2.result.now) qs)) ≤ length qs) (sym c.deref.ensures.value)
+    (subst (λ (xs : List Rank). length (filter test (pairs_of (reverse xs) list.pairs.items)) ≤ length list.pairs.items) (sym c.deref-2.ensures.value)
     (omega (arith, counts, few)))
 
 pub invariant_of-self-clause-fit : goal.invariant_of-self-clause-fit
 invariant_of-self-clause-fit g c =
     let list = c.args.self.now in
     let test = g.T.PairTest.passes c.args.test.now in
-    let counts = count-ranked test list.ranks.items list.pairs.items list.rising list.single
-    (have-ranks list.pairs.items list.ranks.items list.rising list.ranked test) in
+    let counts = all-listed test list.ranks.items list.pairs.items list.rising list.single list.ranked in
     let few = listed-few c.args.by_priority test list.ranks.items c.deref-2.result.now list.pairs.items c.deref.result.now c.drop_passing.new.pairs.items
     (deque_len list.removed) (deque_len c.keep_passing.new.removed) (vec_len list.pairs) (vec_len c.drop_passing.new.pairs)
     c.deref-2.ensures.value c.deref.ensures.value counts c.keep_passing.ensures.len c.drop_passing.ensures.left c.len_is.ensures c.len_is-2.ensures in
@@ -98,8 +104,7 @@ pub returns-clause-room : goal.returns-clause-room
 returns-clause-room g c = λ n h.
     let list = c.args.self.now in
     let test = g.T.PairTest.passes c.args.test.now in
-    let counts = count-ranked test list.ranks.items list.pairs.items list.rising list.single
-    (have-ranks list.pairs.items list.ranks.items list.rising list.ranked test) in
+    let counts = all-listed test list.ranks.items list.pairs.items list.rising list.single list.ranked in
     let few = listed-few c.args.by_priority test list.ranks.items c.deref-2.result.now list.pairs.items c.deref.result.now c.drop_passing.new.pairs.items
     (deque_len list.removed) (deque_len c.keep_passing.new.removed) (vec_len list.pairs) (vec_len c.drop_passing.new.pairs)
     c.deref-2.ensures.value c.deref.ensures.value counts c.keep_passing.ensures.len c.drop_passing.ensures.left c.len_is.ensures c.len_is-2.ensures in

@@ -1,6 +1,6 @@
 use Rattle.is_rules.proofs.Common.{◌≡◌, are_below, are_placed, AreCounted, EvictsOfMostInTurn, kind_of, length, List, multiset_of}
 use Rattle.is_rules.proofs.Common.{PairRecord, true, ℕ}
-use Rattle.is_rules.proofs.evicting.evict_by_kind.Given as goal
+use Rattle.is_rules.proofs.evicting.evict_each_by_kind.Given as goal
 
 -- however it goes on from here, it goes so from the start
 abbrev pub invariant-loop-counts : goal.invariant-loop-counts
