@@ -17,18 +17,15 @@ pub enum Protocol {
     Tls,
 }
 
+const PROTOCOLS: [(&str, Protocol); 4] =
+    [("udp", Protocol::Udp), ("tcp", Protocol::Tcp), ("ssltcp", Protocol::SslTcp), ("tls", Protocol::Tls)];
+
 impl TryFrom<&str> for Protocol {
     type Error = ();
 
     /// Reads the name of a protocol, in upper or lower case.
     fn try_from(word: &str) -> Result<Protocol, ()> {
-        match word.to_ascii_lowercase().as_str() {
-            "udp" => Ok(Protocol::Udp),
-            "tcp" => Ok(Protocol::Tcp),
-            "ssltcp" => Ok(Protocol::SslTcp),
-            "tls" => Ok(Protocol::Tls),
-            _ => Err(()),
-        }
+        PROTOCOLS.iter().find(|known| known.0.eq_ignore_ascii_case(word)).map(|known| known.1).ok_or(())
     }
 }
 
