@@ -106,11 +106,13 @@ impl IceAgent {
     }
 
     /// The agent, for a call that changes it: no lock is taken.
+    #[inline]
     fn held(&mut self) -> &mut ffi::Agent {
         self.held.get_mut().unwrap_or_else(PoisonError::into_inner)
     }
 
     /// Whether a call returned `OK`, and not `NOTHING`; or its error.
+    #[inline]
     pub(crate) fn tell(&mut self, call: impl FnOnce(&mut ffi::Agent) -> i32) -> Result<bool, CallError> {
         found(call(self.held()))
     }
@@ -354,7 +356,7 @@ fn listed(candidate: impl Fn(usize) -> Result<Candidate, i32>) -> Result<Vec<Can
     }
 }
 
-// ---- sessions
+// ---- sessions. Programs get the calls of their loop inline: so these copy and convert only what a program uses
 
 impl IceAgent {
     /// Makes an ICE restart with new local credentials. Local candidates stay if `keep_local_candidates` is true. Then set the
@@ -447,8 +449,8 @@ impl IceAgent {
         self.take(now, packet.proto, packet.source, packet.destination, packet.message.bytes())
     }
 
-    /// Passes a received packet to the agent. Programs get `try_handle_packet`, which calls this, inline: so they do not copy the message,
-    /// whose bytes are all that is used.
+    /// Passes a received packet to the agent, of whose message the bytes are all that is used.
+    #[inline]
     fn take(
         &mut self,
         now: Instant,
@@ -478,6 +480,7 @@ impl IceAgent {
     /// # Panics
     ///
     /// If out of memory, or if the system has no random bytes, among others: `try_handle_timeout` returns an error then.
+    #[inline]
     #[track_caller]
     pub fn handle_timeout(&mut self, now: Instant) {
         or_panic(self.try_handle_timeout(now));
@@ -488,6 +491,7 @@ impl IceAgent {
     /// # Errors
     ///
     /// [`CallError::OutOfMemory`], [`CallError::NoRandomBytes`], [`CallError::PairIdsExhausted`].
+    #[inline]
     pub fn try_handle_timeout(&mut self, now: Instant) -> Result<(), CallError> {
         let id = self.ids.next().ok_or(CallError::NoRandomBytes)?;
         self.forget_added();
@@ -501,6 +505,7 @@ impl IceAgent {
     }
 
     /// The next packet to send.
+    #[inline]
     pub fn poll_transmit(&mut self) -> Option<Transmit> {
         let mut packet = ffi::Packet::default();
         let contents = self.held().poll_transmit(&mut packet)?;
@@ -520,6 +525,7 @@ impl IceAgent {
     /// The time at which to call `handle_timeout` next. With the profile `Modern`, which an agent begins with, it is a query: ask it at any
     /// place and as often as you like, and wait until it, as `examples/udp.rs` does. None before the session, and until the remote
     /// credentials are set. With `Original` call it before packets are polled, and keep the earliest one since `handle_timeout`.
+    #[inline]
     pub fn poll_timeout(&mut self) -> Option<Instant> {
         let mut at = 0;
         let is_some = ffi::is_ice_poll_timeout(self.held(), &mut at) == ffi::OK;
@@ -527,6 +533,7 @@ impl IceAgent {
     }
 
     /// The next event. Those of silence, which the original does not have, are returned by [`poll_silence`](Self::poll_silence).
+    #[inline]
     pub fn poll_event(&mut self) -> Option<IceAgentEvent> {
         let mut event = ffi::Event::default();
         loop {
@@ -552,6 +559,7 @@ impl IceAgent {
     }
 
     /// Nothing refers any longer to the candidate that was added last.
+    #[inline]
     fn forget_added(&mut self) {
         if self.added.is_some() {
             self.added = None;
@@ -559,6 +567,7 @@ impl IceAgent {
     }
 
     /// The time on the agent's clock, which starts at one minute.
+    #[inline]
     fn time(&mut self, now: Instant) -> u64 {
         self.clock.start(now)
     }
@@ -569,6 +578,7 @@ impl IceAgent {
     }
 
     /// The time on the caller's clock, if that can represent it.
+    #[inline]
     pub(crate) fn instant(&self, at: u64) -> Option<Instant> {
         self.clock.instant(at)
     }

@@ -23,6 +23,7 @@ fn zero_of(first: Instant) -> Instant {
 
 impl Clock {
     /// The time of an instant. The first one starts the clock, at one minute.
+    #[inline]
     pub(crate) fn start(&mut self, now: Instant) -> u64 {
         let zero = *self.zero.get_or_insert_with(|| zero_of(now));
         nanoseconds(now.saturating_duration_since(zero))
@@ -34,6 +35,7 @@ impl Clock {
     }
 
     /// The instant of a time, if the caller's clock can represent it.
+    #[inline]
     pub(crate) fn instant(&self, at: u64) -> Option<Instant> {
         self.zero?.checked_add(Duration::from_nanos(at))
     }

@@ -91,6 +91,7 @@ impl CallError {
         (ffi::UNPARSED, CallError::Unparsed),
     ];
 
+    #[cold]
     pub(crate) fn of(code: i32) -> CallError {
         CallError::CODES.iter().find(|known| known.0 == code).map_or(CallError::Other(code), |known| known.1)
     }

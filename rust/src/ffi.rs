@@ -49,6 +49,7 @@ impl Agent {
     }
 
     /// The bytes of the next packet, whose rest is written to `packet`; `None` if there is none.
+    #[inline]
     pub(crate) fn poll_transmit(&mut self, packet: &mut Packet) -> Option<Vec<u8>> {
         const { assert!(ROOM >= 596, "no packet is longer") };
         let mut room = [const { MaybeUninit::<u8>::uninit() }; ROOM];

@@ -21,6 +21,7 @@ pub(crate) struct TransIds {
 
 impl TransIds {
     /// The next ID; `None` if the system has no random bytes.
+    #[inline]
     pub(crate) fn next(&mut self) -> Option<[u8; LENGTH]> {
         if self.left == 0 {
             self.draw()?;
@@ -34,6 +35,7 @@ impl TransIds {
         self.left += 1;
     }
 
+    #[cold]
     fn draw(&mut self) -> Option<()> {
         let bytes: [u8; LENGTH * DRAWN] = ffi::random()?;
         for (id, drawn) in self.drawn.iter_mut().zip(bytes.chunks_exact(LENGTH)) {

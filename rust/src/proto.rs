@@ -5,6 +5,7 @@ use crate::types::{Protocol, TcpType};
 use std::net::{IpAddr, Ipv4Addr, Ipv6Addr, SocketAddr, SocketAddrV6};
 
 /// The library's number of a protocol.
+#[inline]
 pub(crate) fn number_of(protocol: Protocol) -> u8 {
     match protocol {
         Protocol::Udp => ffi::UDP,
@@ -15,6 +16,7 @@ pub(crate) fn number_of(protocol: Protocol) -> u8 {
 }
 
 /// The protocol of a number of the library.
+#[inline]
 pub(crate) fn protocol_of(number: u8) -> Protocol {
     match number {
         ffi::UDP => Protocol::Udp,
@@ -45,6 +47,7 @@ pub(crate) fn tcptype_of(number: u8) -> Option<TcpType> {
 }
 
 /// Converts a socket address to the library's form.
+#[inline]
 pub(crate) fn address_of(socket: SocketAddr) -> ffi::Address {
     let mut address = ffi::Address { port: socket.port(), ..Default::default() };
     match socket {
@@ -63,6 +66,7 @@ pub(crate) fn address_of(socket: SocketAddr) -> ffi::Address {
 }
 
 /// Converts a socket address from the library's form.
+#[inline]
 pub(crate) fn socket_of(address: &ffi::Address) -> SocketAddr {
     if address.family == 4 {
         let [a, b, c, d, ..] = address.bytes;
