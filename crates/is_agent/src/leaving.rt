@@ -8,7 +8,9 @@ ghost use Rattle.is_agent.specs.Room.{HasCheckRoomAt, UsesEvents};
 ghost use Rattle.is_pair.specs.Multiset.{is_numbered, without};
 ghost use Rattle.is_rules.specs.Leaving.{gives_way, may_replace, path_left};
 
-use crate::agent::Agent;
+use crate::agent::{Agent, sides};
+use is_rules::forming::pair_of;
+use is_rules::sides::Sides;
 use is_candidate::LocalPreference;
 use is_pair::checklist::{Expired, Removal};
 use is_pair::pair::{CandidatePair, Span};
@@ -78,7 +80,19 @@ impl<H: Sha1HmacProvider + Drop, P: LocalPreference> Agent<H, P> {
         ensures checks { HasCheckRoomAt now.0 self.old → HasCheckRoomAt now.0 self.new }
     {
         if let Some(number) = self.left_number(now) {
+            let at = match self.pairs.get(number) {
+                Some(pair) => Some((pair.local_idx(), pair.remote_idx())),
+                None => None,
+            };
             self.pairs.remove(number, Removal::ConsentLost);
+            if let Some(at) = at {
+                if self.next_number < u64::MAX && self.pairs.reserve(1).is_ok() {
+                    let alloc = *self.local.allocator();
+                    let pair = pair_of(alloc, sides!(self), at, self.next_number);
+                    self.pairs.add(pair);
+                    self.next_number += 1;
+                }
+            }
             self.pairs.change_all(&Hastens {
                 controlling: self.controlling,
                 now,
