@@ -516,10 +516,11 @@ IS_ICE_QUIET_CALL int32_t is_ice_set_max_pairs(is_ice_agent *agent, size_t limit
 IS_ICE_QUIET_CALL int32_t is_ice_set_max_discovered(is_ice_agent *agent, size_t limit);
 
 /* is_ice_set_max_candidates - limits how many candidates of each side there are when the program adds one, so that the
- * other agent's signaling forms no more pairs; a text is read all the same. If is_ice_local_candidate returns as many, is_ice_add_local
- * fails with IS_ICE_TOO_MANY_CANDIDATES, and so does is_ice_add_remote for is_ice_remote_candidate. So candidates that
- * packets brought count; they come without regard to this limit (is_ice_set_max_discovered is theirs). An invalidated
- * candidate does not count. A lower limit removes no candidate. IS_ICE_NO_LIMIT: as many as are added. IS_ICE_OK. */
+ * other agent's signaling forms no more pairs; a text is read all the same. If is_ice_local_candidate returns as many,
+ * is_ice_add_local fails with IS_ICE_TOO_MANY_CANDIDATES, and so does is_ice_add_remote for is_ice_remote_candidate. So
+ * candidates that packets brought count; they come without regard to this limit (is_ice_set_max_discovered is theirs). An
+ * invalidated candidate does not count. A lower limit removes no candidate. IS_ICE_NO_LIMIT: as many as are added.
+ * IS_ICE_OK. */
 IS_ICE_QUIET_CALL int32_t is_ice_set_max_candidates(is_ice_agent *agent, size_t limit);
 
 /* is_ice_set_timing_advance - sets the pacing interval Ta (RFC 8445, section 14.2): the least time from the last

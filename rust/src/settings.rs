@@ -70,8 +70,8 @@ impl IceAgent {
     ///
     /// If [`IceAgent::local_candidates`] has as many, [`IceAgent::add_local_candidate`] returns `None`; if
     /// [`IceAgent::remote_candidates`] has, [`IceAgent::add_remote_candidate`] leaves the candidate out. So the peer's signaling
-    /// forms no more pairs; a text is read all the same. The forms that return an error fail with [`CallError::TooManyCandidates`]. A lower limit removes no
-    /// candidate, and packets bring candidates without regard to it: [`IceAgent::set_max_discovered`] limits them.
+    /// forms no more pairs; a text is read all the same. The forms that return an error fail with [`CallError::TooManyCandidates`]. A
+    /// lower limit removes no candidate, and packets bring candidates without regard to it: [`IceAgent::set_max_discovered`] limits them.
     pub fn set_max_candidates(&mut self, max: Option<usize>) {
         self.set(|agent| ffi::is_ice_set_max_candidates(agent, max.unwrap_or(usize::MAX)));
     }
