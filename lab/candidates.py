@@ -54,6 +54,7 @@ class Candidates:
     next_number: int = 0
     selected: int | None = None
     last_nominated: int | None = None  # by the peer
+    left: tuple[int, int] | None = None  # the candidates of the path that was left last, until their pair is formed again
     nominations: int = 0  # how many paths were selected, which numbers the nominations
     nomination_due: bool = False  # a path was selected, and its pair was not checked since
     numbers_seen: bool = False  # a nomination with a number was served since the last restart
@@ -280,9 +281,27 @@ class Candidates:
 
     def path_left(self, now: int) -> Self:
         """Returns the agent without the selected pair, if that gives way. Then those that the agent may nominate are due next."""
-        new = self._without({p.number: Removal.CONSENT_LOST for p in self.pairs if self.gives_way(p, now)})
-        return self if len(new.pairs) == len(self.pairs) else replace(new, pairs=tuple(
+        silent = next((p for p in self.pairs if self.gives_way(p, now)), None)
+        if silent is None:
+            return self
+        new = self._without({silent.number: Removal.CONSENT_LOST})
+        return replace(new, left=(silent.local, silent.remote), pairs=tuple(
             p.moved_up(now + 1) if self.controlling and p.is_valid and not p.is_nominated else p for p in new.pairs))
+
+    def may_form_again(self, local: int, remote: int) -> bool:
+        """Whether the pair of these candidates may be formed again."""
+        if local >= len(self.local) or remote >= len(self.remote) or any((p.local, p.remote) == (local, remote) for p in self.pairs):
+            return False
+        own = self.local[local]
+        return not own.is_discarded and own.kind != "prflx" and remote in self._partners(own, self.remote)
+
+    def formed_again(self) -> Self:
+        """Returns the agent with the pair of the path that was left last, if that may be formed again."""
+        new = replace(self, left=None)
+        if self.left is None or not self.may_form_again(*self.left):
+            return new
+        pair = Pair(self.next_number, *self.left, self.priority_between(*self.left))
+        return replace(new, pairs=(*self.pairs, pair), next_number=self.next_number + 1)
 
     def without_expired(self, now: int) -> Self:
         """Returns the agent without the pairs that do not stay."""
@@ -358,8 +377,8 @@ class Candidates:
     def restart(self, creds: IceCreds, keeps: bool) -> Self:
         """Makes an ICE restart."""
         local = self.local if keeps else ()
-        return replace(self, creds=creds, peer=None, local=local, remote=(), pairs=(), numbers_seen=False, sources=(), removed=(),
-                       state=CHECKING)
+        return replace(self, creds=creds, peer=None, local=local, remote=(), pairs=(), left=None, numbers_seen=False, sources=(),
+                       removed=(), state=CHECKING)
 
     def recreate(self) -> Self:
         """Forms the pairs again."""

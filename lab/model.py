@@ -106,6 +106,8 @@ class Agent(Candidates):
                 return new, None, ()
             pair = Pair(new.next_number, local, remote, new.priority_between(local, remote))
             new = replace(new, pairs=(*new.pairs, pair), next_number=new.next_number + 1)
+        else:
+            new = new.formed_again()
         was_valid, taken = pair.is_valid, as_taken(q, new.numbers)
         if not new.controlling and taken.use_candidate:
             new = replace(new, last_nominated=pair.number, numbers_seen=new.numbers_seen or bool(taken.nomination))

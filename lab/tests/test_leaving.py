@@ -46,20 +46,13 @@ def outage(seconds: float) -> Callable[[Session, float], None]:
 
 
 def unplugged(seconds: float) -> Callable[[Session, float], None]:
-    """All packets from and to A's cable are lost for some time. 5 s later A forms its pairs again."""
+    """All packets from and to A's cable are lost for some time."""
     def happens(session: Session, at: float) -> None:
-        a = session.endpoints["a"]
-
         def turn(is_on: bool) -> None:
-            a.interfaces[0].is_on = is_on
-
-        def form() -> None:
-            a.agent.recreate_candidate_pairs()
-            a.turn()
+            session.endpoints["a"].interfaces[0].is_on = is_on
 
         session.clock.at(BEGINNING + nanoseconds(at * 1000), turn, False)
         session.clock.at(BEGINNING + nanoseconds((at + seconds) * 1000), turn, True)
-        session.clock.at(BEGINNING + nanoseconds((at + seconds + 5) * 1000), form)
 
     return happens
 
@@ -123,13 +116,15 @@ class Leaving(unittest.TestCase):
             for side, times in play(seed, (event, *MODERN), since=at).items():
                 self.assertLess(times[-1], 4.05, (seed, side))
 
-    def test_a_path_that_both_left_comes_back_once_pairs_are_formed_again(self) -> None:
+    def test_a_path_that_both_left_comes_back(self) -> None:
+        """Its pair is formed again with the peer's next request on the other path, and its checks go on at most 3 s after one another."""
         for seed in range(5):
             at = Random(seed).uniform(0, 3)
             got = play(seed, (*MODERN, *NOTHING_FAILS), unplugged(5))
             for side in "ab":
                 self.assertLess(got[side][0] - at, 4.05, (seed, side))
-                self.assertLess(got[side][-1] - at - 10, 0.5, (seed, side))
+                self.assertEqual(len(got[side]), 2, (seed, side))
+                self.assertLess(got[side][1] - at - 5, 3.5, (seed, side))
 
     def test_with_the_original_it_is_kept(self) -> None:
         for side, (after,) in play(1, ('a.profile="original"', 'b.profile="original"')).items():

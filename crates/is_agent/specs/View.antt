@@ -32,6 +32,7 @@ record_of a = record {
   next_number = a.next_number;
   selected_pair = a.selected_pair;
   last_nominated = a.last_nominated;
+  left = a.left;
   nominations = a.nominations;
   nomination_due = a.nomination_due;
   numbers_seen = a.numbers_seen;

@@ -96,6 +96,8 @@ pub struct Agent<H, P> {
     pub(crate) selected_pair: Option<u64>,
     /// The number of the pair that the peer nominated last.
     pub(crate) last_nominated: Option<u64>,
+    /// The indices of the candidates of the path that was left last, until their pair is formed again.
+    pub(crate) left: Option<(usize, usize)>,
     /// How many paths were selected, which numbers the nominations.
     pub(crate) nominations: u32,
     /// A path was selected, and no check was sent on its pair since.
@@ -216,6 +218,7 @@ impl<H: Sha1HmacProvider + Drop, P: LocalPreference> Agent<H, P> {
             next_number: 0,
             selected_pair: None,
             last_nominated: None,
+            left: None,
             nominations: 0,
             nomination_due: false,
             numbers_seen: false,

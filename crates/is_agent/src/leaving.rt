@@ -1,11 +1,12 @@
 //! A selected path that falls silent is left for another one that works, with `Modern`; the rules: `is_rules::leaving`.
 
-ghost use Rattle.std.specs.Prelude.{◌≡◌, ℕ, List, is_some};
+ghost use Rattle.std.specs.Prelude.{◌≡◌, ℕ, List, None, find, is_some, option_map};
 ghost use Rattle.std.specs.List.{list_any};
-ghost use Rattle.std.specs.Option.{option_map_or};
+ghost use Rattle.std.specs.Option.{option_map_or, option_or};
 ghost use Rattle.is_agent.specs.View.{record_of, emitted_of};
 ghost use Rattle.is_agent.specs.Room.{HasCheckRoomAt, UsesEvents};
-ghost use Rattle.is_pair.specs.Multiset.{is_numbered, without};
+ghost use Rattle.is_pair.specs.Multiset.{is_numbered, pair_numbered, without};
+ghost use Rattle.is_rules.specs.Again.{candidates_of};
 ghost use Rattle.is_rules.specs.Leaving.{gives_way, may_replace, path_left};
 
 use crate::agent::Agent;
@@ -59,6 +60,8 @@ impl<H: Sha1HmacProvider + Drop, P: LocalPreference> Agent<H, P> {
         ensures without { option_map_or (λ n. without (is_numbered n) (record_of self.now).pairs) result (record_of self.now).pairs
             ≡ without (gives_way now.0 (record_of self.now)) (record_of self.now).pairs }
         ensures left { is_some result ≡ list_any (gives_way now.0 (record_of self.now)) (record_of self.now).pairs }
+        ensures found { option_map_or (λ n. pair_numbered n (record_of self.now).pairs) result None
+            ≡ find (gives_way now.0 (record_of self.now)) (record_of self.now).pairs }
     {
         self.pairs.numbers_rise();
         let Some(pair) = pair_selected(self.selected_pair, &self.pairs) else {
@@ -70,7 +73,17 @@ impl<H: Sha1HmacProvider + Drop, P: LocalPreference> Agent<H, P> {
         Some(pair.id().0)
     }
 
-    /// Removes the selected pair, if it gives way. Then the pairs that the agent may nominate are due next.
+    /// The candidates of the pair with this number, or of the one that was left before.
+    fn left_after(&self, number: u64) -> Option<(usize, usize)>
+        ensures { result ≡ option_or (option_map candidates_of (pair_numbered number (record_of self.now).pairs)) self.now.left }
+    {
+        match self.pairs.get(number) {
+            Some(pair) => Some((pair.local_idx(), pair.remote_idx())),
+            None => self.left,
+        }
+    }
+
+    /// Removes the selected pair, if it gives way, and keeps its candidates. Then the pairs that the agent may nominate are due next.
     pub(crate) fn leave_path(&mut self, now: Instant)
         ensures left { record_of self.new ≡ path_left now.0 (record_of self.old) }
         ensures emitted { emitted_of self.new ≡ emitted_of self.old }
@@ -78,6 +91,7 @@ impl<H: Sha1HmacProvider + Drop, P: LocalPreference> Agent<H, P> {
         ensures checks { HasCheckRoomAt now.0 self.old → HasCheckRoomAt now.0 self.new }
     {
         if let Some(number) = self.left_number(now) {
+            self.left = self.left_after(number);
             self.pairs.remove(number, Removal::ConsentLost);
             self.pairs.change_all(&Hastens {
                 controlling: self.controlling,

@@ -65,6 +65,7 @@ impl<H: Sha1HmacProvider + Drop, P: LocalPreference> Agent<H, P> {
         self.local = local;
         self.remote.clear();
         self.pairs.clear();
+        self.left = None;
         self.numbers_seen = false;
         self.pairs.forget_all_removed();
         keep_early(&mut self.queue, self.timing.is_modern());

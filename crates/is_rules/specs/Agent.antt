@@ -49,6 +49,8 @@ pub record AgentRecord (H P : Type 0) : Type 0 where
   pub selected_pair : Option ℕ
   -- the number of the pair that the peer nominated last, as of the last request with USE-CANDIDATE that was served
   pub last_nominated : Option ℕ
+  -- the indices of the candidates of the path that was left last, until their pair is formed again
+  pub left : Option (ℕ × ℕ)
   -- how many paths were selected, which numbers the nominations; past 2^32 - 1 it stays
   pub nominations : ℕ
   -- a path was selected, and no check was sent on its pair since
@@ -117,6 +119,7 @@ module _ {H P : Type 0} where
     next_number = 0;
     selected_pair = None;
     last_nominated = None;
+    left = None;
     nominations = 0;
     nomination_due = false;
     numbers_seen = false;

@@ -1,7 +1,8 @@
 -- With the profile `Modern` a selected path that falls silent is left for another one that works, long before its consent ends.
-use Rattle.std.specs.Prelude.{◌≡◌, ℕ, ◌+◌, ◌-◌, ◌*◌, ◌&&◌, Bool, true, false, not, nat_le, nat_lt, List, map, Option, Some, None, MatchOption, if◌then◌else◌}
+use Rattle.std.specs.Prelude.{◌≡◌, ℕ, ◌+◌, ◌-◌, ◌*◌, ◌&&◌, Bool, true, false, not, nat_le, nat_lt, List, find, map, Option, Some, None, MatchOption}
+use Rattle.std.specs.Prelude.{option_map, if◌then◌else◌}
 use Rattle.std.specs.List.{list_any}
-use Rattle.std.specs.Option.{option_map_or}
+use Rattle.std.specs.Option.{option_map_or, option_or}
 use Rattle.is_proto.specs.Lists.{Has, NonePass}
 use Rattle.is_proto.specs.Times.{MILLISECOND}
 use Rattle.is_stun.specs.declared.timing.StunTiming.{StunTiming}
@@ -12,6 +13,7 @@ use Rattle.is_pair.specs.Due.{is_due, is_pair_expired, moved_up, GoesBefore}
 use Rattle.is_pair.specs.Multiset.{is_named_by, is_numbered, without}
 use Rattle.is_pair.specs.Pairs.{PairRecord, is_valid}
 use Rattle.is_pair.specs.Silence.{is_long_silent, outlives, silence_of, silence_until}
+use Rattle.is_rules.specs.Again.{candidates_of}
 use Rattle.is_rules.specs.Agent.{AgentRecord}
 use Rattle.is_rules.specs.Connecting.{is_connected}
 use Rattle.is_rules.specs.Due.{awaits_nomination}
@@ -81,6 +83,13 @@ module _ {H P : Type 0} where
   abbrev pub silent_gone : ℕ → AgentRecord H P → AgentRecord H P
   silent_gone now a = record a { pairs = without (gives_way now a) a.pairs }
 
-  -- If there was one, the pairs that the agent may nominate are due next.
+  -- the candidates of the pair that gives way, or of the one that was left before
+  abbrev pub left_after : ℕ → AgentRecord H P → Option (ℕ × ℕ)
+  left_after now a = option_or (option_map candidates_of (find (gives_way now a) a.pairs)) a.left
+
+  -- If there was one, its candidates are kept, and the pairs that the agent may nominate are due next.
   abbrev pub path_left : ℕ → AgentRecord H P → AgentRecord H P
-  path_left now a = record a { pairs = map (hastened (list_any (gives_way now a) a.pairs && a.controlling) now) (silent_gone now a).pairs }
+  path_left now a = record a {
+    pairs = map (hastened (list_any (gives_way now a) a.pairs && a.controlling) now) (silent_gone now a).pairs;
+    left = left_after now a;
+  }

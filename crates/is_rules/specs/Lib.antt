@@ -1,6 +1,7 @@
 pub mod Fitting
 pub mod Emitted
 pub mod Kept
+pub mod Again
 pub mod Agent
 pub mod Credentials
 pub mod Polls

@@ -48,6 +48,7 @@ module _ {H P : Type 0} where
     local = kept_local keep creds.ufrag a.local;
     remote = [];
     pairs = [];
+    left = None;
     numbers_seen = false;
     queue = early_kept (is_modern a.timing) a.queue;
     packets = [];

@@ -273,7 +273,7 @@ pub fn form_each(
 
 // ---- combinations
 
-fn is_alive(c: &Candidate) -> bool
+pub(crate) fn is_alive(c: &Candidate) -> bool
     ensures { result ≡ is_alive c.now }
 {
     !is_discarded(c)
@@ -281,7 +281,7 @@ fn is_alive(c: &Candidate) -> bool
 
 // ---- the combinations of one candidate
 
-fn is_partner(candidate: &Candidate, other: &Candidate) -> bool
+pub(crate) fn is_partner(candidate: &Candidate, other: &Candidate) -> bool
     ensures { result ≡ is_partner candidate.now other.now }
 {
     !is_discarded(other)

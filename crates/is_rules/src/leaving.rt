@@ -5,10 +5,15 @@ ghost use Rattle.std.specs.Prelude.{◌≡◌, ◌∷◌, List};
 ghost use Rattle.std.specs.Option.{option_copied};
 ghost use Rattle.is_pair.specs.Checklists.{multiset_of};
 ghost use Rattle.is_pair.specs.Pairs.{PairRecord};
+ghost use Rattle.is_rules.specs.Again.{may_form_between};
 ghost use Rattle.is_rules.specs.Leaving.{is_lossy, is_silent_enough, IsAskedNext};
 
+use crate::forming::{is_alive, is_partner};
+use crate::limit::is_mapped;
 use crate::nomination::is_eligible;
+use crate::pairs::has_pair_between;
 use crate::timeout::awaits_nomination;
+use is_candidate::Candidate;
 use is_pair::checklist::{Checklist, Expired, PairChange, PairTest, goes_before};
 use is_pair::pair::{CandidatePair, CheckState, Span};
 use is_pair::{is_long_silent, lost_checks, move_next, outlives};
@@ -144,4 +149,23 @@ impl PairChange for Hastens {
             move_next(pair, self.now);
         }
     }
+}
+
+/// Whether the pair of these candidates may be formed again: both are there and not discarded, the local one is not peer-reflexive, they may
+/// be paired, and they have no pair.
+pub fn may_form_again(
+    local: &[Candidate],
+    remote: &[Candidate],
+    pairs: &Checklist,
+    at: (usize, usize),
+) -> bool
+    ensures { result ≡ may_form_between local.now remote.now (multiset_of pairs.now) at }
+{
+    let (l, r) = at;
+    l < local.len()
+        && r < remote.len()
+        && is_alive(&local[l])
+        && !is_mapped(&local[l])
+        && is_partner(&local[l], &remote[r])
+        && !has_pair_between(pairs, l, r)
 }

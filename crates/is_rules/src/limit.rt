@@ -119,7 +119,7 @@ pub fn sender_place(
 // ---- local candidates
 
 /// A peer-reflexive candidate, as responses bring them.
-fn is_mapped(candidate: &Candidate) -> bool
+pub(crate) fn is_mapped(candidate: &Candidate) -> bool
     ensures { result ≡ is_mapped candidate.now }
 {
     same_kind(candidate.kind(), CandidateKind::PeerReflexive)

@@ -2,7 +2,8 @@
 
 ghost use Rattle.std.specs.Prelude.{◌≡◌, ℕ, List, true};
 ghost use Rattle.is_candidate.specs.Candidates.{CandidateRecord};
-ghost use Rattle.is_pair.specs.Multiset.{are_below, change_pair, is_valid_at, IsPairBetween};
+ghost use Rattle.std.specs.List.{list_any};
+ghost use Rattle.is_pair.specs.Multiset.{are_below, change_pair, is_between, is_valid_at, IsPairBetween};
 ghost use Rattle.is_pair.specs.Checklists.{multiset_of, HasRoom};
 ghost use Rattle.is_pair.specs.Due.{triggered};
 ghost use Rattle.is_rules.specs.Kept.{are_placed};
@@ -40,6 +41,13 @@ pub fn pair_between(pairs: &Checklist, l: usize, r: usize) -> Option<u64>
         Some(pair) => Some(pair.id().0),
         None => None,
     }
+}
+
+/// Whether the two candidates have a pair.
+pub(crate) fn has_pair_between(pairs: &Checklist, l: usize, r: usize) -> bool
+    ensures { result ≡ list_any (is_between l r) (multiset_of pairs.now) }
+{
+    pairs.any(&Between { l, r })
 }
 
 /// Whether a pair is valid.

@@ -94,7 +94,7 @@ pub use Rattle.is_rules.proofs.PollsAndResponses.NextTimeout.{all-are-scheduled,
 pub use Rattle.is_rules.proofs.PollsAndResponses.NextTimeout.{timeouts-in-time}
 pub use Rattle.is_rules.proofs.ServedRequests.RulesInTurn.{AddsPairAndResponds, AddsUnknownSender, CountsAndServes, FindsOrAddsPair}
 pub use Rattle.is_rules.proofs.ServedRequests.RulesInTurn.{FindsSender, in_turn, RecordsAndResponds, resolved_in_turn, ResolvesRoleConflict}
-pub use Rattle.is_rules.proofs.ServedRequests.RulesInTurn.{ResolvesRoleConflictBy}
+pub use Rattle.is_rules.proofs.ServedRequests.RulesInTurn.{forgotten, MayForm, ResolvesRoleConflictBy}
 pub use Rattle.is_rules.specs.Accepting.{discovered_emitted, HandlesPacket, is_discovered, is_passed_over, IsAcceptedAs, IsAcceptedOn}
 pub use Rattle.is_rules.specs.Accepting.{IsAddressed, reports_none, Takes}
 pub use Rattle.is_rules.specs.Agent.{AgentRecord, default_timing, fresh, no_stats}
@@ -124,7 +124,7 @@ pub use Rattle.is_rules.specs.Issuing.{IsIssued, IsQueued, key_for, QueuesPacket
 pub use Rattle.is_rules.specs.Kinds.{counted_kind, goes_first, INNER, is_brought, is_first_due, is_inner, IsNextAhead, kind_between, kind_of}
 pub use Rattle.is_rules.specs.Kinds.{kind_rank, KINDS, reach_of, remote_rank, turn_of, TurnsBefore, version_rank}
 pub use Rattle.is_rules.specs.Leaving.{gives_way, has_urgent, hastened, is_asked_along, is_silent_enough, IsAskedAlong, IsAskedNext}
-pub use Rattle.is_rules.specs.Leaving.{late_since, may_replace, path_left, silent_gone}
+pub use Rattle.is_rules.specs.Leaving.{late_since, left_after, may_replace, path_left, silent_gone}
 pub use Rattle.is_rules.specs.Limit.{discovered_count, has_local_room, has_room, HasPlaceFor, is_below, is_mapped, is_on, is_vacant}
 pub use Rattle.is_rules.specs.Limit.{IsPlaceOf, IsSenderPlace, IsVacancy, mapped_count, newest}
 pub use Rattle.is_rules.specs.Local.{AddsLocal, appended, as_own, comes_again, enabled, enabled_again, EnrolsAt, Enters, EntersAgain}

@@ -7,7 +7,7 @@ use super::step::Packet::*;
 use super::step::Shown::*;
 use super::step::Start::*;
 use super::step::Step::*;
-use super::step::{At, Setting, Step};
+use super::step::{At, Message, Setting, Step};
 use super::story::{Story, play};
 use super::*;
 use is::Profile;
@@ -114,7 +114,7 @@ const DIES_LOSSY: [Step; 25] = [
     Holds(HasPair(PEER, true)),
 ];
 
-const LEFT: [Story; 4] = [
+const LEFT: [Story; 5] = [
     Story(
         "two_paths_work",
         &[
@@ -143,6 +143,18 @@ const LEFT: [Story; 4] = [
             Holds(HasPair(PEER, false)),
             Does(CheckTo(101_421, ELSEWHERE, true)),
             Shows(Connected),
+        ],
+    ),
+    // the peer's next request on the other path forms the pair again; it is selected again once a check of it is answered
+    Story(
+        "the_left_path_is_checked_again",
+        &[
+            Write(Message::Request(false, false), "nearpass"),
+            Takes(Served(101_430, ELSEWHERE)),
+            Holds(HasPair(PEER, true)),
+            Does(CheckTo(101_471, THERE, false)),
+            Takes(Answer(101_480, THERE)),
+            Emits(Selected(Some(THERE))),
         ],
     ),
 ];

@@ -1,6 +1,7 @@
 -- Whatever happens between two `handle_timeout` calls leaves no more checks of other pairs before a pair, except for
 -- one by each added pair, unless the pair itself is answered.
 use Rattle.is_stun.specs.declared.header.Class.TheVariants as class
+use Rattle.is_theorems.proofs.Common.{forgotten}
 use Rattle.is_theorems.proofs.Common.{◌&&◌, ◌||◌, ◌∙◌, ◌≡◌, ◌≤◌, ◌⊎◌, Absent, AddsUnknownSender, after_request, AgentRecord, ap, arith}
 use Rattle.is_theorems.proofs.Common.{as_taken, Barred, Bool, candidate_at, CandidateRecord, change_at, Class, Conflict, conflict_of}
 use Rattle.is_theorems.proofs.Common.{CountsAndServes, discovered_emitted, Drops, Emitted, Entry, eq-eqb, eqb-true, Err, evaluated, false}
@@ -145,7 +146,10 @@ module _ {H P : Type 0} where
                   (served-mild s.controlling s.lite (as_taken (numbers s) q) first)
 
         takes : (l r : ℕ) (number : Option ℕ) (s new : AgentRecord H P) (emitted : Emitted) → FindsOrAddsPair mac q l r number s emitted new → Goes s new
-        takes l r (Some number) s new emitted h = pair l r number s new emitted h
+        takes l r (Some number) s new emitted (inl h) = (let k = pair l r number (forgotten s) new emitted h in (k.0, k.1))
+        takes l r (Some number) s new emitted (inr (i, j, may, h)) =
+            goes-on s (with_pair (formed s i j) (forgotten s)) new (refl, onward-adds n by (last_time_of s) s.pairs s.next_number i j (priority_between s i j))
+            (pair l r number (with_pair (formed s i j) (forgotten s)) new emitted h)
         takes l r None s new emitted h = either (candidate_at s.local l).discarded h
             (λ _ k. goes-same s new k.1)
             (λ _ k. goes-on s (with_pair (formed s l r) s) new (refl, onward-adds n by (last_time_of s) s.pairs s.next_number l r (priority_between s l r))

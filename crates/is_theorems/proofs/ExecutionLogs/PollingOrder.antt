@@ -1,5 +1,6 @@
 -- Events are appended, in the order in which they happen. What mutants/specifications changes is read by tactics.
 use Rattle.is_stun.specs.declared.header.Class.TheVariants as class
+use Rattle.is_theorems.proofs.Common.{forgotten}
 use Rattle.is_theorems.proofs.Common.{[], ◌&&◌, ◌++◌, ◌==◌, ◌∙◌, ◌∷◌, ◌≡◌, Absent, AddLocalCandidate, AddRemoteCandidate, AddsLocal}
 use Rattle.is_theorems.proofs.Common.{AddsRemote, AddsUnknownSender, AgentRecord, all_scheduled, ap, append-nil, append_assoc, appended}
 use Rattle.is_theorems.proofs.Common.{as_remote, at_request, at_timeout, Barred, Becomes, Begins, Bool, Call, candidate_at, CandidateRecord}
@@ -115,7 +116,8 @@ module _ {H P : Type 0} where
         both s mid new k (both mid at new (state_grows _ mid) (same_events at new (ap (λ (a : AgentRecord H P). a.events) made)))
 
     takes_grows : (l r : ℕ) (number : Option ℕ) (s new : AgentRecord H P) (emitted : Emitted) → FindsOrAddsPair mac q l r number s emitted new → Grows s new
-    takes_grows l r (Some number) s new emitted h = pair_grows l r number s new emitted h
+    takes_grows l r (Some number) s new emitted (inl h) = pair_grows l r number (forgotten s) new emitted h
+    takes_grows l r (Some number) s new emitted (inr (i, j, may, h)) = pair_grows l r number (with_pair (formed s i j) (forgotten s)) new emitted h
     takes_grows l r None s new emitted h = either (candidate_at s.local l).discarded h (λ _ k. drops_grows s new emitted k)
         (λ _ k. pair_grows l r s.next_number (with_pair (formed s l r) s) new emitted k.1)
 

@@ -3,6 +3,7 @@
 use Rattle.is_pair.specs.Due as due
 use Rattle.is_pair.proofs.PairEntries.ChangedEntry.{rises-changed, rises-filter}
 use Rattle.is_stun.specs.declared.header.Class.TheVariants as class
+use Rattle.is_theorems.proofs.Common.{forgotten}
 use Rattle.is_theorems.proofs.Common.{[], ◌&&◌, ◌*◌, ◌++◌, ◌+◌, ◌-◌, ◌||◌, ◌∙◌, ◌∷◌, ◌≡◌, ◌≤◌, Absent, AddsUnknownSender, after_request}
 use Rattle.is_theorems.proofs.Common.{AgentRecord, all_scheduled, ap, arith, as_taken, scheduled, at_request, at_timeout, Barred, Bool}
 use Rattle.is_theorems.proofs.Common.{candidate_at, CandidateRecord, change_at, change_pair, checked, ChecksTop, Class, Conflict}
@@ -172,7 +173,14 @@ module _ {H P : Type 0} where
             (λ _ k. spends-none (pair_served q number s) mid k.1)) in (k.0, k.1, k.2)) made
 
         takes : (l r : ℕ) (number : Option ℕ) (s new : AgentRecord H P) (emitted : Emitted) → FindsOrAddsPair mac q l r number s emitted new → Spends 0 s new
-        takes l r (Some number) s new emitted h = pair l r number s new emitted h
+        takes l r (Some number) s new emitted (inl h) = (let k = pair l r number (forgotten s) new emitted h in (k.0, k.1, k.2))
+        takes l r (Some number) s new emitted (inr (i, j, may, h)) =
+            spends-on 0 0 s (with_pair (formed s i j) (forgotten s)) new (
+              refl,
+              omega arith,
+              (let all = unspents-push m (formed s i j) s.pairs refl in let more = one-more s.next_number m in omega (arith, all, more)),
+            )
+            (pair l r number (with_pair (formed s i j) (forgotten s)) new emitted h)
         takes l r None s new emitted h = either (candidate_at s.local l).discarded h
             (λ _ k. spends-none s new k.1)
             (λ _ k. spends-on 0 0 s (with_pair (formed s l r) s) new (

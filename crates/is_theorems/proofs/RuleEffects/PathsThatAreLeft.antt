@@ -1,4 +1,6 @@
 -- When a selected pair gives way, and that all pairs stay otherwise.
+use Rattle.is_rules.specs.Again.{candidates_of}
+use Rattle.is_theorems.proofs.Common.{find, left_after, option_map, option_or}
 use Rattle.is_theorems.proofs.Common.{[], ◌&&◌, ◌||◌, ◌∙◌, ◌∷◌, ◌≡◌, ◌≤◌, AgentRecord, ap, arith, Bool, false, filter}
 use Rattle.is_theorems.proofs.Common.{gives_way, Has, hastened, if◌then◌else◌, inl, inr, is_eligible, is_modern, is_named_by}
 use Rattle.is_theorems.proofs.Common.{is_nominated, is_silent_enough, is_valid, length, List, list_any, map, may_replace}
@@ -17,6 +19,10 @@ filter-all keep (x ∷ xs) all =
 none-any : {X : Type 0} (test : X → Bool) (xs : List X) → ((x : X) → Has xs x → test x ≡ false) → list_any test xs ≡ false
 none-any test [] none = refl
 none-any test (x ∷ xs) none = ap (λ b. b || list_any test xs) (none x (inl refl)) ∙ none-any test xs (λ y has. none y (inr has))
+
+none-found : {X : Type 0} (test : X → Bool) (xs : List X) → ((x : X) → Has xs x → test x ≡ false) → find test xs ≡ None
+none-found test [] none = refl
+none-found test (x ∷ xs) none = ap (λ b. if b then Some x else find test xs) (none x (inl refl)) ∙ none-found test xs (λ y has. none y (inr has))
 
 pub passes : {X : Type 0} (test : X → Bool) (xs : List X) → list_any test xs ≡ true → (x : X) × Has xs x × (test x ≡ true)
 passes test [] h = absurd (let no : false ≡ true = h in cc)
@@ -119,9 +125,10 @@ module _ {H P : Type 0} where
 
   pub none-left : (now : ℕ) (a : AgentRecord H P) → ((p : PairRecord) → Has a.pairs p → gives_way now a p ≡ false) → path_left now a ≡ a
   none-left now a none =
-      ap (λ b. record a { pairs = map (hastened (b && a.controlling) now) (silent_gone now a).pairs }) (none-any (gives_way now a) a.pairs none)
-      ∙ (ap (λ ps. record a { pairs = map (hastened false now) ps }) (filter-all (λ p. not (gives_way now a p)) a.pairs (λ p has. ap not (none p has)))
-      ∙ ap (λ ps. record a { pairs = ps }) (none-hastened now a.pairs))
+      ap (λ b. record a { pairs = map (hastened (b && a.controlling) now) (silent_gone now a).pairs; left = left_after now a }) (none-any (gives_way now a) a.pairs none)
+      ∙ (ap (λ ps. record a { pairs = map (hastened false now) ps; left = left_after now a }) (filter-all (λ p. not (gives_way now a p)) a.pairs (λ p has. ap not (none p has)))
+      ∙ (ap (λ ps. record a { pairs = ps; left = left_after now a }) (none-hastened now a.pairs)
+      ∙ ap (λ o. record a { left = option_or (option_map candidates_of o) a.left }) (none-found (gives_way now a) a.pairs none)))
 
   -- no pair is valid
   pub invalid-stays : (now : ℕ) (a : AgentRecord H P) (p : PairRecord) → is_valid p ≡ false → gives_way now a p ≡ false

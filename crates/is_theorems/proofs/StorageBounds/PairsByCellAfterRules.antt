@@ -2,6 +2,7 @@
 -- the limit on pairs holds.
 use Rattle.is_pair.specs.Multiset.{is_between}
 use Rattle.is_stun.specs.declared.header.Class.TheVariants as class
+use Rattle.is_theorems.proofs.Common.{forgotten}
 use Rattle.is_theorems.proofs.Common.{[], ◌&&◌, ◌++◌, ◌<◌, ◌==◌, ◌||◌, ◌∙◌, ◌∷◌, ◌≡◌, ◌≤◌, Absent, AddsUnknownSender, after_request}
 use Rattle.is_theorems.proofs.Common.{AgentRecord, all_scheduled, ap, arith, as_taken, scheduled, at_request, at_timeout, Barred, Bool}
 use Rattle.is_theorems.proofs.Common.{candidate_at, CandidateKind, CandidateRecord, change_at, ChecksTop, Class, Combination, Conflict}
@@ -270,14 +271,19 @@ module _ {H P : Type 0} where
         on s (pair_served q number s) new (alike s (pair_served q number s) e)
         (on (pair_served q number s) mid new f (alike mid new (ap (λ (a : AgentRecord H P). grid_of a) made)))
 
+    -- a new pair has a cell of its own
+    added-anew : (s : AgentRecord H P) (l r : ℕ) → own_at s.local l ≡ true → list_any (is_between l r) s.pairs ≡ false → Fewer s (with_pair (formed s l r) s)
+    added-anew s l r its none =
+        let e : extras (own_at s.local) (cells (s.pairs ++ formed s l r ∷ [])) ≡ surplus s = extras-new (own_at s.local) s.pairs (formed s l r) its (none-between l r s.pairs none) in
+        omega (arith, e)
+
     takes : (l r : ℕ) (number : Option ℕ) (s new : AgentRecord H P) (emitted : Emitted) → own_at s.local l ≡ true → IsPairBetween s.pairs l r number → FindsOrAddsPair mac q l r number s emitted new → Fewer s new
-    takes l r (Some number) s new emitted its between h = pair l r number s new emitted h
+    takes l r (Some number) s new emitted its between (inl h) = (let k = pair l r number (forgotten s) new emitted h in k)
+    takes l r (Some number) s new emitted its between (inr (i, j, may, h)) =
+        on s (with_pair (formed s i j) (forgotten s)) new (added-anew s i j (ap not may.own) may.unmatched) (pair l r number (with_pair (formed s i j) (forgotten s)) new emitted h)
     takes l r None s new emitted its between h = either (candidate_at s.local l).discarded h (λ _ k. unchanged s new k.1)
-        (λ _ k. on s (with_pair (formed s l r) s) new (added (none-any (is_between l r) s.pairs between)) (pair l r s.next_number (with_pair (formed s l r) s) new emitted k.1)) where
-          added : list_any (is_between l r) s.pairs ≡ false → Fewer s (with_pair (formed s l r) s)
-          added none =
-              let e : extras (own_at s.local) (cells (s.pairs ++ formed s l r ∷ [])) ≡ surplus s = extras-new (own_at s.local) s.pairs (formed s l r) its (none-between l r s.pairs none) in
-              omega (arith, e)
+        (λ _ k. on s (with_pair (formed s l r) s) new (added-anew s l r its (none-any (is_between l r) s.pairs between))
+        (pair l r s.next_number (with_pair (formed s l r) s) new emitted k.1))
 
     joins_at : (l : ℕ) (place : RemotePlace) (s new : AgentRecord H P) (emitted : Emitted) → own_at s.local l ≡ true → AddsUnknownSender mac q l place s emitted new → Fewer s new
     joins_at l (Known r) s new emitted its (number, between, h) = takes l r number s new emitted its between h

@@ -1,4 +1,5 @@
 -- How the rules change the queues of packets and events.
+use Rattle.is_theorems.proofs.Common.{forgotten, inl, inr}
 use Rattle.is_theorems.proofs.Common.{[], ◌&&◌, ◌++◌, ◌+◌, ◌∙◌, ◌∷◌, ◌≡◌, ◌≤◌, Absent, AddsUnknownSender, AgentRecord, all_scheduled, ap, arith}
 use Rattle.is_theorems.proofs.Common.{at_timeout, Barred, Bool, candidate_at, ChecksTop, Combination, cond, Conflict, conflict_of, count_by}
 use Rattle.is_theorems.proofs.Common.{CountsAndServes, discovery_count, Drops, Emitted, evaluated, events_kept, expired_gone, false, filter}
@@ -216,7 +217,8 @@ module _ {H P : Type 0} where
         (more 0 1 1 0 mid at new (updated_adds (is_some path) (triggered_time q s) mid) (as-made 1 0 at _ new made (one-packet (lines_of at) _)))
 
     takes : (l r : ℕ) (number : Option ℕ) (s new : AgentRecord H P) (emitted : Emitted) → FindsOrAddsPair mac q l r number s emitted new → Adds 1 2 s new
-    takes l r (Some number) s new emitted h = pair l r number s new emitted h
+    takes l r (Some number) s new emitted (inl h) = pair l r number (forgotten s) new emitted h
+    takes l r (Some number) s new emitted (inr (i, j, may, h)) = pair l r number (with_pair (formed s i j) (forgotten s)) new emitted h
     takes l r None s new emitted h = either (candidate_at s.local l).discarded h
         (λ _ k. none s new (kept s new k.1))
         (λ _ k. pair l r s.next_number (with_pair (formed s l r) s) new emitted k.1)

@@ -2,6 +2,7 @@
 -- to them.
 use Rattle.is_pair.specs.Due as due
 use Rattle.is_stun.specs.declared.header.Class.TheVariants as class
+use Rattle.is_theorems.proofs.Common.{forgotten}
 use Rattle.is_theorems.proofs.Common.{[], ◌&&◌, ◌++◌, ◌-◌, ◌||◌, ◌∙◌, ◌∷◌, ◌≡◌, ◌⊎◌, Absent, AddsUnknownSender, after_request, AgentRecord}
 use Rattle.is_theorems.proofs.Common.{all_scheduled, answered_at, ap, as_sent, as_taken, at_timeout, Barred, Bool, candidate_at, change_at}
 use Rattle.is_theorems.proofs.Common.{change_pair, Check, check_of, check_sent, ChecksTop, Class, Conflict, conflict_of, CountsAndServes}
@@ -318,7 +319,10 @@ module _ {H P : Type 0} where
           (λ _ k. keep-same (pair_served q number s) mid k.1))) made
 
       takes : (l r : ℕ) (number : Option ℕ) (s new : AgentRecord H P) (emitted : Emitted) → FindsOrAddsPair mac q l r number s emitted new → Keep s new
-      takes l r (Some number) s new emitted h = pair l r number s new emitted h
+      takes l r (Some number) s new emitted (inl h) = pair l r number (forgotten s) new emitted h
+      takes l r (Some number) s new emitted (inr (i, j, may, h)) =
+          keeps-on s.pairs (s.pairs ++ formed s i j ∷ []) new.pairs (keeps-push s.pairs (formed s i j ∷ []))
+          (pair l r number (with_pair (formed s i j) (forgotten s)) new emitted h)
       takes l r None s new emitted h = either (candidate_at s.local l).discarded h
           (λ _ k. keep-same s new k.1)
           (λ _ k. keeps-on s.pairs (s.pairs ++ formed s l r ∷ []) new.pairs (keeps-push s.pairs (formed s l r ∷ []))

@@ -1,12 +1,13 @@
-use Rattle.std.proofs.Common.{◌≡◌, ℕ, ◌&&◌, ◌||◌, Bool, true, false, is_some, not, List, [], ◌∷◌, map, ap, refl, sym, ◌∙◌, length, arith}
+use Rattle.std.proofs.Common.{◌≡◌, ℕ, ◌&&◌, ◌||◌, Bool, true, false, is_some, not, List, [], ◌∷◌, map, find, Option, None, option_map, ap, refl, sym, ◌∙◌, length, arith}
 use Rattle.std.specs.List.{list_any}
-use Rattle.std.specs.Option.{option_map_or}
+use Rattle.std.specs.Option.{option_map_or, option_or}
 use Rattle.is_pair.specs.Checklists.{multiset_of}
-use Rattle.is_pair.specs.Multiset.{is_numbered, without}
+use Rattle.is_pair.specs.Multiset.{is_numbered, pair_numbered, without}
 use Rattle.is_pair.specs.Pairs.{PairRecord}
+use Rattle.is_rules.specs.Again.{candidates_of}
 use Rattle.is_rules.specs.Agent.{AgentRecord}
 use Rattle.is_rules.specs.Due.{falls_due, may_nominate}
-use Rattle.is_rules.specs.Leaving.{gives_way, hastened, path_left}
+use Rattle.is_rules.specs.Leaving.{gives_way, hastened, left_after, path_left}
 use Rattle.is_agent.specs.View.{record_of}
 use Rattle.is_agent.proofs.AgentParts.DuePairsAfterRemoval.{and-third, falls-hastened, falls-left, or-second}
 use Rattle.is_agent.proofs.AgentParts.PairsInLists.{hastened-keys, placed-hastened}
@@ -27,16 +28,34 @@ module _ {H P : Type 0} (now : ℕ) (a : AgentRecord H P) where
   left = without (gives_way now a) a.pairs
 
   -- no pair gives way
-  path-stays : a.pairs ≡ left → false ≡ gone → a ≡ path_left now a
-  path-stays same none =
+  path-stays : a.pairs ≡ left → false ≡ gone → None ≡ find (gives_way now a) a.pairs → a ≡ path_left now a
+  path-stays same none no-pair =
       let stays : a.pairs ≡ map (hastened (gone && a.controlling) now) left = same ∙ (sym (unhastened now left) ∙ ap (λ b. map (hastened (b && a.controlling) now) left) none) in
+      let kept : a.left ≡ left_after now a = ap (λ (o : Option PairRecord). option_or (option_map candidates_of o) a.left) no-pair in
       ap (λ (ps : List PairRecord). record a { pairs = ps }) stays
+      ∙ ap (λ (l : Option (ℕ × ℕ)). record a { pairs = (path_left now a).pairs; left = l }) kept
 
 pub returns-in_default-clause-left : goal.returns-in_default-clause-left
 returns-in_default-clause-left g c =
     let a = record_of c.args.self.now in
     path-stays c.args.now.0 a (sym (ap (λ o. option_map_or (λ n. without (is_numbered n) a.pairs) o a.pairs) c.in_default.is) ∙ c.left_number.ensures.without)
     (sym (ap is_some c.in_default.is) ∙ c.left_number.ensures.left)
+    (sym (ap (λ o. option_map_or (λ n. pair_numbered n a.pairs) o None) c.in_default.is) ∙ c.left_number.ensures.found)
+
+pub returns-in-Some-clause-left : goal.returns-in-Some-clause-left
+returns-in-Some-clause-left g c =
+    let a = record_of c.args.self.now in let now = c.args.now.0 in let number = c.in-Some.number in
+    let gone : true ≡ list_any (gives_way now a) a.pairs = sym (ap is_some c.in-Some.is) ∙ c.left_number.ensures.left in
+    let found : pair_numbered number a.pairs ≡ find (gives_way now a) a.pairs =
+    sym (ap (λ o. option_map_or (λ n. pair_numbered n a.pairs) o None) c.in-Some.is) ∙ c.left_number.ensures.found in
+    let others : without (is_numbered number) a.pairs ≡ without (gives_way now a) a.pairs =
+    sym (ap (λ o. option_map_or (λ n. without (is_numbered n) a.pairs) o a.pairs) c.in-Some.is) ∙ c.left_number.ensures.without in
+    let pairs : multiset_of c.change_all.new.self ≡ (path_left now a).pairs =
+    c.change_all.ensures.changed ∙ ap (map (hastened a.controlling now)) (c.remove.ensures.left ∙ others)
+    ∙ ap (λ (b : Bool). map (hastened (b && a.controlling) now) (without (gives_way now a) a.pairs)) gone in
+    let left : c.left_after-self.result ≡ left_after now a =
+    c.left_after-self.ensures ∙ ap (λ (o : Option PairRecord). option_or (option_map candidates_of o) a.left) found in
+    cc (pairs, left)
 
 pub returns-in-Some-clause-checks : goal.returns-in-Some-clause-checks
 returns-in-Some-clause-checks g c = λ room falls.

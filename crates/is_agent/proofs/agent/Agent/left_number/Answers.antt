@@ -7,7 +7,7 @@ use Rattle.is_rules.specs.Leaving.{gives_way}
 use Rattle.is_agent.specs.View.{record_of}
 use Rattle.is_agent.proofs.AgentParts.DuePairsAfterRemoval.{selected-has}
 use Rattle.is_agent.proofs.AgentParts.PairsByNumber.{has-any}
-use Rattle.is_rules.proofs.PairLists.LeftPair.{none-left, one-left, stays-selected}
+use Rattle.is_rules.proofs.PairLists.LeftPair.{found-else, found-none, found-one, none-left, one-left, stays-selected}
 use Rattle.is_agent.proofs.agent.Agent.left_number.Goals as goal
 
 none-stays : (gone : PairRecord → Bool) (ps : List PairRecord) → list_any gone (without gone ps) ≡ false
@@ -51,3 +51,17 @@ returns-clause-left g c =
     let a = record_of c.args.self.now in
     let has = selected-has a.selected_pair a.pairs c.in-Some.pair.now (sym (ap option_copied c.in-Some.is) ∙ c.pair_selected.ensures) in
     sym (has-any (gives_way c.args.now.0 a) a.pairs c.in-Some.pair.now has (sym c.gives_way.ensures ∙ c.if-not-gives_way.false))
+
+pub returns-in_default-clause-found : goal.returns-in_default-clause-found
+returns-in_default-clause-found g c =
+    found-none c.args.now.0 (record_of c.args.self.now) c.numbers_rise.ensures (sym c.pair_selected.ensures ∙ ap option_copied c.in_default.is)
+
+pub returns-then-not-gives_way-clause-found : goal.returns-then-not-gives_way-clause-found
+returns-then-not-gives_way-clause-found g c =
+    found-else c.args.now.0 (record_of c.args.self.now) c.numbers_rise.ensures c.in-Some.pair.now
+    (sym c.pair_selected.ensures ∙ ap option_copied c.in-Some.is) (sym c.gives_way.ensures ∙ c.if-not-gives_way.true)
+
+pub returns-clause-found : goal.returns-clause-found
+returns-clause-found g c =
+    rw (c.id.ensures) (found-one c.args.now.0 (record_of c.args.self.now) c.numbers_rise.ensures c.in-Some.pair.now
+    (sym c.pair_selected.ensures ∙ ap option_copied c.in-Some.is) (sym c.gives_way.ensures ∙ c.if-not-gives_way.false))
