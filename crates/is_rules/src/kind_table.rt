@@ -14,23 +14,23 @@ use crate::places::candidate_at;
 use is_candidate::Candidate;
 use is_pair::pair::CandidatePair;
 
-/// The parts of the candidates in the kinds of their pairs, in tables: those of the first 128 local candidates, and of remote ones if these
-/// are no more than the pairs.
+/// The parts of the candidates in the kinds of their pairs, in tables: those of the first 100 local candidates, and of remote ones if these
+/// are no more than the pairs. Agents in C, Rust and Python begin with this limit. The table takes less than 2 KB: more is cleared slower.
 #[derive(Drop)]
 pub(crate) struct KindTable<'a> {
     pub(crate) local: &'a [Candidate],
     pub(crate) remote: &'a [Candidate],
     /// What is known of packets from each of the first local candidates.
-    reaches: [u8; 128],
+    reaches: [u8; 100],
     /// The networks of their bases.
-    networks: [u64; 128],
+    networks: [u64; 100],
     /// So many remote candidates have their ranks in the table, the first ones, and the networks of their addresses.
     ranked: usize,
-    ranks: [u8; 128],
-    remote_networks: [u64; 128],
-    ghost right: { (place : ℕ) → place < 128 → place < length local.now → slice_index reaches place ≡ reach_of local.now (candidate_at local.now place) },
-    ghost near: { (place : ℕ) → place < 128 → place < length local.now → slice_index networks place ≡ base_network (candidate_at local.now place) },
-    ghost few: { ranked ≤ 128 },
+    ranks: [u8; 100],
+    remote_networks: [u64; 100],
+    ghost right: { (place : ℕ) → place < 100 → place < length local.now → slice_index reaches place ≡ reach_of local.now (candidate_at local.now place) },
+    ghost near: { (place : ℕ) → place < 100 → place < length local.now → slice_index networks place ≡ base_network (candidate_at local.now place) },
+    ghost few: { ranked ≤ 100 },
     ghost known: { (place : ℕ) → place < ranked → slice_index ranks place ≡ remote_rank (candidate_at remote.now place) },
     ghost far: { (place : ℕ) → place < ranked → slice_index remote_networks place ≡ own_network (candidate_at remote.now place) },
 }
@@ -62,24 +62,24 @@ fn known_reach(local: &[Candidate], none_reflexive: bool, candidate: &Candidate)
     }
 }
 
-/// What is known of packets from each of the first 128 local candidates.
-fn reaches_of(local: &[Candidate]) -> [u8; 128]
-    ensures { (place : ℕ) → place < 128 → place < length local.now → slice_index result place ≡ reach_of local.now (candidate_at local.now place) }
+/// What is known of packets from each of the first 100 local candidates.
+fn reaches_of(local: &[Candidate]) -> [u8; 100]
+    ensures { (place : ℕ) → place < 100 → place < length local.now → slice_index result place ≡ reach_of local.now (candidate_at local.now place) }
 {
     let none_reflexive = is_none_reflexive(local);
-    let mut reaches = [0; 128];
-    for place in 0..local.len().min(128) {
+    let mut reaches = [0; 100];
+    for place in 0..local.len().min(100) {
         reaches[place] = known_reach(local, none_reflexive, candidate_at(local, place));
     }
     reaches
 }
 
-/// The networks of the bases of the first 128 local candidates.
-fn networks_of(local: &[Candidate]) -> [u64; 128]
-    ensures { (place : ℕ) → place < 128 → place < length local.now → slice_index result place ≡ base_network (candidate_at local.now place) }
+/// The networks of the bases of the first 100 local candidates.
+fn networks_of(local: &[Candidate]) -> [u64; 100]
+    ensures { (place : ℕ) → place < 100 → place < length local.now → slice_index result place ≡ base_network (candidate_at local.now place) }
 {
-    let mut networks = [0; 128];
-    for place in 0..local.len().min(128) {
+    let mut networks = [0; 100];
+    for place in 0..local.len().min(100) {
         networks[place] = base_network(candidate_at(local, place));
     }
     networks
@@ -87,23 +87,23 @@ fn networks_of(local: &[Candidate]) -> [u64; 128]
 
 /// How many ranks are computed first: none if there are more remote candidates than pairs, since that would cost more than it saves.
 fn ranked_first(remote: &[Candidate], pairs: usize) -> usize
-    ensures few { result ≤ 128 }
+    ensures few { result ≤ 100 }
     ensures there { result ≤ length remote.now }
 {
     if remote.len() <= pairs {
-        remote.len().min(128)
+        remote.len().min(100)
     } else {
         0
     }
 }
 
 /// The ranks of so many candidates.
-fn ranks_of(remote: &[Candidate], many: usize) -> [u8; 128]
-    requires few { many ≤ 128 }
+fn ranks_of(remote: &[Candidate], many: usize) -> [u8; 100]
+    requires few { many ≤ 100 }
     requires there { many ≤ length remote.now }
     ensures { (place : ℕ) → place < many → slice_index result place ≡ remote_rank (candidate_at remote.now place) }
 {
-    let mut ranks = [0; 128];
+    let mut ranks = [0; 100];
     for place in 0..many {
         ranks[place] = remote_rank(candidate_at(remote, place));
     }
@@ -111,12 +111,12 @@ fn ranks_of(remote: &[Candidate], many: usize) -> [u8; 128]
 }
 
 /// The networks of the addresses of so many candidates.
-fn remote_networks_of(remote: &[Candidate], many: usize) -> [u64; 128]
-    requires few { many ≤ 128 }
+fn remote_networks_of(remote: &[Candidate], many: usize) -> [u64; 100]
+    requires few { many ≤ 100 }
     requires there { many ≤ length remote.now }
     ensures { (place : ℕ) → place < many → slice_index result place ≡ own_network (candidate_at remote.now place) }
 {
-    let mut networks = [0; 128];
+    let mut networks = [0; 100];
     for place in 0..many {
         networks[place] = own_network(candidate_at(remote, place));
     }
@@ -151,7 +151,7 @@ impl<'a> KindTable<'a> {
         requires { place < length self.now.local.now }
         ensures { result ≡ reach_of self.now.local.now (candidate_at self.now.local.now place) }
     {
-        if place < 128 {
+        if place < 100 {
             self.reaches[place]
         } else {
             reach_of(self.local, candidate_at(self.local, place))
@@ -164,7 +164,7 @@ impl<'a> KindTable<'a> {
         requires { place < length self.now.local.now }
         ensures { result ≡ base_network (candidate_at self.now.local.now place) }
     {
-        if place < 128 {
+        if place < 100 {
             self.networks[place]
         } else {
             base_network(candidate_at(self.local, place))

@@ -5,5 +5,5 @@ use Rattle.is_rules.proofs.kind_table.networks_of.Given as goal
 abbrev pub invariant-loop-place : goal.invariant-loop-place
 invariant-loop-place l = record {
   filled : (place : ℕ) → place < l.place → slice_index l.networks place ≡ base_network (candidate_at l.local place);
-  long : length l.networks ≡ 128;
+  long : length l.networks ≡ 100;
 }

@@ -5,5 +5,5 @@ use Rattle.is_rules.proofs.kind_table.ranks_of.Given as goal
 abbrev pub invariant-loop-place : goal.invariant-loop-place
 invariant-loop-place l = record {
   filled : (place : ℕ) → place < l.place → slice_index l.ranks place ≡ remote_rank (candidate_at l.remote place);
-  long : length l.ranks ≡ 128;
+  long : length l.ranks ≡ 100;
 }

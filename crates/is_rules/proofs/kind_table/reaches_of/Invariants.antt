@@ -5,5 +5,5 @@ use Rattle.is_rules.proofs.kind_table.reaches_of.Given as goal
 abbrev pub invariant-loop-place : goal.invariant-loop-place
 invariant-loop-place l = record {
   filled : (place : ℕ) → place < l.place → slice_index l.reaches place ≡ reach_of l.local (candidate_at l.local place);
-  long : length l.reaches ≡ 128;
+  long : length l.reaches ≡ 100;
 }
