@@ -106,8 +106,6 @@ class Agent(Candidates):
                 return new, None, ()
             pair = Pair(new.next_number, local, remote, new.priority_between(local, remote))
             new = replace(new, pairs=(*new.pairs, pair), next_number=new.next_number + 1)
-        else:
-            new = new.formed_again()
         was_valid, taken = pair.is_valid, as_taken(q, new.numbers)
         if not new.controlling and taken.use_candidate:
             new = replace(new, last_nominated=pair.number, numbers_seen=new.numbers_seen or bool(taken.nomination))
@@ -173,7 +171,7 @@ class Agent(Candidates):
             noted = self._changed(pair.number, lambda p: replace(p, error=message.code or p.error))
             return (noted.switched() if is_rejected else noted), None, ()
         new = self._mapped(pair, contents)._changed(pair.number, lambda p: p.answered(now, message.transaction))
-        chosen, told = new._nominate()
+        chosen, told = new.formed_again()._nominate()
         return chosen._evaluated(now), None, told
 
     def _mapped(self, pair: Pair, contents: bytes) -> Agent:

@@ -1,5 +1,5 @@
 """`run`, clause `none_starved_in_time` (`SteadyRoundsReachInTime`): with limits on pairs and on what packets bring, k rounds after the
-first one are enough for a pair that is due by it, whatever pairs requests add, and the caller is punctual. Then a check is sent on the
+first one are enough for a pair that is due by it, whatever pairs packets add, and the caller is punctual. Then a check is sent on the
 pair's path by k times the pacing interval and the caller's delay after the first round begins, once k rounds came or one begins later."""
 
 from __future__ import annotations

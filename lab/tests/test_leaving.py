@@ -15,6 +15,9 @@ FAILS_S = 8
 NOTHING_FAILS = ("event=[]", "settle_s=60")
 # The settings of a new agent of the library with `Modern`; those of `path_dies` are the original's.
 MODERN = tuple(f"{side}.{what}" for side in "ab" for what in ("max_rto_ms=2900", "retransmits=11"))
+# B is a lite agent with a public address.
+LITE_SERVER = ("b.lite=true", 'b.interface=[{ name = "eth0", ip = "198.51.100.20", up = "home", down = "home" }]',
+               'nat=[{ name = "mobile carrier", inner = "mobile", outside = "203.0.113.3" }]')
 # The other path is the quicker one.
 QUICKER = ("link.home.delay_ms=60", "link.mobile.delay_ms=8")
 
@@ -117,7 +120,7 @@ class Leaving(unittest.TestCase):
                 self.assertLess(times[-1], 4.05, (seed, side))
 
     def test_a_path_that_both_left_comes_back(self) -> None:
-        """Its pair is formed again with the peer's next request on the other path, and its checks go on at most 3 s after one another."""
+        """Its pair is formed again with the next response on the other path, and its checks go on at most 3 s after one another."""
         for seed in range(5):
             at = Random(seed).uniform(0, 3)
             got = play(seed, (*MODERN, *NOTHING_FAILS), unplugged(5))
@@ -125,6 +128,14 @@ class Leaving(unittest.TestCase):
                 self.assertLess(got[side][0] - at, 4.05, (seed, side))
                 self.assertEqual(len(got[side]), 2, (seed, side))
                 self.assertLess(got[side][1] - at - 5, 3.5, (seed, side))
+
+    def test_a_path_to_a_lite_peer_comes_back(self) -> None:
+        """A lite peer sends no requests, so its responses have to suffice."""
+        for seed in range(5):
+            at = Random(seed).uniform(0, 3)
+            left, back = play(seed, (*MODERN, *LITE_SERVER, *NOTHING_FAILS), unplugged(5))["a"]
+            self.assertLess(left - at, 4.05, seed)
+            self.assertLess(back - at - 5, 3.5, seed)
 
     def test_with_the_original_it_is_kept(self) -> None:
         for side, (after,) in play(1, ('a.profile="original"', 'b.profile="original"')).items():

@@ -11,7 +11,8 @@ ghost use Rattle.is_rules.specs.Answers.{keeps_check_on};
 ghost use Rattle.is_agent.specs.Ready.{NamesPeer};
 ghost use Rattle.is_agent.specs.Room.{HasDiscoveryRoom};
 ghost use Rattle.is_rules.specs.Limit.{is_crowded};
-ghost use Rattle.is_rules.specs.Accepting.{IsAddressed, IsAcceptedAs, IsAccepted, IsAcceptedOn, Arrives, reports_none, discovered_emitted, HandlesPacket};
+ghost use Rattle.is_rules.specs.Accepting.{IsAddressed, IsAcceptedAs, IsAccepted, IsAcceptedOn, Arrives, reports_none, discovered_emitted};
+ghost use Rattle.is_rules.specs.Accepting.{HandlesPacket};
 
 use crate::agent::Agent;
 use is_candidate::LocalPreference;
@@ -56,7 +57,8 @@ impl<H: Sha1HmacProvider + Drop, P: LocalPreference> Agent<H, P> {
     }
 
     fn accepts_request(&self, message: &StunMessage<'_>) -> bool
-        ensures { IsTrue result ↔ (IsAddressed (record_of self.now) (message_view message.now) × IsSignedBy (H.mac (record_of self.now).provider) (message_view message.now) (record_of self.now).local_creds.pass) }
+        ensures { IsTrue result ↔ (IsAddressed (record_of self.now) (message_view message.now)
+            × IsSignedBy (H.mac (record_of self.now).provider) (message_view message.now) (record_of self.now).local_creds.pass) }
     {
         self.is_addressed(message) && self.is_by_local(message)
     }

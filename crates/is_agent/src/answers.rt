@@ -2,7 +2,7 @@
 //!
 //! A response counts only if it is received on the reverse of its check's path.
 
-ghost use Rattle.std.specs.Prelude.{◌≡◌, ◌<◌, ◌↔◌, IsTrue, IsSomeAnd, IfOk, IfErr, IfSome, IfNone, OnOk, true, is_some, length, vec_len, vec_capacity};
+ghost use Rattle.std.specs.Prelude.{◌≡◌, ◌<◌, ◌↔◌, ℕ, IsTrue, IsSomeAnd, IfOk, IfErr, IfSome, IfNone, OnOk, true, is_some, length};
 ghost use Rattle.std.specs.List.{list_any};
 ghost use Rattle.is_candidate.specs.Priorities.{candidate_priority, TOO_HIGH};
 ghost use Rattle.is_pair.specs.Checks.{is_kept};
@@ -12,7 +12,7 @@ ghost use Rattle.is_stun.specs.Integrity.{IsSignedBy};
 ghost use Rattle.is_stun.specs.MessageView.{message_view};
 ghost use Rattle.is_rules.specs.Emitted.{nothing_emitted};
 ghost use Rattle.is_agent.specs.View.{record_of};
-ghost use Rattle.is_agent.specs.Room.{HasEventRoom, HasCandidateRoom, HasDiscoveryRoom, UsesDiscoveryRoom};
+ghost use Rattle.is_agent.specs.Room.{HasEventRoom, HasLocalRoom, HasPairRoom, HasDiscoveryRoom, UsesDiscoveryRoom};
 ghost use Rattle.is_rules.specs.Due.{KeepsCheckOn, IsRecorded, IsSentUnder};
 ghost use Rattle.is_rules.specs.Accepting.{IsAwaited};
 ghost use Rattle.is_rules.specs.Answers.{is_left_out, is_role_conflict, keeps_check_on, joined_by, local_with, mapped_candidate};
@@ -45,7 +45,8 @@ impl<H: Sha1HmacProvider + Drop, P: LocalPreference> Agent<H, P> {
 
     /// The message is signed with the peer's password.
     pub(crate) fn is_by_peer(&self, message: &StunMessage<'_>) -> bool
-        ensures { IsTrue result ↔ IsSomeAnd (record_of self.now).remote_creds (λ peer. IsSignedBy (H.mac (record_of self.now).provider) (message_view message.now) peer.pass) }
+        ensures { IsTrue result ↔ IsSomeAnd (record_of self.now).remote_creds
+            (λ peer. IsSignedBy (H.mac (record_of self.now).provider) (message_view message.now) peer.pass) }
     {
         match &self.remote_creds {
             Some(peer) => message.verify(peer.pass.as_str().as_bytes(), &self.by_remote_key()),
@@ -124,15 +125,15 @@ impl<H: Sha1HmacProvider + Drop, P: LocalPreference> Agent<H, P> {
         Ok(Some(self.mapped_candidate(l, mapped)?))
     }
 
-    /// Reserves capacity for what a success response can add: a local candidate, a source, and three events.
-    fn reserve_success_room(&mut self) -> Result<(), AllocError>
+    /// Reserves capacity for what a success response can add: a local candidate, so many pairs, a source, and three events.
+    fn reserve_success_room(&mut self, pairs: usize) -> Result<(), AllocError>
         ensures record { record_of self.new ≡ record_of self.old }
-        ensures local { OnOk result (vec_len self.new.local < vec_capacity self.new.local) }
-        ensures candidate { OnOk result (HasCandidateRoom 0 self.new) }
+        ensures local { OnOk result (HasLocalRoom pairs self.new) }
         ensures discovery { OnOk result (HasDiscoveryRoom 3 self.new) }
     {
-        self.keep_room(0)?;
+        self.keep_room(pairs)?;
         reserve_candidate(&mut self.local)?;
+        self.pairs.reserve(pairs)?;
         reserve_one(&mut self.discovered_sources)?;
         reserve_events(&mut self.events, self.kept_room, 3)?;
         Ok(())
@@ -142,9 +143,9 @@ impl<H: Sha1HmacProvider + Drop, P: LocalPreference> Agent<H, P> {
     fn record(&mut self, number: u64, now: Instant, id: TransId, mapped: Option<Candidate>)
         requires kept { keeps id.0 number (record_of self.old).pairs ≡ true }
         requires low { IfSome mapped (λ c. candidate_priority c < TOO_HIGH) }
-        requires local { vec_len self.old.local < vec_capacity self.old.local }
-        requires candidate { HasCandidateRoom 0 self.old }
+        requires room { HasLocalRoom 0 self.old }
         ensures records { IsRecorded number now.0 id.0 (joined_by mapped self.old.local.items) (record_of self.old) (record_of self.new) }
+        ensures pairs { (n : ℕ) → HasLocalRoom n self.old → HasPairRoom n self.new }
         ensures discovery { UsesDiscoveryRoom 0 self.old self.new }
     {
         self.pairs.record_binding_response(number, now, id);
@@ -164,7 +165,7 @@ impl<H: Sha1HmacProvider + Drop, P: LocalPreference> Agent<H, P> {
     }
 
     /// The pair with this number records the success response, the mapped address is added as a candidate if it is unknown
-    /// and the limit allows it, and nomination and state are evaluated.
+    /// and the limit allows it, and the pair of the path that was left last is formed again. Then nomination and state are evaluated.
     pub(crate) fn handle_success(
         &mut self,
         number: u64,
@@ -173,15 +174,17 @@ impl<H: Sha1HmacProvider + Drop, P: LocalPreference> Agent<H, P> {
         message: &StunMessage<'_>,
     ) -> Result<Emitted, AllocError>
         requires kept { KeepsCheckOn (record_of self.old) path.now (message_view message.now).id number }
-        ensures taken { IfOk result (λ emitted. HandlesSuccess now.0 (record_of self.old) path.now (message_view message.now) emitted (record_of self.new)) }
+        ensures taken { IfOk result (λ emitted. HandlesSuccess now.0 (record_of self.old) path.now (message_view message.now) emitted
+            (record_of self.new)) }
         ensures room { OnOk result (HasDiscoveryRoom 1 self.new) }
         ensures rejected { IfErr result (λ _. record_of self.new ≡ record_of self.old) }
     {
         self.pairs.numbers_rise();
         let l = self.local_place_of(number);
         let mapped = self.new_mapped_candidate(l, message.mapped_address())?;
-        self.reserve_success_room()?;
+        self.reserve_success_room(self.formed_again_count())?;
         self.record(number, now, message.trans_id(), mapped);
+        self.form_again();
         Ok(self.conclude(now))
     }
 }

@@ -5,7 +5,8 @@ ghost use Rattle.is_candidate.specs.Candidates.{candidate_at};
 ghost use Rattle.is_agent.specs.View.{record_of, emitted_of};
 ghost use Rattle.is_agent.specs.Room.{HasCandidateRoom, HasRoomToRelease, UsesEvents};
 ghost use Rattle.is_pair.specs.Checklists.{HasRoom};
-ghost use Rattle.is_rules.specs.Discarding.{discarded, local_to_discard, remote_to_discard, local_discarded, remote_discarded, InvalidatesAt, Invalidates};
+ghost use Rattle.is_rules.specs.Discarding.{discarded, local_to_discard, remote_to_discard, local_discarded, remote_discarded};
+ghost use Rattle.is_rules.specs.Discarding.{InvalidatesAt, Invalidates};
 ghost use Rattle.is_rules.specs.StateUpdates.{ReselectsAfter};
 
 use crate::agent::Agent;

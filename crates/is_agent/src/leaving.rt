@@ -1,12 +1,12 @@
-//! A selected path that falls silent is left for another one that works, with `Modern`; the rules: `is_rules::leaving`.
+//! A selected path that falls silent is left for another one that works, and is checked again, with `Modern`; the rules: `is_rules::leaving`.
 
-ghost use Rattle.std.specs.Prelude.{◌≡◌, ℕ, List, None, find, is_some, option_map};
+ghost use Rattle.std.specs.Prelude.{◌≡◌, ℕ, List, None, IfSome, find, is_some, option_map};
 ghost use Rattle.std.specs.List.{list_any};
 ghost use Rattle.std.specs.Option.{option_map_or, option_or};
 ghost use Rattle.is_agent.specs.View.{record_of, emitted_of};
-ghost use Rattle.is_agent.specs.Room.{HasCheckRoomAt, UsesEvents};
+ghost use Rattle.is_agent.specs.Room.{HasCheckRoomAt, HasPairRoom, UsesDiscoveryRoom, UsesEvents};
 ghost use Rattle.is_pair.specs.Multiset.{is_numbered, pair_numbered, without};
-ghost use Rattle.is_rules.specs.Again.{candidates_of};
+ghost use Rattle.is_rules.specs.Again.{candidates_of, formed_again, may_form_again};
 ghost use Rattle.is_rules.specs.Leaving.{gives_way, may_replace, path_left};
 
 use crate::agent::Agent;
@@ -15,7 +15,7 @@ use is_pair::checklist::{Expired, Removal};
 use is_pair::pair::{CandidatePair, Span};
 use is_pair::{is_wholly_silent, silence_of};
 use is_proto::{Instant, Sha1HmacProvider};
-use is_rules::leaving::{Hastens, MayReplace, is_silent_enough};
+use is_rules::leaving::{Hastens, MayReplace, is_silent_enough, may_form_again};
 use is_rules::nomination::{is_eligible, is_named_by, pair_selected};
 
 impl<H: Sha1HmacProvider + Drop, P: LocalPreference> Agent<H, P> {
@@ -97,6 +97,34 @@ impl<H: Sha1HmacProvider + Drop, P: LocalPreference> Agent<H, P> {
                 controlling: self.controlling,
                 now,
             });
+        }
+    }
+
+    /// Whether the pair of these candidates may be formed again.
+    fn may_form_again(&self, at: (usize, usize)) -> bool
+        ensures { result ≡ may_form_again (record_of self.now) at }
+    {
+        may_form_again(&self.local, &self.remote, &self.pairs, at) && self.next_number < u64::MAX
+    }
+
+    /// How many pairs `form_again` forms at most.
+    pub(crate) fn formed_again_count(&self) -> usize
+        ensures { IfSome self.now.left (λ _. result ≡ 1) }
+    {
+        usize::from(self.left.is_some())
+    }
+
+    /// Forms the pair of the path that was left last again, if it may be.
+    pub(crate) fn form_again(&mut self)
+        requires pairs { IfSome self.old.left (λ _. HasPairRoom 1 self.old) }
+        ensures formed { record_of self.new ≡ formed_again (record_of self.old) }
+        ensures discovery { UsesDiscoveryRoom 0 self.old self.new }
+    {
+        if let Some(at) = self.left {
+            self.left = None;
+            if self.may_form_again(at) {
+                self.add_pair(at.0, at.1);
+            }
         }
     }
 }

@@ -178,7 +178,8 @@ impl<H: Sha1HmacProvider + Drop, P: LocalPreference> Agent<H, P> {
     fn supersede(&mut self, place: usize, candidate: Candidate) -> Result<Option<usize>, Rejection>
         requires within { place < length self.old.local.items }
         requires low { candidate_priority candidate < TOO_HIGH }
-        ensures entered { EntersNew (record_of self.old) candidate (local_discarded place (record_of self.old)) (widened result) (record_of self.new) }
+        ensures entered { EntersNew (record_of self.old) candidate (local_discarded place (record_of self.old)) (widened result)
+            (record_of self.new) }
         ensures selection { OnOk result (HasSelectionRoom (record_of self.old) self.new) }
     {
         let PreparedLocal { own, all } = self.prepared_local(candidate)?;

@@ -173,7 +173,8 @@ impl<H: Sha1HmacProvider + Drop, P: LocalPreference> Agent<H, P> {
     /// The kind from which on the next turn is, after a check of the pair with this number, by whether the check went ahead.
     pub(crate) fn next_kind_after(&self, number: u64, ahead: bool) -> u8
         requires { has_number number (record_of self.now).pairs ≡ true }
-        ensures { (now : ℕ) (p : PairRecord) → ahead ≡ is_ahead_turn now (record_of self.now) → pair_numbered number (record_of self.now).pairs ≡ Some p
+        ensures { (now : ℕ) (p : PairRecord) → ahead ≡ is_ahead_turn now (record_of self.now)
+            → pair_numbered number (record_of self.now).pairs ≡ Some p
             → result ≡ next_kind_after now p (record_of self.now) }
     {
         if ahead {

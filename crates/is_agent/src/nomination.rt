@@ -6,7 +6,8 @@
 ghost use Rattle.std.specs.Prelude.{◌≡◌, ℕ, is_some};
 ghost use Rattle.is_agent.specs.View.{record_of};
 ghost use Rattle.is_agent.specs.Room.{HasEventRoom, HasPacketRoom, HasCheckRoomAt, UsesDiscoveryRoom};
-ghost use Rattle.is_rules.specs.Nominating.{nominates_at_once, followed, is_pressing, nomination_of, numbers, nominated_emitted, pair_selected, stays_nominated};
+ghost use Rattle.is_rules.specs.Nominating.{nominates_at_once, followed, is_pressing, nomination_of, numbers, nominated_emitted};
+ghost use Rattle.is_rules.specs.Nominating.{pair_selected, stays_nominated};
 ghost use Rattle.is_rules.specs.Nominating.{Nominates, NominatesWhere};
 ghost use Rattle.is_pair.specs.Pairs.{PairRecord};
 

@@ -11,7 +11,6 @@ ghost use Rattle.is_agent.specs.View.{record_of};
 ghost use Rattle.is_rules.specs.RequestView.{request_view};
 ghost use Rattle.is_agent.specs.Room.{HasServingRoom, HasPairRoom, HasPacketRoom, HasDiscoveryRoom, UsesDiscoveryRoom};
 ghost use Rattle.is_rules.specs.Forming.{formed, with_pair};
-ghost use Rattle.is_rules.specs.Again.{formed_again, may_form_again};
 ghost use Rattle.is_stun.specs.Theorems.{LONGEST_REPLY};
 ghost use Rattle.is_stun.specs.Timing.{is_modern};
 ghost use Rattle.is_rules.specs.Sending.{with_packet};
@@ -29,7 +28,6 @@ use is_pair::pair::CandidatePair;
 use is_proto::{IceError, Sha1HmacProvider, Text, Transmit, reserve_one, reserve_one_in};
 use is_rules::emitted::{Emitted, Issued, Path};
 use is_rules::forming::pair_of;
-use is_rules::leaving::may_form_again;
 use is_rules::limit::sender_place;
 use is_rules::pairs::{ServingRole, TriggeredCheck, is_valid_at, pair_between, serve_pair};
 use is_rules::places::{RemotePlace, is_discarded_at, local_place, remote_index};
@@ -286,15 +284,14 @@ impl<H: Sha1HmacProvider + Drop, P: LocalPreference> Agent<H, P> {
     }
 
     /// Adds this pair, without limit or redundancy check.
-    fn add_pair(&mut self, l: usize, r: usize)
+    pub(crate) fn add_pair(&mut self, l: usize, r: usize)
         requires local { l < length self.old.local.items }
         requires remote { r < length self.old.remote.items }
         requires pairs { HasPairRoom 1 self.old }
-        requires packets { HasPacketRoom self.old }
         requires number { self.old.next_number < MAX }
         ensures added { record_of self.new ≡ with_pair (formed (record_of self.old) l r) (record_of self.old) }
         ensures within { (l < length self.new.local.items) × (r < length self.new.remote.items) }
-        ensures packets { HasPacketRoom self.new }
+        ensures packets { HasPacketRoom self.old → HasPacketRoom self.new }
         ensures discovery { UsesDiscoveryRoom 0 self.old self.new }
     {
         let pair = self.formed(l, r);
@@ -302,33 +299,8 @@ impl<H: Sha1HmacProvider + Drop, P: LocalPreference> Agent<H, P> {
         self.next_number += 1;
     }
 
-    /// Whether the pair of these candidates may be formed again.
-    fn may_form_again(&self, at: (usize, usize)) -> bool
-        ensures { result ≡ may_form_again (record_of self.now) at }
-    {
-        may_form_again(&self.local, &self.remote, &self.pairs, at) && self.next_number < u64::MAX
-    }
-
-    /// Forms the pair of the path that was left last again, if it may be: the peer is there.
-    fn form_again(&mut self)
-        requires pairs { HasPairRoom 1 self.old }
-        requires packets { HasPacketRoom self.old }
-        ensures formed { record_of self.new ≡ formed_again (record_of self.old) }
-        ensures local { length self.new.local.items ≡ length self.old.local.items }
-        ensures remote { length self.new.remote.items ≡ length self.old.remote.items }
-        ensures packets { HasPacketRoom self.new }
-        ensures discovery { UsesDiscoveryRoom 0 self.old self.new }
-    {
-        if let Some(at) = self.left {
-            self.left = None;
-            if self.may_form_again(at) {
-                self.add_pair(at.0, at.1);
-            }
-        }
-    }
-
     /// The number of the pair of both candidates. If there is none, one is added (RFC 8445, section 7.3.1.4), unless the local candidate
-    /// is discarded. If there is one, that of the path that was left last is formed again.
+    /// is discarded.
     fn find_or_add_pair(&mut self, l: usize, r: usize, pair: Option<u64>) -> Option<u64>
         requires local { l < length self.old.local.items }
         requires remote { r < length self.old.remote.items }
@@ -342,7 +314,6 @@ impl<H: Sha1HmacProvider + Drop, P: LocalPreference> Agent<H, P> {
         ensures discovery { UsesDiscoveryRoom 0 self.old self.new }
     {
         if pair.is_some() {
-            self.form_again();
             return pair;
         }
         if is_discarded_at(&self.local, l) {

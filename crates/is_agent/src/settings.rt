@@ -3,7 +3,8 @@
 ghost use Rattle.std.specs.Prelude.{◌≡◌, ◌<◌, Some};
 ghost use Rattle.std.specs.Range.{range_inclusive_start, range_inclusive_end};
 ghost use Rattle.is_agent.specs.View.{record_of};
-ghost use Rattle.is_rules.specs.Settings.{controlling_set, SetsMtu, with_rtos, with_consent, with_profile, with_retransmits, with_lite_timeout, numbers_skipped, settings_of, with_settings};
+ghost use Rattle.is_rules.specs.Settings.{controlling_set, SetsMtu, with_rtos, with_consent, with_profile, with_retransmits};
+ghost use Rattle.is_rules.specs.Settings.{with_lite_timeout, numbers_skipped, settings_of, with_settings};
 ghost use Rattle.is_rules.specs.Questions.{ice_timeout};
 
 use crate::agent::Agent;

@@ -2,7 +2,8 @@
 
 ghost use Rattle.std.specs.Prelude.{◌≡◌, ℕ, ◌&&◌, true, not, Option, unwrap_or, OnOk};
 ghost use Rattle.is_agent.specs.View.{record_of, emitted_of};
-ghost use Rattle.is_agent.specs.Room.{HasEventRoom, HasCandidateRoom, HasSelectionRoom, HasPacketRoom, HasServingRoom, HasCheckRoomAt, UsesDiscoveryRoom};
+ghost use Rattle.is_agent.specs.Room.{HasEventRoom, HasCandidateRoom, HasSelectionRoom, HasPacketRoom, HasServingRoom, HasCheckRoomAt};
+ghost use Rattle.is_agent.specs.Room.{UsesDiscoveryRoom};
 ghost use Rattle.is_rules.specs.Agent.{AgentRecord};
 ghost use Rattle.is_rules.specs.Emitted.{nothing_emitted, selected_only};
 ghost use Rattle.is_rules.specs.Nominating.{Nominates};

@@ -143,7 +143,8 @@ impl<H: Sha1HmacProvider + Drop, P: LocalPreference> Agent<H, P> {
 
     /// Checks the pair that is next, if one is due, and records the packet.
     fn check_next<R: Rng>(&mut self, now: Instant, rng: &mut R)
-        requires room { (nominates_at_once (record_of self.old) || list_any (is_due now.0 self.old.timing) (record_of self.old).pairs) ≡ true → HasCheckRoom self.old }
+        requires room { (nominates_at_once (record_of self.old) || list_any (is_due now.0 self.old.timing) (record_of self.old).pairs)
+            ≡ true → HasCheckRoom self.old }
         ensures { (peer : model.IceCreds) (first second : Option Path) → self.old.remote_creds ≡ Some peer
             → emitted_of self.old ≡ emitted_by None first second → (issued : Option Issued)
             × ChecksNext H.mac now.0 peer (record_of self.old) (R.stream rng.old) issued (record_of self.new) (R.stream rng.new)
@@ -253,7 +254,8 @@ impl<H: Sha1HmacProvider + Drop, P: LocalPreference> Agent<H, P> {
 // ---- the call
 
 impl<H: Sha1HmacProvider + Drop, P: LocalPreference> Agent<H, P> {
-    /// The selected pair may give way; then nomination, removal of failed pairs and a check, within the reserved capacity. What they emit is stored in the agent.
+    /// The selected pair may give way; then nomination, removal of failed pairs and a check, within the reserved capacity. What they emit is
+    /// stored in the agent.
     fn maintain_pairs<R: Rng>(&mut self, now: Instant, rng: &mut R)
         requires events { HasEventRoom 3 self.old }
         requires checks { HasCheckRoomAt now.0 self.old }
@@ -317,8 +319,10 @@ impl<H: Sha1HmacProvider + Drop, P: LocalPreference> Agent<H, P> {
     ) -> Result<(), IceError>
         requires { IsSome self.old.remote_creds }
         ensures passed { OnOk result (MatchOption (request_at now.0 (record_of self.old))
-            (MaintainsPairs H.mac now.0 (timeout_begun now.0 (record_of self.old)) (R.stream rng.old) (emitted_of self.new) (record_of self.new) (R.stream rng.new))
-            (λ q. ServesQueued H.mac q (at_request now.0 (timeout_begun now.0 (record_of self.old))) (R.stream rng.old) (emitted_of self.new) (record_of self.new)
+            (MaintainsPairs H.mac now.0 (timeout_begun now.0 (record_of self.old)) (R.stream rng.old) (emitted_of self.new)
+            (record_of self.new) (R.stream rng.new))
+            (λ q. ServesQueued H.mac q (at_request now.0 (timeout_begun now.0 (record_of self.old))) (R.stream rng.old)
+            (emitted_of self.new) (record_of self.new)
             (R.stream rng.new))) }
         ensures rejected { IfErr result (λ error. MayFailAtTimeout now.0 (record_of self.old) error) }
         ensures unchanged { IfErr result (λ _. (record_of self.new ≡ record_of self.old) × (R.stream rng.new ≡ R.stream rng.old)) }
@@ -335,8 +339,10 @@ impl<H: Sha1HmacProvider + Drop, P: LocalPreference> Agent<H, P> {
     /// Serves the first early request that is not outdated, or does the work of the call without one. Mostly the queue is empty.
     fn run_timeout<R: Rng>(&mut self, now: Instant, rng: &mut R) -> Result<(), IceError>
         ensures passed { OnOk result (MatchOption (request_at now.0 (record_of self.old))
-            (MaintainsPairs H.mac now.0 (timeout_begun now.0 (record_of self.old)) (R.stream rng.old) (emitted_of self.new) (record_of self.new) (R.stream rng.new))
-            (λ q. ServesQueued H.mac q (at_request now.0 (timeout_begun now.0 (record_of self.old))) (R.stream rng.old) (emitted_of self.new) (record_of self.new)
+            (MaintainsPairs H.mac now.0 (timeout_begun now.0 (record_of self.old)) (R.stream rng.old) (emitted_of self.new)
+            (record_of self.new) (R.stream rng.new))
+            (λ q. ServesQueued H.mac q (at_request now.0 (timeout_begun now.0 (record_of self.old))) (R.stream rng.old)
+            (emitted_of self.new) (record_of self.new)
             (R.stream rng.new))) }
         ensures rejected { IfErr result (λ error. MayFailAtTimeout now.0 (record_of self.old) error) }
         ensures unchanged { IfErr result (λ _. (record_of self.new ≡ record_of self.old) × (R.stream rng.new ≡ R.stream rng.old)) }
@@ -357,7 +363,8 @@ impl<H: Sha1HmacProvider + Drop, P: LocalPreference> Agent<H, P> {
     /// Fails with `PairIdsExhausted` if a request is served, a pair must be added and no number is left, and with
     /// `OutOfMemory`. The agent is then unchanged, and no random words were drawn.
     pub fn handle_timeout<R: Rng>(&mut self, now: Instant, rng: &mut R) -> Result<(), IceError>
-        ensures timed_out { TimesOut H.mac now.0 (record_of self.old) (R.stream rng.old) result (emitted_of self.new) (record_of self.new) (R.stream rng.new) }
+        ensures timed_out { TimesOut H.mac now.0 (record_of self.old) (R.stream rng.old) result (emitted_of self.new) (record_of self.new)
+            (R.stream rng.new) }
         // With the profile `Modern` there is a last call after each successful one, also if it served a request.
         ensures noted { IfOk result (λ _. is_modern (record_of self.old).timing ≡ true → is_some (record_of self.new).last_time ≡ true) }
     {

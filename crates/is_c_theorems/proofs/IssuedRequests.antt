@@ -10,8 +10,8 @@ use Rattle.is_rules.specs.Places.{local_place}
 use Rattle.is_rules.specs.Queue.{request_at}
 use Rattle.is_rules.specs.Serving.{is_for_other_peer, is_misled, request_counted, with_sender, with_sender_at, Serves}
 use Rattle.is_rules.specs.Steps as agent
-use Rattle.is_rules.proofs.ServedRequests.RulesInTurn.{forgotten, in_turn, AddsUnknownSender, CountsAndServes, FindsSender, Joins}
-use Rattle.is_rules.proofs.ServedRequests.RulesInTurn.{RecordsAndResponds, ResolvesRoleConflictBy}
+use Rattle.is_rules.proofs.ServedRequests.RulesInTurn.{in_turn, AddsUnknownSender, CountsAndServes, FindsSender, Joins, RecordsAndResponds}
+use Rattle.is_rules.proofs.ServedRequests.RulesInTurn.{ResolvesRoleConflictBy}
 use Rattle.is_c_theorems.proofs.Common.{[], ◌==◌, ◌∙◌, ◌≡◌, Absent, AgentRecord, ap, Bool, Call, candidate_at, CandidateRecord, Class}
 use Rattle.is_c_theorems.proofs.Common.{conflict_of, Emitted, Entry, Err, false, fill_bytes, HandlesFailure, IceCreds, IceError, inl, inr}
 use Rattle.is_c_theorems.proofs.Common.{is_role_conflict, Issued, issued_as, List, MatchBool, MatchOption, MaySelect, Message, None}
@@ -56,8 +56,7 @@ module _ {H P : Type 0} (mac : H → List ℕ → List ℕ → List ℕ) where
   records q l r number s new emitted (path, mid, nominates, (put, is, made)) = ap (λ (e : Emitted). issues_check e.issued) is
 
   joins : (q : RequestRecord) (l r : ℕ) (s new : AgentRecord H P) (emitted : Emitted) → Joins mac q l r s emitted new → issues_check emitted.issued ≡ false
-  joins q l r s new emitted (Some number, between, inl k) = records q l r number (forgotten s) new emitted k
-  joins q l r s new emitted (Some number, between, inr (i, j, may, k)) = records q l r number (with_pair (formed s i j) (forgotten s)) new emitted k
+  joins q l r s new emitted (Some number, between, k) = records q l r number s new emitted k
   joins q l r s new emitted (None, between, k) = either (candidate_at s.local l).discarded (silent emitted)
       (λ j. records q l r s.next_number (with_pair (formed s l r) s) new emitted j.1) k
 

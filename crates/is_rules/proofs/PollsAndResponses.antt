@@ -4,3 +4,4 @@ pub mod TimesWithinCredit
 pub mod AddressesInResponses
 pub mod LastTime
 pub mod CalmTimeouts
+pub mod FormedAgain

@@ -1,4 +1,4 @@
--- A path that was left is checked again once the peer shows that it is there: its next request on another path forms the pair again.
+-- A path that was left is checked again: the next success response, which arrives on another path, forms its pair again.
 use Rattle.std.specs.Prelude.{ℕ, ◌+◌, ◌&&◌, Bool, not, nat_lt, List, [], ◌∷◌, ◌++◌, length, Option, Some, None, if◌then◌else◌}
 use Rattle.std.specs.List.{list_any}
 use Rattle.std.specs.Option.{option_and_then}
@@ -32,7 +32,7 @@ number_after None number = number
 number_after (Some p) number = number + 1
 
 module _ {H P : Type 0} where
-  -- and a number is left for the pair
+  -- The pair of these candidates may be formed again, and a number is left for it.
   abbrev pub may_form_again : AgentRecord H P → ℕ × ℕ → Bool
   may_form_again a at = may_form_between a.local a.remote a.pairs at && nat_lt a.next_number MAX
 

@@ -18,6 +18,7 @@ use Rattle.is_stun.specs.Message.{Message}
 use Rattle.is_rules.specs.declared.emitted.Path.{Path}
 use Rattle.is_rules.specs.declared.emitted.Emitted.{Emitted}
 use Rattle.is_rules.specs.Emitted.{selected_only}
+use Rattle.is_rules.specs.Again.{formed_again}
 use Rattle.is_rules.specs.Agent.{AgentRecord}
 use Rattle.is_rules.specs.Sending.{path_of}
 use Rattle.is_rules.specs.Limit.{has_local_room}
@@ -86,10 +87,10 @@ module _ {H P : Type 0} where
   Concludes now old emitted new =
       (path : Option Path) × (mid : AgentRecord H P) × Nominates old path mid × (emitted ≡ selected_only path) × (new ≡ evaluated now mid)
 
-  -- The pair records the success response. Then nomination and state are evaluated.
+  -- The pair records the success response, and that of the path that was left last is formed again. Then nomination and state are evaluated.
   abbrev pub HandlesSuccess : ℕ → AgentRecord H P → Path → Message → Emitted → AgentRecord H P → Type 0
   HandlesSuccess now old via m emitted new =
-      (recorded : AgentRecord H P) × Records now old via m recorded × Concludes now recorded emitted new
+      (recorded : AgentRecord H P) × Records now old via m recorded × Concludes now (formed_again recorded) emitted new
 
   -- ---- errors: any pair with the pending transaction, on the reverse of whose path the packet was received, may take it
 

@@ -26,7 +26,6 @@ use Rattle.is_rules.specs.declared.emitted.Path.{Path}
 use Rattle.is_rules.specs.declared.emitted.Emitted.{Emitted}
 use Rattle.is_rules.specs.Emitted.{nothing_emitted, issued_as, issued_only, emitted_by, reversed}
 use Rattle.is_rules.specs.Request.{RequestRecord}
-use Rattle.is_rules.specs.Again.{formed_again}
 use Rattle.is_rules.specs.Agent.{AgentRecord}
 use Rattle.is_pair.specs.Multiset.{change_pair, is_valid_at, IsPairBetween}
 use Rattle.is_rules.specs.Places.{local_place, remote_index}
@@ -164,10 +163,9 @@ module _ {H P : Type 0} where
   pair_number l (Some number) s = Some number
   pair_number l None s = if (candidate_at s.local l).discarded then None else Some s.next_number
 
-  -- The pair of both candidates is added, if there is none, without regard to the limit and to redundancy (RFC 8445, section 7.3.1.4). If
-  -- there is one, that of the path that was left last is formed again.
+  -- The pair of both candidates is added, if there is none, without regard to the limit and to redundancy (RFC 8445, section 7.3.1.4).
   abbrev pub pair_added : ℕ → ℕ → Option ℕ → AgentRecord H P → AgentRecord H P
-  pair_added l r (Some number) s = formed_again s
+  pair_added l r (Some number) s = s
   pair_added l r None s = if (candidate_at s.local l).discarded then s else with_pair (formed s l r) s
 
   -- when a request triggers a check: at once, and not before the last `handle_timeout` call

@@ -85,7 +85,8 @@ impl PairTest for GoesBack<'_> {
 /// The number of a pair that has a pending transaction with this ID, and on the reverse of whose path the packet was received.
 pub fn pair_awaiting(pairs: &Checklist, sides: Sides<'_>, via: &Path, id: TransId) -> Option<u64>
     requires { are_placed sides.local.now sides.remote.now (multiset_of pairs.now) ≡ true }
-    ensures any { list_any (is_awaiting id.0 (λ p. is_reverse via.now (path_in (sides_view sides.entry) p))) (multiset_of pairs.now) ≡ is_some result }
+    ensures any { list_any (is_awaiting id.0 (λ p. is_reverse via.now (path_in (sides_view sides.entry) p))) (multiset_of pairs.now)
+        ≡ is_some result }
     ensures kept { IfSome result (λ number. (p : PairRecord) × (pair_numbered number (multiset_of pairs.now) ≡ Some p)
         × (is_awaiting id.0 (λ p. is_reverse via.now (path_in (sides_view sides.entry) p)) p ≡ true)) }
 {

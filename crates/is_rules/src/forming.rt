@@ -145,7 +145,8 @@ fn try_one(
     requires number { next_number.old < MAX }
     requires last { are_below next_number.old (multiset_of pairs.old) ≡ true }
     ensures placed { are_placed sides.entry.local.now sides.entry.remote.now (multiset_of pairs.new) ≡ true }
-    ensures tries { Tries (sides_view sides.entry) at (formed_as (multiset_of pairs.old) next_number.old) (formed_as (multiset_of pairs.new) next_number.new) }
+    ensures tries { Tries (sides_view sides.entry) at (formed_as (multiset_of pairs.old) next_number.old)
+        (formed_as (multiset_of pairs.new) next_number.new) }
     ensures room { (n : ℕ) → HasRoom (n + 1) pairs.old → HasRoom n pairs.new }
     ensures next { next_number.new ≤ next_number.old + 1 }
     ensures below { are_below next_number.new (multiset_of pairs.new) ≡ true }
@@ -183,7 +184,8 @@ fn try_next(
     requires last { are_below next_number.old (multiset_of pairs.old) ≡ true }
     ensures placed { are_placed sides.entry.local.now sides.entry.remote.now (multiset_of pairs.new) ≡ true }
     ensures held { AreHeld (sides_view sides.entry) held.new (multiset_of pairs.new) }
-    ensures tries { Tries (sides_view sides.entry) at (formed_as (multiset_of pairs.old) next_number.old) (formed_as (multiset_of pairs.new) next_number.new) }
+    ensures tries { Tries (sides_view sides.entry) at (formed_as (multiset_of pairs.old) next_number.old)
+        (formed_as (multiset_of pairs.new) next_number.new) }
     ensures room { (n : ℕ) → HasRoom (n + 1) pairs.old → HasRoom n pairs.new }
     ensures next { next_number.new ≤ next_number.old + 1 }
     ensures below { are_below next_number.new (multiset_of pairs.new) ≡ true }

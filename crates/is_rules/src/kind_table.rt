@@ -28,7 +28,8 @@ pub(crate) struct KindTable<'a> {
     ranked: usize,
     ranks: [u8; 100],
     remote_networks: [u64; 100],
-    ghost right: { (place : ℕ) → place < 100 → place < length local.now → slice_index reaches place ≡ reach_of local.now (candidate_at local.now place) },
+    ghost right: { (place : ℕ) → place < 100 → place < length local.now
+        → slice_index reaches place ≡ reach_of local.now (candidate_at local.now place) },
     ghost near: { (place : ℕ) → place < 100 → place < length local.now → slice_index networks place ≡ base_network (candidate_at local.now place) },
     ghost few: { ranked ≤ 100 },
     ghost known: { (place : ℕ) → place < ranked → slice_index ranks place ≡ remote_rank (candidate_at remote.now place) },
@@ -188,7 +189,8 @@ impl<'a> KindTable<'a> {
     #[inline(always)]
     fn is_inner(&self, pair: &CandidatePair) -> bool
         requires placed { is_placed self.now.local.now self.now.remote.now pair.now ≡ true }
-        ensures { result ≡ is_inner (reach_of self.now.local.now (candidate_at self.now.local.now pair.now.local)) (candidate_at self.now.local.now pair.now.local) (candidate_at self.now.remote.now pair.now.remote) }
+        ensures { result ≡ is_inner (reach_of self.now.local.now (candidate_at self.now.local.now pair.now.local))
+            (candidate_at self.now.local.now pair.now.local) (candidate_at self.now.remote.now pair.now.remote) }
     {
         let reach = self.reach_at(pair.local_idx());
         reach == INSIDE

@@ -8,8 +8,10 @@ ghost use Rattle.is_pair.specs.Pairs.{PairRecord};
 ghost use Rattle.is_pair.specs.Due.{is_due};
 ghost use Rattle.is_pair.specs.Checklists.{multiset_of};
 ghost use Rattle.is_rules.specs.Kept.{is_placed, are_placed};
-ghost use Rattle.is_rules.specs.Kinds.{counted_kind, is_reflexive, is_reflexive_of, is_reflexive_like, reach_of, network_of, base_network, own_network, is_inner, kind_rank, version_rank};
-ghost use Rattle.is_rules.specs.Kinds.{OUTSIDE, INSIDE, UNKNOWN, is_brought, kind_of, remote_rank, turn_of, turn_of_pair, goes_first, is_first_due, KINDS, TurnsBefore, IsNextAhead};
+ghost use Rattle.is_rules.specs.Kinds.{counted_kind, is_reflexive, is_reflexive_of, is_reflexive_like, reach_of, network_of, base_network};
+ghost use Rattle.is_rules.specs.Kinds.{own_network, is_inner, kind_rank, version_rank};
+ghost use Rattle.is_rules.specs.Kinds.{OUTSIDE, INSIDE, UNKNOWN, is_brought, kind_of, remote_rank, turn_of, turn_of_pair, goes_first};
+ghost use Rattle.is_rules.specs.Kinds.{is_first_due, KINDS, TurnsBefore, IsNextAhead};
 
 use crate::kind_table::KindTable;
 use crate::nomination::is_named_by;
@@ -86,7 +88,8 @@ pub(crate) const UNKNOWN: u8 = 2;
 
 /// What is known of packets from a base, by candidates that count as server-reflexive.
 fn reach_of_base(local: &[Candidate], address: SocketAddr) -> u8
-    ensures { result ≡ (if list_any (is_reflexive_of address) local.now then OUTSIDE else (if list_any (is_reflexive_like address) local.now then INSIDE else UNKNOWN)) }
+    ensures { result ≡ (if list_any (is_reflexive_of address) local.now then OUTSIDE else
+        (if list_any (is_reflexive_like address) local.now then INSIDE else UNKNOWN)) }
 {
     if has_reflexive(local, address) {
         OUTSIDE
@@ -253,7 +256,8 @@ fn is_brought(remote: &[Candidate], pair: &CandidatePair) -> bool
 /// The turn of the pair in the round.
 fn turn_of_pair(round: &Round<'_>, pair: &CandidatePair) -> u8
     requires placed { is_placed round.now.kinds.now.local.now round.now.kinds.now.remote.now pair.now ≡ true }
-    ensures { result ≡ turn_of_pair round.now.kinds.now.local.now round.now.kinds.now.remote.now round.now.precedence round.now.next round.now.time.0 round.now.timing.now pair.now }
+    ensures { result ≡ turn_of_pair round.now.kinds.now.local.now round.now.kinds.now.remote.now round.now.precedence round.now.next
+        round.now.time.0 round.now.timing.now pair.now }
 {
     if is_named_by(round.precedence.selected, pair) {
         0
@@ -278,8 +282,10 @@ fn is_due(pair: &CandidatePair, round: &Round<'_>) -> bool
 fn turns_before(p: &CandidatePair, q: &CandidatePair, round: &Round<'_>) -> bool
     requires first { is_placed round.now.kinds.now.local.now round.now.kinds.now.remote.now p.now ≡ true }
     requires second { is_placed round.now.kinds.now.local.now round.now.kinds.now.remote.now q.now ≡ true }
-    ensures before { result ≡ true → TurnsBefore round.now.kinds.now.local.now round.now.kinds.now.remote.now round.now.precedence round.now.next round.now.time.0 round.now.timing.now p.now q.now }
-    ensures following { result ≡ false → TurnsBefore round.now.kinds.now.local.now round.now.kinds.now.remote.now round.now.precedence round.now.next round.now.time.0 round.now.timing.now q.now p.now }
+    ensures before { result ≡ true → TurnsBefore round.now.kinds.now.local.now round.now.kinds.now.remote.now round.now.precedence
+        round.now.next round.now.time.0 round.now.timing.now p.now q.now }
+    ensures following { result ≡ false → TurnsBefore round.now.kinds.now.local.now round.now.kinds.now.remote.now round.now.precedence
+        round.now.next round.now.time.0 round.now.timing.now q.now p.now }
 {
     let ours = turn_of_pair(round, p);
     let theirs = turn_of_pair(round, q);
@@ -294,8 +300,10 @@ fn earlier<'a>(
 ) -> Option<&'a CandidatePair>
     requires first { IfSome (option_copied first) (λ p. is_placed round.now.kinds.now.local.now round.now.kinds.now.remote.now p ≡ true) }
     requires placed { is_placed round.now.kinds.now.local.now round.now.kinds.now.remote.now pair.now ≡ true }
-    ensures { (done : List PairRecord) → IsNextAhead round.now.kinds.now.local.now round.now.kinds.now.remote.now round.now.precedence round.now.next round.now.time.0 round.now.timing.now done (option_copied first.entry)
-        → IsNextAhead round.now.kinds.now.local.now round.now.kinds.now.remote.now round.now.precedence round.now.next round.now.time.0 round.now.timing.now (pair.now ∷ done) (option_copied result) }
+    ensures { (done : List PairRecord) → IsNextAhead round.now.kinds.now.local.now round.now.kinds.now.remote.now round.now.precedence
+        round.now.next round.now.time.0 round.now.timing.now done (option_copied first.entry)
+        → IsNextAhead round.now.kinds.now.local.now round.now.kinds.now.remote.now round.now.precedence round.now.next round.now.time.0
+        round.now.timing.now (pair.now ∷ done) (option_copied result) }
 {
     if !is_due(pair, round) {
         return first;
@@ -346,7 +354,8 @@ pub fn next_ahead<'a>(
 /// Of the pairs that are due, the one that comes first in the round.
 fn first_in_round<'a>(pairs: &'a Checklist, round: &Round<'_>) -> Option<&'a CandidatePair>
     requires placed { are_placed round.now.kinds.now.local.now round.now.kinds.now.remote.now (multiset_of pairs.now) ≡ true }
-    ensures { IsNextAhead round.now.kinds.now.local.now round.now.kinds.now.remote.now round.now.precedence round.now.next round.now.time.0 round.now.timing.now
+    ensures { IsNextAhead round.now.kinds.now.local.now round.now.kinds.now.remote.now round.now.precedence round.now.next
+        round.now.time.0 round.now.timing.now
         (multiset_of pairs.now) (option_copied result) }
 {
     let mut first = None;

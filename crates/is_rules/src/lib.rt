@@ -1,7 +1,8 @@
 //! The rules of an ICE agent (RFC 8445); the agent that implements them: `is_agent`.
 //!
 //! They define what each call does to an agent's abstract state, and what any transition can do. What any execution can do is in
-//! `is_theorems`. The functions here are those of the rules that need only parts of an agent. A file of the same name in `is_agent` has the agent's part.
+//! `is_theorems`. The functions here are those of the rules that need only parts of an agent. A file of the same name in `is_agent` has
+//! the agent's part.
 #![tactic(auto)]
 
 pub mod accepting;

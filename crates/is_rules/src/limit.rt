@@ -5,7 +5,8 @@ ghost use Rattle.std.specs.Prelude.{◌≡◌, ◌<◌, count_by, drop, length};
 ghost use Rattle.is_pair.specs.Checklists.{multiset_of};
 ghost use Rattle.is_rules.specs.Forming.{is_alive};
 ghost use Rattle.is_rules.specs.RequestView.{request_view};
-ghost use Rattle.is_rules.specs.Limit.{discovered_count, is_below, is_full, has_room, has_local_room, is_mapped, is_vacant, mapped_count, IsVacancy, IsRoom, IsPlaceOf, newest};
+ghost use Rattle.is_rules.specs.Limit.{discovered_count, is_below, is_full, has_room, has_local_room, is_mapped, is_vacant, mapped_count};
+ghost use Rattle.is_rules.specs.Limit.{IsVacancy, IsRoom, IsPlaceOf, newest};
 
 use crate::accepting::Source;
 use crate::places::{RemotePlace, candidate_at, remote_place};

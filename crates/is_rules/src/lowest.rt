@@ -134,7 +134,8 @@ fn go_on(
 fn going_counts(pairs: &Checklist, going: &Going<'_>) -> [usize; 9]
     requires placed { are_placed going.now.kinds.now.local.now going.now.kinds.now.remote.now (multiset_of pairs.now) ≡ true }
     ensures { AreCounted (kind_of going.now.kinds.now.local.now going.now.kinds.now.remote.now)
-        (filter (is_low_of_kind going.now.kinds.now.local.now going.now.kinds.now.remote.now going.now.last.now.priorities going.now.last.now.numbers) (multiset_of pairs.now)) result }
+        (filter (is_low_of_kind going.now.kinds.now.local.now going.now.kinds.now.remote.now going.now.last.now.priorities
+        going.now.last.now.numbers) (multiset_of pairs.now)) result }
 {
     let mut counts = [0; 9];
     for pair in pairs.as_slice() {

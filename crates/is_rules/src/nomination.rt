@@ -275,7 +275,8 @@ impl PairChange for Renominates {
 pub fn begin_nomination(pairs: &mut Checklist, number: u64, begins: bool)
     ensures begun { multiset_of pairs.new ≡ (if begins then change_pair number renominated (multiset_of pairs.old) else multiset_of pairs.old) }
     ensures has { has_number number (multiset_of pairs.old) ≡ true → has_number number (multiset_of pairs.new) ≡ true }
-    ensures placed { (local remote : List CandidateRecord) → are_placed local remote (multiset_of pairs.old) ≡ true → are_placed local remote (multiset_of pairs.new) ≡ true }
+    ensures placed { (local remote : List CandidateRecord) → are_placed local remote (multiset_of pairs.old) ≡ true
+        → are_placed local remote (multiset_of pairs.new) ≡ true }
     ensures check_room { (n : ℕ) → checklists.HasCheckRoom n pairs.old → checklists.HasCheckRoom n pairs.new }
     ensures below { (n : ℕ) → are_below n (multiset_of pairs.old) ≡ true → are_below n (multiset_of pairs.new) ≡ true }
 {
@@ -305,7 +306,8 @@ pub fn select_pair(
 ) -> Option<Path>
     requires { are_placed sides.local.now sides.remote.now (multiset_of pairs.old) ≡ true }
     ensures placed { are_placed sides.entry.local.now sides.entry.remote.now (multiset_of pairs.new) ≡ true }
-    ensures named { Names (sides_view sides.entry) followed (selection (multiset_of pairs.old) selected.old) result (selection (multiset_of pairs.new) selected.new) }
+    ensures named { Names (sides_view sides.entry) followed (selection (multiset_of pairs.old) selected.old) result
+        (selection (multiset_of pairs.new) selected.new) }
     ensures room { (n : ℕ) → HasRoom n pairs.old → HasRoom n pairs.new }
     ensures check_room { (n : ℕ) → checklists.HasCheckRoom n pairs.old → checklists.HasCheckRoom n pairs.new }
     ensures below { (n : ℕ) → are_below n (multiset_of pairs.old) ≡ true → are_below n (multiset_of pairs.new) ≡ true }

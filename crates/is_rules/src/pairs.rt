@@ -149,8 +149,10 @@ pub fn serve_pair(
     role: ServingRole,
     check: TriggeredCheck,
 )
-    ensures placed { (local remote : List CandidateRecord) → are_placed local remote (multiset_of pairs.old) ≡ true → are_placed local remote (multiset_of pairs.new) ≡ true }
-    ensures served { multiset_of pairs.new ≡ change_pair number (λ p. served role.controlling role.lite (request_view request.now) (triggered check.modern check.at.0 p)) (multiset_of pairs.old) }
+    ensures placed { (local remote : List CandidateRecord) → are_placed local remote (multiset_of pairs.old) ≡ true
+        → are_placed local remote (multiset_of pairs.new) ≡ true }
+    ensures served { multiset_of pairs.new ≡ change_pair number
+        (λ p. served role.controlling role.lite (request_view request.now) (triggered check.modern check.at.0 p)) (multiset_of pairs.old) }
     ensures room { (n : ℕ) → HasRoom n pairs.old → HasRoom n pairs.new }
     ensures below { (n : ℕ) → are_below n (multiset_of pairs.old) ≡ true → are_below n (multiset_of pairs.new) ≡ true }
 {

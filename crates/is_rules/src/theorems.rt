@@ -1,7 +1,8 @@
 //! The lemmas and theorems of each transition of an agent. Each is the contract of a function that does nothing. Those of
 //! executions are in `is_theorems`.
 
-ghost use Rattle.is_rules.specs.TimeoutTimes.{TimeoutIsAhead, TimeoutIsInTime, TimeoutIsSoon, TimeoutIsGiven, TimeoutKeepsCredit, CallsAreNoted, CallsAreFollowed, NominationsAreSent};
+ghost use Rattle.is_rules.specs.TimeoutTimes.{TimeoutIsAhead, TimeoutIsInTime, TimeoutIsSoon, TimeoutIsGiven, TimeoutKeepsCredit};
+ghost use Rattle.is_rules.specs.TimeoutTimes.{CallsAreNoted, CallsAreFollowed, NominationsAreSent};
 
 use is_candidate::LocalPreference;
 use is_proto::Sha1HmacProvider;

@@ -94,9 +94,11 @@ pub use Rattle.is_rules.proofs.PollsAndResponses.NextTimeout.{all-are-scheduled,
 pub use Rattle.is_rules.proofs.PollsAndResponses.NextTimeout.{timeouts-in-time}
 pub use Rattle.is_rules.proofs.ServedRequests.RulesInTurn.{AddsPairAndResponds, AddsUnknownSender, CountsAndServes, FindsOrAddsPair}
 pub use Rattle.is_rules.proofs.ServedRequests.RulesInTurn.{FindsSender, in_turn, RecordsAndResponds, resolved_in_turn, ResolvesRoleConflict}
-pub use Rattle.is_rules.proofs.ServedRequests.RulesInTurn.{forgotten, MayForm, ResolvesRoleConflictBy}
+pub use Rattle.is_rules.proofs.PollsAndResponses.FormedAgain.{each-way, forgotten, MayForm}
+pub use Rattle.is_rules.proofs.ServedRequests.RulesInTurn.{ResolvesRoleConflictBy}
 pub use Rattle.is_rules.specs.Accepting.{discovered_emitted, HandlesPacket, is_discovered, is_passed_over, IsAcceptedAs, IsAcceptedOn}
 pub use Rattle.is_rules.specs.Accepting.{IsAddressed, reports_none, Takes}
+pub use Rattle.is_rules.specs.Again.{formed_again}
 pub use Rattle.is_rules.specs.Agent.{AgentRecord, default_timing, fresh, no_stats}
 pub use Rattle.is_rules.specs.Answers.{after_error, error_noted, HandlesFailure, HandlesSuccess, is_known_address, is_left_out, is_reverse}
 pub use Rattle.is_rules.specs.Answers.{is_role_conflict, keeps_check_on, LeavesRole, local_with, mapped_added, mapped_candidate, Records}
@@ -210,7 +212,7 @@ pub use Rattle.is_theorems.specs.KindsInTurn.{AtTimeoutsIn, HasPathIn, IsDelayed
 pub use Rattle.is_theorems.specs.KindsInTurn.{TakesTurns, WaitsInRounds}
 pub use Rattle.is_theorems.specs.Logs.{Answered, AnswersAt, AskedBy, AsksAt, clears_at, has_numbers, IsAnsweredBy, IsSent, last_selected}
 pub use Rattle.is_theorems.specs.Logs.{Logged, NeverLite, NominatedByPeer, numbering_of, numbering_set_by, remote_of, replies, requests}
-pub use Rattle.is_theorems.specs.NotStarved.{AreSteady, ConsentLastsIn, HaveConsent, is_steady, is_timeout, NoneIsStarved, RequestsAddFew}
+pub use Rattle.is_theorems.specs.NotStarved.{AreSteady, ConsentLastsIn, HaveConsent, is_steady, is_timeout, NoneIsStarved, PacketsAddFew}
 pub use Rattle.is_theorems.specs.NotStarved.{timeout_count}
 pub use Rattle.is_theorems.specs.Numbered.{given, GoesByNumbers, GreatestAreKept, GreatestAreLast, GreatestAreSelected, GreatestStay}
 pub use Rattle.is_theorems.specs.Numbered.{IsNumberedByPeer, LeadsByNumber, LeadsWith, number_taken, StaysAhead, StaysGreatest}

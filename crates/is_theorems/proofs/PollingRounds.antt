@@ -11,4 +11,4 @@ pub mod AddedCandidatesPerAgent
 pub mod AddedCandidatesInLogs
 pub mod FirstRoundWithoutValidPair
 pub mod LimitedPairs
-pub mod LimitedPairsAndRequests
+pub mod LimitedPairsAndPackets

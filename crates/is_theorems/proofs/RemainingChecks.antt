@@ -1,4 +1,4 @@
 -- How many checks pairs still send before they may be removed.
 pub mod RemainingOfPairs
 pub mod RemainingAfterRules
-pub mod PairsThatRequestsAdd
+pub mod PairsThatPacketsAdd

@@ -80,14 +80,14 @@ module _ {H P : Type 0} where
     abbrev pub FormsFew : ℕ → AgentRecord H P → Stream → List (Logged P) → Type 0
     FormsFew limit first s log = AtEach mac answers first s log (λ before mid x after. may_form x.call ≡ true → mid.max_pairs ≤ limit)
 
-    -- Forming leaves at most that many pairs. Then a request adds a pair only of two candidates that have none. So there are at most
+    -- Forming leaves at most that many pairs. Then a packet adds a pair only of two candidates that have none. So there are at most
     -- as many pairs as the limit plus the number of local candidates times that of remote ones.
     abbrev pub PairsAreFew : AgentRecord H P → Stream → List (Logged P) → Type 0
     PairsAreFew first s log =
         (limit : ℕ) → FormsFew limit first s log
         → AtEach mac answers first s log (λ before mid x after. length after.pairs ≤ limit + length after.local * length after.remote)
 
-    -- With both limits the bound depends on the caller only. Local candidates that responses bring do not count: requests add pairs only
+    -- With both limits the bound depends on the caller only. Local candidates that responses bring do not count: packets add pairs only
     -- at host and relayed ones.
     abbrev pub PairsAreBounded : AgentRecord H P → Stream → List (Logged P) → Type 0
     PairsAreBounded first s log =

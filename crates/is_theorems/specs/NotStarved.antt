@@ -42,7 +42,7 @@ module _ {H P : Type 0} where
   abbrev pub HaveConsent : ℕ → AgentRecord H P → Type 0
   HaveConsent now a = (p : PairRecord) → Has a.pairs p → has_consent (consent_of a.timing) now p ≡ true
 
-  -- So many rounds are enough, whatever pairs requests add in them. For p pairs when they begin, at most n when they end, and m retransmits,
+  -- So many rounds are enough, whatever pairs packets add in them. For p pairs when they begin, at most n when they end, and m retransmits,
   -- m at least 2, k rounds are enough if k is at least (2p + n - 1) * m / (m - 1). If checks may go ahead, m is at least 3, and k at least
   -- (4p + 2n - 1) * m / (m - 2). If s nominations may be sent at once, read n + s for n: each takes one of the rounds, and nothing that the
   -- caller chooses bounds how many paths are selected in them.
@@ -51,7 +51,7 @@ module _ {H P : Type 0} where
       checks_for (is_modern a.timing) (2 * pairs + bound + nominations_ahead a selections) * a.timing.max_retransmits + checks_for (is_modern a.timing) rounds
       ≤ (rounds + 1) * a.timing.max_retransmits
 
-  -- The rounds suffice for a pair that is due by the time `by` when they begin, whatever pairs requests add in them.
+  -- The rounds suffice for a pair that is due by the time `by` when they begin, whatever pairs packets add in them.
   pub record SufficeSteady (bound by : ℕ) (start : AgentRecord H P) (rounds : List (LoggedRound P)) (p : PairRecord) : Type 0 where
     pub at : ℕ
     pub began : began_at rounds ≡ Some at
@@ -70,17 +70,17 @@ module _ {H P : Type 0} where
         ((now : ℕ) → x.call ≡ HandleTimeout now → HaveConsent now run.0) × ConsentLastsIn before start s part run.0 run.1 run.2
 
     -- A pair with consent is removed after timeout only after m checks, and a `handle_timeout` call sends one check. So in a segment with
-    -- k of these calls, in which consent lasts, requests add at most k / m pairs, and one for each pair that exists afterwards. With either
+    -- k of these calls, in which consent lasts, packets add at most k / m pairs, and one for each pair that exists afterwards. With either
     -- profile renomination may be switched on in it.
-    abbrev pub RequestsAddFewIn : AgentRecord H P → Stream → List (Logged P) → Type 0
-    RequestsAddFewIn first s log =
+    abbrev pub PacketsAddFewIn : AgentRecord H P → Stream → List (Logged P) → Type 0
+    PacketsAddFewIn first s log =
         (before part : List (Logged P)) (start last : AgentRecord H P) → (found : Part mac answers first s log before start part last)
         → start.lite ≡ false → AreSteady false part → ConsentLastsIn before start found.at part last found.following found.run
         → last.next_number * start.timing.max_retransmits
         ≤ (start.next_number + length last.pairs) * start.timing.max_retransmits + timeout_count part
 
-    abbrev pub RequestsAddFew : Type 0
-    RequestsAddFew = (first : AgentRecord H P) (s : Stream) (log : List (Logged P)) → IsFresh first → RequestsAddFewIn first s log
+    abbrev pub PacketsAddFew : Type 0
+    PacketsAddFew = (first : AgentRecord H P) (s : Stream) (log : List (Logged P)) → IsFresh first → PacketsAddFewIn first s log
 
     -- If consent lasts in the rounds, a check is sent on the pair's path in one of them, unless a success response is received on it in
     -- one of them. Besides the caller's choices the bound depends only on how many paths are selected, if nominations have numbers.

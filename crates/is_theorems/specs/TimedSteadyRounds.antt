@@ -1,4 +1,4 @@
--- How soon a pair is checked in rounds of a log, in nanoseconds, whatever pairs requests add in them, if the caller is punctual.
+-- How soon a pair is checked in rounds of a log, in nanoseconds, whatever pairs packets add in them, if the caller is punctual.
 use Rattle.std.specs.Prelude.{◌≡◌, ℕ, true, ◌+◌, ◌*◌, ◌<◌, ◌≤◌, ◌⊎◌, List, ◌∷◌, length}
 use Rattle.rand_core.specs.Stream.{Stream}
 use Rattle.is_proto.specs.Lists.{Has}

@@ -1,6 +1,6 @@
 //! Progress: each timeout is of use; starvation freedom, whatever the agent receives.
 
-ghost use Rattle.is_theorems.specs.NotStarved.{RequestsAddFew, NoneIsStarved};
+ghost use Rattle.is_theorems.specs.NotStarved.{PacketsAddFew, NoneIsStarved};
 ghost use Rattle.is_theorems.specs.Progress.{TimeoutsAreOfUse, NoPairIsStarved};
 ghost use Rattle.is_theorems.specs.Rounds.{TurnsAreOfUse};
 
@@ -28,10 +28,10 @@ pub fn no_pair_is_starved<H: Sha1HmacProvider, P: LocalPreference>()
 {}
 
 /// From a newly created agent that is not lite: in a segment with k `handle_timeout` calls, in which the caller adds no candidate and
-/// removes no pair, requests add at most k / m pairs, and one for each pair that exists afterwards. Here m is the number of
+/// removes no pair, packets add at most k / m pairs, and one for each pair that exists afterwards. Here m is the number of
 /// retransmits. With the profile `Modern` the stored pairs have consent at each of these calls.
-pub fn requests_add_few<H: Sha1HmacProvider, P: LocalPreference>()
-    ensures { RequestsAddFew H.mac P.answers }
+pub fn packets_add_few<H: Sha1HmacProvider, P: LocalPreference>()
+    ensures { PacketsAddFew H.mac P.answers }
 {}
 
 /// With limits on pairs and on what packets bring, n pairs at most, of which p are there when the rounds begin: a check is sent on the path

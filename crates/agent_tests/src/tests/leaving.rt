@@ -7,7 +7,7 @@ use super::step::Packet::*;
 use super::step::Shown::*;
 use super::step::Start::*;
 use super::step::Step::*;
-use super::step::{At, Message, Setting, Step};
+use super::step::{At, Setting, Step};
 use super::story::{Story, play};
 use super::*;
 use is::Profile;
@@ -145,12 +145,11 @@ const LEFT: [Story; 5] = [
             Shows(Connected),
         ],
     ),
-    // the peer's next request on the other path forms the pair again; it is selected again once a check of it is answered
+    // the next response on the other path forms the pair again; it is selected again once a check of it is answered
     Story(
         "the_left_path_is_checked_again",
         &[
-            Write(Message::Request(false, false), "nearpass"),
-            Takes(Served(101_430, ELSEWHERE)),
+            Takes(Answer(101_430, ELSEWHERE)),
             Holds(HasPair(PEER, true)),
             Does(CheckTo(101_471, THERE, false)),
             Takes(Answer(101_480, THERE)),

@@ -16,6 +16,7 @@ use Rattle.is_stun.specs.Message.{Message}
 use Rattle.is_agent.proofs.AgentParts.PairsByNumber.{both, find-Some, put-place}
 use Rattle.is_rules.specs.declared.emitted.Path.{Path}
 use Rattle.is_rules.specs.declared.emitted.Emitted.{Emitted}
+use Rattle.is_rules.specs.Again.{formed_again}
 use Rattle.is_rules.specs.Agent.{AgentRecord}
 use Rattle.is_rules.specs.Emitted.{nothing_emitted}
 use Rattle.is_rules.specs.Due.{IsRecorded, IsSentUnder, KeepsCheckOn}
@@ -135,7 +136,7 @@ same-pair number ps p q one other = ap (λ o. unwrap_or o p) (sym other ∙ one)
 pub success-taken : {H P : Type 0} (now : ℕ) (old recorded new : AgentRecord H P) (path : Path) (m : Message) (emitted : Emitted) (number : ℕ) (p : PairRecord) (local : List CandidateRecord)
     → rises old.pairs ≡ true → pair_numbered number old.pairs ≡ Some p → keeps_check_on old path m.id p ≡ true
     → local ≡ local_with p m.attributes.xor_mapped_address (success_counted old)
-    → IsRecorded number now m.id local old recorded → Concludes now recorded emitted new → HandlesSuccess now old path m emitted new
+    → IsRecorded number now m.id local old recorded → Concludes now (formed_again recorded) emitted new → HandlesSuccess now old path m emitted new
 success-taken now old recorded new path m emitted number p local rising found kept new_mapped_candidate (pairs, (q, after, there, takes, put), is) concludes =
     let same = same-pair number old.pairs p q found there in
     let taken = subst (λ (x : PairRecord). TakesAnswer x now m.id after) same takes in

@@ -17,7 +17,6 @@ use Rattle.is_rules.specs.Forming.{formed, with_pair}
 use Rattle.is_rules.specs.Limit.{IsSenderPlace}
 use Rattle.is_rules.specs.Places.{first_place, is_live, is_sender, place_by, IsGreatestPlace, local_place}
 use Rattle.is_rules.specs.declared.emitted.Path.{Path}
-use Rattle.is_rules.specs.Again.{formed_again}
 use Rattle.is_rules.specs.Request.{RequestRecord, request_in}
 use Rattle.is_stun.specs.Message.{Message}
 use Rattle.is_rules.specs.Roles.{conflict_of, switched}
@@ -50,7 +49,7 @@ module _ {H P : Type 0} (mac : H → List ℕ → List ℕ → List ℕ) (q : Re
 
   by_pair : (l r : ℕ) (pair : Option ℕ) (s : AgentRecord H P) → why ≡ unserved_without pair (candidate_at s.local l).discarded
       → FromPair mac q l r pair s emitted new → Says emitted why
-  by_pair l r (Some number) s is h = responds emitted why (issues l r number (formed_again s) h) (is ∙ no-second (candidate_at s.local l).discarded number)
+  by_pair l r (Some number) s is h = responds emitted why (issues l r number s h) (is ∙ no-second (candidate_at s.local l).discarded number)
   by_pair l r None s is h = by (candidate_at s.local l).discarded is h where
     by : (d : Bool) → why ≡ unserved_without None d
         → MatchOption (if d then None else Some s.next_number) (Drops s emitted new)

@@ -3,14 +3,14 @@ use Rattle.is_rules.specs.Queue.{request_at}
 use Rattle.is_rules.specs.TimeoutTimes.{CallsAreFollowed, CallsAreNoted}
 use Rattle.is_rules.proofs.Common.{◌&&◌, ◌∙◌, ◌≡◌, Absent, AgentRecord, all_scheduled, ap, arith, at_request, at_timeout, Barred, Bool}
 use Rattle.is_rules.proofs.Common.{candidate_at, ChecksTop, Conflict, conflict_of, Drops, Emitted, expired_gone, false, formed, Full}
-use Rattle.is_rules.proofs.Common.{IceCreds, inl, inr, is_expired, is_for_other_peer, is_misled, is_modern, is_some, is_valid_at, Issued, Known}
+use Rattle.is_rules.proofs.Common.{IceCreds, is_expired, is_for_other_peer, is_misled, is_modern, is_some, is_valid_at, Issued, Known}
 use Rattle.is_rules.proofs.Common.{length, List, list_any, local_place, MaintainsPairs, MatchOption, MayCheck, NextTimeoutFrom}
 use Rattle.is_rules.proofs.Common.{nominated_emitted, Nominates, NominatesWhere, None, Ok, Option, pair_served, PairRecord, Path, path_left}
 use Rattle.is_rules.proofs.Common.{refl, RemotePlace, RemovesExpired, request_counted, RequestRecord, selects_at_requests, Send487, Serves}
 use Rattle.is_rules.proofs.Common.{ServesQueued, Some, Stream, subst, switched, SwitchRole, timeout_begun, TimesOut, true, Unknown, Vacant}
 use Rattle.is_rules.proofs.Common.{with_pair, with_selection, with_sender, with_sender_at, ℕ}
 use Rattle.is_rules.proofs.PollsAndResponses.NextTimeout.{either, paced, paced-from}
-use Rattle.is_rules.proofs.ServedRequests.RulesInTurn.{in_turn, AddsUnknownSender, CountsAndServes, FindsOrAddsPair, forgotten, RecordsAndResponds}
+use Rattle.is_rules.proofs.ServedRequests.RulesInTurn.{in_turn, AddsUnknownSender, CountsAndServes, FindsOrAddsPair, RecordsAndResponds}
 use Rattle.is_rules.proofs.ServedRequests.RulesInTurn.{ResolvesRoleConflict, ResolvesRoleConflictBy}
 
 either-request : (o : Option RequestRecord) {A R : Type 0} {B : RequestRecord → Type 0} → MatchOption o A B → (A → R) → ((q : RequestRecord) → B q → R) → R
@@ -62,8 +62,7 @@ module _ {H P : Type 0} where
           ∙ nominates-where (selects_at_requests s && is_valid_at number s.pairs) (pair_served q number s) mid path selects
 
       takes : (l r : ℕ) (number : Option ℕ) (s new : AgentRecord H P) (emitted : Emitted) → FindsOrAddsPair mac q l r number s emitted new → Keeps s new
-      takes l r (Some number) s new emitted (inl h) = pair l r number (forgotten s) new emitted h
-      takes l r (Some number) s new emitted (inr (i, j, may, h)) = pair l r number (with_pair (formed s i j) (forgotten s)) new emitted h
+      takes l r (Some number) s new emitted h = pair l r number s new emitted h
       takes l r None s new emitted h = either (candidate_at s.local l).discarded h
           (λ _ k. same s new k.1)
           (λ _ k. pair l r s.next_number (with_pair (formed s l r) s) new emitted k.1)

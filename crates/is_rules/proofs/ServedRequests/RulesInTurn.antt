@@ -1,14 +1,8 @@
 -- Serving as rules, each of which ends in the next one: what proofs by one rule at a time read. The list of the steps implies it.
-use Rattle.is_candidate.specs.Candidates.{candidate_at}
-use Rattle.is_pair.specs.Multiset.{is_between}
-use Rattle.is_rules.specs.Again.{may_form_again, number_after, pairs_with}
-use Rattle.is_rules.specs.Forming.{is_alive, is_partner}
-use Rattle.is_rules.specs.Limit.{is_mapped}
 use Rattle.is_rules.specs.Sending.{path_between}
 use Rattle.is_rules.specs.StateUpdates.{state_updated}
-use Rattle.is_rules.proofs.Common.{◌&&◌, ◌<◌, ◌==◌, ◌≡◌, ◌⊎◌, Absent, AgentRecord, arith, Barred, Bool, Conflict, conflict_of, Drops, Emitted}
+use Rattle.is_rules.proofs.Common.{◌&&◌, ◌==◌, ◌≡◌, Absent, AgentRecord, Barred, Bool, candidate_at, Conflict, conflict_of, Drops, Emitted}
 use Rattle.is_rules.proofs.Common.{false, formed, Full, if◌then◌else◌, is_487, is_admitted, is_for_other_peer, is_misled, is_some}
-use Rattle.is_rules.proofs.Common.{inl, inr, list_any, nat_lt, nat_tests, option_and_then, PairRecord}
 use Rattle.is_rules.proofs.Common.{is_valid_at, IsPairBetween, IsSenderPlace, Known, length, List, local_place, MatchBool, MatchOption, MAX}
 use Rattle.is_rules.proofs.Common.{needs_pair_at, NominatesWhere, None, not, Option, pair_added, pair_number, pair_served, Path, refl}
 use Rattle.is_rules.proofs.Common.{remote_index, RemotePlace, Replies, request_counted, RequestRecord, role_after, selects_at_requests}
@@ -19,46 +13,6 @@ use Rattle.is_rules.proofs.ServedRequests.RecomputedPriorities.{between-repriori
 unequal : (b : Bool) → (b && true) ≡ false → b ≡ false
 unequal true h = h
 unequal false h = refl
-
--- no path is left
-abbrev pub forgotten : {H P : Type 0} → AgentRecord H P → AgentRecord H P
-forgotten s = record s { left = None }
-
--- the pair of these candidates may be formed again
-pub record MayForm {H P : Type 0} (s : AgentRecord H P) (i j : ℕ) : Type 0 where
-  pub in_local : i < length s.local
-  pub in_remote : j < length s.remote
-  pub own : is_mapped (candidate_at s.local i) ≡ false
-  pub unmatched : list_any (is_between i j) s.pairs ≡ false
-  pub number : s.next_number < MAX
-
-off : (b : Bool) → not b ≡ true → b ≡ false
-off true h = sym h
-off false h = refl
-
-all-seven : (a b c d e f g : Bool) → ((a && b && c && d && e && f) && g) ≡ true
-    → (a ≡ true) × (b ≡ true) × (d ≡ true) × (f ≡ true) × (g ≡ true)
-all-seven true true true true true true g h = (refl, refl, refl, refl, h)
-all-seven true true true true true false g h = absurd (cc)
-all-seven true true true true false f g h = absurd (cc)
-all-seven true true true false e f g h = absurd (cc)
-all-seven true true false d e f g h = absurd (cc)
-all-seven true false c d e f g h = absurd (cc)
-all-seven false b c d e f g h = absurd (cc)
-
-lt-from : (m n : ℕ) → nat_lt m n ≡ true → m < n
-lt-from m n h = grind (arith, nat_tests, h)
-
-may-form : {H P : Type 0} (s : AgentRecord H P) (at : ℕ × ℕ) → may_form_again s at ≡ true → MayForm s at.0 at.1
-may-form s at h =
-    let k = all-seven (nat_lt at.0 (length s.local)) (nat_lt at.1 (length s.remote)) (is_alive (candidate_at s.local at.0)) (not (is_mapped (candidate_at s.local at.0)))
-    (is_partner (candidate_at s.local at.0) (candidate_at s.remote at.1)) (not (list_any (is_between at.0 at.1) s.pairs)) (nat_lt s.next_number MAX) h in record {
-      in_local = lt-from at.0 (length s.local) k.0;
-      in_remote = lt-from at.1 (length s.remote) k.1;
-      own = off (is_mapped (candidate_at s.local at.0)) k.2;
-      unmatched = off (list_any (is_between at.0 at.1) s.pairs) k.3;
-      number = lt-from s.next_number MAX k.4;
-    }
 
 module _ {H P : Type 0} (mac : H → List ℕ → List ℕ → List ℕ) where
   -- ---- the rules in turn
@@ -73,14 +27,8 @@ module _ {H P : Type 0} (mac : H → List ℕ → List ℕ → List ℕ) where
   abbrev pub AddsPairAndResponds : RequestRecord → ℕ → ℕ → AgentRecord H P → Emitted → AgentRecord H P → Type 0
   AddsPairAndResponds q l r s emitted new = (s.next_number == MAX ≡ false) × RecordsAndResponds q l r s.next_number (with_pair (formed s l r) s) emitted new
 
-  -- A pair is formed again, or none is: then no path is left.
-  abbrev pub FormsAgain : RequestRecord → ℕ → ℕ → ℕ → AgentRecord H P → Emitted → AgentRecord H P → Type 0
-  FormsAgain q l r number s emitted new =
-      RecordsAndResponds q l r number (forgotten s) emitted new
-      ⊎ ((i j : ℕ) × MayForm s i j × RecordsAndResponds q l r number (with_pair (formed s i j) (forgotten s)) emitted new)
-
   abbrev pub FindsOrAddsPair : RequestRecord → ℕ → ℕ → Option ℕ → AgentRecord H P → Emitted → AgentRecord H P → Type 0
-  FindsOrAddsPair q l r (Some number) s emitted new = FormsAgain q l r number s emitted new
+  FindsOrAddsPair q l r (Some number) s emitted new = RecordsAndResponds q l r number s emitted new
   FindsOrAddsPair q l r None s emitted new =
       MatchBool (candidate_at s.local l).discarded (Drops s emitted new) (AddsPairAndResponds q l r s emitted new)
 
@@ -136,20 +84,7 @@ module _ {H P : Type 0} (mac : H → List ℕ → List ℕ → List ℕ) where
 
   by_pair : (q : RequestRecord) (l r : ℕ) (pair : Option ℕ) (s new : AgentRecord H P) (emitted : Emitted)
       → Left (not (is_some pair) && not (candidate_at s.local l).discarded) s → FromPair q l r pair s emitted new → FindsOrAddsPair q l r pair s emitted new
-  by_pair q l r (Some number) s new emitted left h = by s.left h where
-    -- the pair that is formed again, if any
-    after : Option PairRecord → AgentRecord H P
-    after o = record s { pairs = pairs_with o s.pairs; next_number = number_after o s.next_number; left = None }
-
-    one : (at : ℕ × ℕ) (b : Bool) → may_form_again s at ≡ b → RecordsAndResponds q l r number (after (if b then Some (formed s at.0 at.1) else None)) emitted new
-        → FormsAgain q l r number s emitted new
-    one at true is k = inr (at.0, at.1, may-form s at is, k)
-    one at false is k = inl k
-
-    by : (o : Option (ℕ × ℕ)) → RecordsAndResponds q l r number (after (option_and_then (λ (at : ℕ × ℕ). if may_form_again s at then Some (formed s at.0 at.1) else None) o)) emitted new
-        → FormsAgain q l r number s emitted new
-    by None k = inl k
-    by (Some at) k = one at (may_form_again s at) refl k
+  by_pair q l r (Some number) s new emitted left h = h
   by_pair q l r None s new emitted left h = by (candidate_at s.local l).discarded left h where
     by : (d : Bool) → Left (not d) s
         → MatchOption (if d then None else Some s.next_number) (Drops s emitted new) (λ number. RecordsAndResponds q l r number (if d then s else with_pair (formed s l r) s) emitted new)

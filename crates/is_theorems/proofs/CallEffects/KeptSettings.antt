@@ -1,6 +1,6 @@
 -- Each transition leaves the settings, except that a setter sets its own. What mutants/specifications changes is read by tactics.
 use Rattle.is_stun.specs.declared.header.Class.TheVariants as class
-use Rattle.is_theorems.proofs.Common.{forgotten}
+use Rattle.is_theorems.proofs.Common.{formed_again}
 use Rattle.is_theorems.proofs.Common.{◌&&◌, ◌==◌, ◌∙◌, ◌≡◌, Absent, AddLocalCandidate, AddRemoteCandidate, AddsUnknownSender, AgentRecord}
 use Rattle.is_theorems.proofs.Common.{all_scheduled, all_settings_of, ap, at_request, at_timeout, Barred, Becomes, Bool, candidate_at}
 use Rattle.is_theorems.proofs.Common.{CandidateRecord, ChecksTop, Class, Combination, Conflict, conflict_of, CountsAndServes, Done, Drops}
@@ -60,7 +60,7 @@ module _ {H P : Type 0} where
 
   success : (now : ℕ) (old new : AgentRecord H P) (via : Path) (m : Message) (emitted : Emitted) → HandlesSuccess now old via m emitted new → Same old new
   success now old new via m emitted (recorded, (place, p, after, at, keeps, answered, made), (named, mid, nominates, emitted_is, done)) =
-      made-of _ new done ∙ (nominates-same recorded mid named nominates ∙ made-of _ recorded made)
+      made-of _ new done ∙ (nominates-same (formed_again recorded) mid named nominates ∙ made-of _ recorded made)
 
   module _ (mac : H → List ℕ → List ℕ → List ℕ) where
     -- ---- requests
@@ -73,8 +73,7 @@ module _ {H P : Type 0} where
           (λ _ k. made-of (pair_served q number s) mid k.1)
 
       takes : (l r : ℕ) (number : Option ℕ) (s new : AgentRecord H P) (emitted : Emitted) → FindsOrAddsPair mac q l r number s emitted new → Same s new
-      takes l r (Some number) s new emitted (inl h) = pair l r number (forgotten s) new emitted h
-      takes l r (Some number) s new emitted (inr (i, j, may, h)) = pair l r number (with_pair (formed s i j) (forgotten s)) new emitted h
+      takes l r (Some number) s new emitted h = pair l r number s new emitted h
       takes l r None s new emitted h = either (candidate_at s.local l).discarded h
           (λ _ k. made-of s new k.1)
           (λ _ k. pair l r s.next_number (with_pair (formed s l r) s) new emitted k.1)

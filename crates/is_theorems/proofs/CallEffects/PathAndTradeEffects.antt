@@ -1,5 +1,6 @@
 -- The two theorems about effects, for every call.
 use Rattle.is_stun.specs.declared.header.Class.TheVariants as class
+use Rattle.is_theorems.proofs.Common.{formed_again}
 use Rattle.is_theorems.proofs.Common.{[], ◌++◌, ◌∙◌, ◌∷◌, ◌≡◌, ◌⊎◌, AgentRecord, ap, at_request, binding_reply, binding_role_conflict_reply}
 use Rattle.is_theorems.proofs.Common.{Bool, Call, CandidateRecord, Class, each-below, each-rising, Emitted, Entry, Err, false, first_taken}
 use Rattle.is_theorems.proofs.Common.{GivesBased, HandlesFailure, HandlesSuccess, HandleTimeout, Has, IceCreds, if◌then◌else◌, inl, inr}
@@ -50,7 +51,7 @@ module _ {H P : Type 0} (mac : H → List ℕ → List ℕ → List ℕ) (answer
 
   success_persists : (now : ℕ) (old new : AgentRecord H P) (via : Path) (m : Message) (emitted : Emitted) → HandlesSuccess now old via m emitted new → Persists old new
   success_persists now old new via m emitted (recorded, (i, p, after, found, on, takes, made), (path, mid, nominating, is, done)) =
-      by_made old mid new (by_made old recorded mid recorded_persists (nominates_rest recorded mid path nominating)) (ap (λ (a : AgentRecord H P). rest_of a) done) where
+      by_made old mid new (by_made old (formed_again recorded) mid again_persists (nominates_rest (formed_again recorded) mid path nominating)) (ap (λ (a : AgentRecord H P). rest_of a) done) where
         by_address : (address : Option _) → m.attributes.xor_mapped_address ≡ address → Persists old recorded
         by_address None is = record {
           checks = λ h. subst (λ (a : AgentRecord H P). KeepsChecks a.timing) (sym made) h;
@@ -64,6 +65,9 @@ module _ {H P : Type 0} (mac : H → List ℕ → List ℕ → List ℕ) (answer
 
         recorded_persists : Persists old recorded
         recorded_persists = by_address m.attributes.xor_mapped_address refl
+
+        again_persists : Persists old (formed_again recorded)
+        again_persists = record { checks = recorded_persists.checks; based = recorded_persists.based }
 
   failure_persists : (old new : AgentRecord H P) (via : Path) (m : Message) (emitted : Emitted) → HandlesFailure old via m emitted new → Persists old new
   failure_persists old new via m emitted h =

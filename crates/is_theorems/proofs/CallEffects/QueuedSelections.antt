@@ -1,6 +1,6 @@
 -- Each transition queues a `NominatedSend` only for a path that it selects. What mutants/specifications changes is read by tactics.
 use Rattle.is_stun.specs.declared.header.Class.TheVariants as class
-use Rattle.is_theorems.proofs.Common.{forgotten}
+use Rattle.is_theorems.proofs.Common.{formed_again}
 use Rattle.is_theorems.proofs.Common.{[], ◌&&◌, ◌++◌, ◌==◌, ◌∙◌, ◌∷◌, ◌≡◌, ◌⊎◌, Absent, AddLocalCandidate, AddRemoteCandidate}
 use Rattle.is_theorems.proofs.Common.{AddsUnknownSender, AgentRecord, all_scheduled, Answer, ap, at_request, at_timeout, Barred, Becomes, Bool}
 use Rattle.is_theorems.proofs.Common.{Call, candidate_at, CandidateRecord, Checking, ChecksTop, Class, cleared, Combination, Conflict}
@@ -159,8 +159,8 @@ module _ {H P : Type 0} (In : Path → Type 0) where
   success_adds now old new via m emitted may (recorded, (i, p, after, found, keeps, took, made), (o, mid, nominates, is, done)) =
       as-made old (evaluated now mid) new done
       (more old mid (evaluated now mid)
-      (more old recorded mid (same old recorded (ap (λ (a : AgentRecord H P). a.events) made))
-      (nominates_adds recorded mid o (λ path x. may path (subst (λ (y : Emitted). Has y.selected_paths (Some path)) (sym is) (inl x))) nominates))
+      (more old (formed_again recorded) mid (same old (formed_again recorded) (ap (λ (a : AgentRecord H P). a.events) made))
+      (nominates_adds (formed_again recorded) mid o (λ path x. may path (subst (λ (y : Emitted). Has y.selected_paths (Some path)) (sym is) (inl x))) nominates))
       (evaluated_adds now mid))
 
   failure_adds : (old new : AgentRecord H P) (via : Path) (m : Message) (emitted : Emitted) → HandlesFailure old via m emitted new → Adds old new
@@ -181,8 +181,7 @@ module _ {H P : Type 0} (In : Path → Type 0) where
         (more mid at new (updated_adds (is_some o) (triggered_time q s) mid) (same at new (ap (λ (a : AgentRecord H P). a.events) made)))
 
     takes : (l r : ℕ) (number : Option ℕ) (s new : AgentRecord H P) → FindsOrAddsPair mac q l r number s emitted new → Adds s new
-    takes l r (Some number) s new (inl h) = pair l r number (forgotten s) new h
-    takes l r (Some number) s new (inr (i, j, may, h)) = pair l r number (with_pair (formed s i j) (forgotten s)) new h
+    takes l r (Some number) s new h = pair l r number s new h
     takes l r None s new h = either (candidate_at s.local l).discarded h
         (λ _ k. kept s new k.1)
         (λ _ k. pair l r s.next_number (with_pair (formed s l r) s) new k.1)

@@ -1,7 +1,5 @@
 -- The effects of serving a request on pairs, and which path it selects.
 use Rattle.is_pair.specs.Pairs.{numbered as with_number}
-use Rattle.is_theorems.proofs.BasicLemmas.MembersOfLists.{has-front}
-use Rattle.is_theorems.proofs.Common.{forgotten, MayForm}
 use Rattle.is_theorems.proofs.Common.{[], ◌&&◌, ◌++◌, ◌+◌, ◌<◌, ◌||◌, ◌∙◌, ◌∷◌, ◌≡◌, ◌≢◌, ◌≤◌, ◌⊎◌, Absent, AddsUnknownSender}
 use Rattle.is_theorems.proofs.Common.{after_request, AgentRecord, ap, arith, as_taken, Barred, base_of, binding_reply}
 use Rattle.is_theorems.proofs.Common.{binding_role_conflict_reply, Bool, candidate_at, CandidateRecord, carried, change_at, Conflict}
@@ -562,35 +560,12 @@ module _ (asks : Path → ℕ → Type 0) (met : Path → Type 0) (sent : Path �
             k.2,
           )
 
-      -- another pair is formed again
-      again_does : (l r number : ℕ) (s new : AgentRecord H P) (emitted : Emitted) → Fit (parts_of asks met sent s) → AcceptsNomination s l r
-          → ((p : PairRecord) × Has s.pairs p × ((p.local ≡ l) × (p.remote ≡ r)) × (p.number ≡ number))
-          → (i j : ℕ) → MayForm s i j → RecordsAndResponds mac q l r number (with_pair (formed s i j) (forgotten s)) emitted new → Does s emitted new
-      again_does l r number s new emitted fit accepts_nomination (own, own_has, place, is) i j may h =
-          let x : Parts = parts_of asks met sent s in
-          let p : PairRecord = formed s i j in
-          let y : AgentRecord H P = with_pair p (forgotten s) in
-          let joins : Onward asks met sent x (parts_of asks met sent y) =
-          pushed asks met sent x x.pairs p fit (λ k has. has) fit.rising refl (may.in_local, may.in_remote) refl (λ (is : false ≡ true). absurd (false_true is)) (λ (is : false ≡ true). absurd (false_true is)) (λ (is : false ≡ true). absurd (false_true is)) (λ m pos le. not_below m pos le) in
-          let k = pair_does l r number y new emitted joins.fit (record { via = accepts_nomination.via; valid = accepts_nomination.valid; asking = accepts_nomination.asking; free = accepts_nomination.free })
-          (λ o has same. elim (Has-push s.pairs p o has) [
-            | inl was ↦ subst (λ (z : PairRecord). (z.local ≡ l) × (z.remote ≡ r)) (one_pair s.pairs own o fit.rising own_has was (is ∙ sym same)) place
-            | inr now ↦ absurd (no_less own.number s.next_number (fit.below own own_has) (is ∙ (sym same ∙ ap (λ (z : PairRecord). z.number) (sym now))))
-          ]) (own, has-front s.pairs p own own_has, is) h in (
-            onward asks met sent x (parts_of asks met sent y) (parts_of asks met sent new) joins k.0,
-            returns_after asks met sent x (parts_of asks met sent y) (parts_of asks met sent new) s.selected_pair new.selected_pair emitted.selected_paths joins k.1,
-            k.2,
-          )
-
       takes_does : (l r : ℕ) (number : Option ℕ) (s new : AgentRecord H P) (emitted : Emitted) → l < length s.local → r < length s.remote → Fit (parts_of asks met sent s)
           → AcceptsNomination s l r → IsPairBetween s.pairs l r number → FindsOrAddsPair mac q l r number s emitted new → Does s emitted new
-      takes_does l r (Some number) s new emitted in_local in_remote fit accepts_nomination (p, has, between, is) (inl h) =
+      takes_does l r (Some number) s new emitted in_local in_remote fit accepts_nomination (p, has, between, is) h =
           let place = is_at_places l r p between in
-          pair_does l r number (forgotten s) new emitted fit
-          (record { via = accepts_nomination.via; valid = accepts_nomination.valid; asking = accepts_nomination.asking; free = accepts_nomination.free })
+          pair_does l r number s new emitted fit accepts_nomination
           (λ o there same. subst (λ (z : PairRecord). (z.local ≡ l) × (z.remote ≡ r)) (one_pair s.pairs p o fit.rising has there (is ∙ sym same)) place) (p, has, is) h
-      takes_does l r (Some number) s new emitted in_local in_remote fit accepts_nomination (p, has, between, is) (inr (i, j, may, h)) =
-          again_does l r number s new emitted fit accepts_nomination (p, has, is_at_places l r p between, is) i j may h
       takes_does l r None s new emitted in_local in_remote fit accepts_nomination none h = either (candidate_at s.local l).discarded h
           (λ _ k. drops_does s new emitted fit k)
           (λ _ k. adds_does l r s new emitted in_local in_remote fit accepts_nomination k.1)

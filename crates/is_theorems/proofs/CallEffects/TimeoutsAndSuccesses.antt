@@ -1,6 +1,7 @@
 -- A `handle_timeout` call that serves no early request, and a success response: their effects on pairs, and which
 -- paths they select.
 use Rattle.is_stun.specs.declared.header.Class.TheVariants as class
+use Rattle.is_theorems.proofs.Common.{formed_again}
 use Rattle.is_theorems.proofs.Common.{[], ◌&&◌, ◌++◌, ◌<◌, ◌||◌, ◌∙◌, ◌∷◌, ◌≡◌, ◌⊎◌, AgentRecord, all_scheduled, ap, scheduled, at_timeout}
 use Rattle.is_theorems.proofs.Common.{binding_request, Bool, candidate_at, CandidateRecord, Check, check_priority, ChecksTop, Emitted}
 use Rattle.is_theorems.proofs.Common.{false, HandlesSuccess, Has, IceCreds, if◌then◌else◌, inl, inr, is_some, IsNextToCheck, IsPut, Issued}
@@ -12,7 +13,7 @@ use Rattle.is_theorems.proofs.RuleEffects.UnchangedSettings.{Frame, frame_of, pa
 use Rattle.is_theorems.proofs.CallEffects.UnchangedTimingAndBases.{Rest, nominates_rest, removes_expired_rest}
 use Rattle.is_theorems.proofs.RuleEffects.SelectedPaths.{Returns, returns_one, returns_two, returns_after, returns_before}
 use Rattle.is_theorems.proofs.RuleEffects.EarlierAndNewPairs.{Parts, Fit, Onward, onward}
-use Rattle.is_theorems.proofs.RuleEffects.ChangedPairs.{Has-map, parts_of, nominates, removes_expired_moves, names_moves}
+use Rattle.is_theorems.proofs.RuleEffects.ChangedPairs.{forms_again, Has-map, parts_of, nominates, removes_expired_moves, names_moves}
 use Rattle.is_theorems.proofs.CallEffects.ChecksAndResponses.{records, check_moves}
 use Rattle.is_theorems.proofs.BasicLemmas.EqualAddresses.{both}
 use Rattle.is_theorems.proofs.BasicLemmas.CandidatesByIndex.{is-listed}
@@ -137,14 +138,17 @@ module _ (asks : Path → ℕ → Type 0) (met : Path → Type 0) (sent : Path �
       → Fit (parts_of asks met sent old) → HandlesSuccess now old via m emitted new
       → Goes old new × Telling old emitted new
   succeeds now old new via m emitted free answers fit (recorded, records_it, (path, mid, nominating, is, done)) =
-      let r = records asks met sent now old recorded via m fit answers records_it in
+      let again : AgentRecord H P = formed_again recorded in
+      let recording = records asks met sent now old recorded via m fit answers records_it in
+      let r : Goes old again = onward asks met sent (parts_of asks met sent old) (parts_of asks met sent recorded) (parts_of asks met sent again) recording
+      (forms_again asks met sent recorded recording.fit) in
       let made = records_it.6 in
       let same_role : recorded.controlling ≡ old.controlling = ap (λ (a : AgentRecord H P). a.controlling) made in
       let same_lite : recorded.lite ≡ old.lite = ap (λ (a : AgentRecord H P). a.lite) made in
-      let n = nominates asks met sent recorded mid path
+      let n = nominates asks met sent again mid path
       (λ allowed. free (subst (λ l. (old.controlling || l) ≡ true) same_lite (subst (λ c. (c || recorded.lite) ≡ true) same_role allowed))) r.fit nominating in
       let x : Parts = parts_of asks met sent old in
-      let y : Parts = parts_of asks met sent recorded in
+      let y : Parts = parts_of asks met sent again in
       let z : Parts = parts_of asks met sent mid in
       let one : Returns asks met sent y z recorded.selected_pair mid.selected_pair (selected_in path None) =
       returns_one asks met sent y z recorded.selected_pair mid.selected_pair path n.1 in

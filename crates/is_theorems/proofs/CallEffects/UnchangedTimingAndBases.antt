@@ -1,5 +1,4 @@
 -- What no step except a setter changes: limits, and that host and relayed local candidates are their own base.
-use Rattle.is_theorems.proofs.Common.{forgotten}
 use Rattle.is_theorems.proofs.Common.{[], ◌&&◌, ◌∙◌, ◌∷◌, ◌≡◌, Absent, AddsUnknownSender, AgentRecord, all_scheduled, ap, at_timeout, Barred}
 use Rattle.is_theorems.proofs.Common.{Bool, candidate_at, CandidateRecord, ChecksTop, Conflict, conflict_of, CountsAndServes, Drops}
 use Rattle.is_theorems.proofs.Common.{Emitted, expired_gone, false, FindsOrAddsPair, formed, Full, Has, IceCreds, in_turn, inl, inr}
@@ -65,8 +64,7 @@ module _ {H P : Type 0} where
         ap (λ (a : AgentRecord H P). rest_of a) made ∙ where_rest (selects_at_requests s && is_valid_at number s.pairs) (pair_served q number s) mid path nominates
 
     takes : (l r : ℕ) (number : Option ℕ) (s new : AgentRecord H P) (emitted : Emitted) → FindsOrAddsPair mac q l r number s emitted new → Rests s new
-    takes l r (Some number) s new emitted (inl h) = pair l r number (forgotten s) new emitted h
-    takes l r (Some number) s new emitted (inr (i, j, may, h)) = pair l r number (with_pair (formed s i j) (forgotten s)) new emitted h
+    takes l r (Some number) s new emitted h = pair l r number s new emitted h
     takes l r None s new emitted h = either (candidate_at s.local l).discarded h (λ _ k. same s new k.1) (λ _ k. pair l r s.next_number (with_pair (formed s l r) s) new emitted k.1)
 
     joins_at : (l : ℕ) (place : RemotePlace) (s new : AgentRecord H P) (emitted : Emitted) → AddsUnknownSender mac q l place s emitted new → Rests s new

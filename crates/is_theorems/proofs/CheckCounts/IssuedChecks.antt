@@ -1,7 +1,6 @@
 -- Only a `handle_timeout` call that serves no early request sends a check, and its time is the last time then. All other calls leave the
 -- last time, except that one that serves an early request may be the first. Each check is charged.
 use Rattle.is_stun.specs.declared.header.Class.TheVariants as class
-use Rattle.is_theorems.proofs.Common.{forgotten}
 use Rattle.is_theorems.proofs.Common.{◌∙◌, ◌≡◌, ◌⊎◌, Absent, AddLocalCandidate, AddRemoteCandidate, AddsUnknownSender, AgentRecord, ap}
 use Rattle.is_theorems.proofs.Common.{at_request, Barred, Bool, Call, candidate_at, CandidateRecord, charged_after, Class, Conflict}
 use Rattle.is_theorems.proofs.Common.{conflict_of, CountsAndServes, Drops, Emitted, Entry, Err, false, FindsOrAddsPair, formed, Full}
@@ -38,8 +37,7 @@ module _ {H P : Type 0} where
     pair l r number s new emitted (path, mid, nominates, (values, is, made)) = of _ emitted is refl
 
     takes : (l r : ℕ) (number : Option ℕ) (s new : AgentRecord H P) (emitted : Emitted) → FindsOrAddsPair mac q l r number s emitted new → asks emitted ≡ false
-    takes l r (Some number) s new emitted (inl h) = pair l r number (forgotten s) new emitted h
-    takes l r (Some number) s new emitted (inr (i, j, may, h)) = pair l r number (with_pair (formed s i j) (forgotten s)) new emitted h
+    takes l r (Some number) s new emitted h = pair l r number s new emitted h
     takes l r None s new emitted h = either (candidate_at s.local l).discarded h
         (λ _ k. drops s new emitted k)
         (λ _ k. pair l r s.next_number (with_pair (formed s l r) s) new emitted k.1)

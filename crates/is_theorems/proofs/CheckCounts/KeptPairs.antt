@@ -1,6 +1,6 @@
 -- What holds of each pair, and of valid ones in any case: the rules keep it, except that checks are sent and due times are fixed.
 use Rattle.is_stun.specs.declared.header.Class.TheVariants as class
-use Rattle.is_theorems.proofs.Common.{forgotten}
+use Rattle.is_theorems.proofs.Common.{each-way, formed_again}
 use Rattle.is_theorems.proofs.Common.{[], ◌&&◌, ◌++◌, ◌+◌, ◌<◌, ◌||◌, ◌∙◌, ◌∷◌, ◌≡◌, ◌≤◌, ◌⊎◌, Absent, AddsUnknownSender, after_request}
 use Rattle.is_theorems.proofs.Common.{AgentRecord, AllBelow, ap, AreRising, arith, as_taken, Barred, Bool, candidate_at, CandidateRecord}
 use Rattle.is_theorems.proofs.Common.{change_at, change_pair, CheckState, chosen-able, Class, Combination, combined_priority, Conflict}
@@ -282,9 +282,13 @@ module _ (floor clock : ℕ) (Q : PairRecord → Type 0) where
 
       -- ---- responses
 
+      again-kept : (a : AgentRecord H P) → Leads a (formed_again a)
+      again-kept a k = each-way (λ x. Holds x) a k
+          (λ i j may. kept-push a.next_number a.pairs (formed a i j) refl (s.fresh _ _ _ _ k.low) k)
+
       success-kept : (now : ℕ) (old new : AgentRecord H P) (via : Path) (m : Message) (emitted : Emitted) → HandlesSuccess now old via m emitted new → Leads old new
       success-kept now old new via m emitted (recorded, (i, p, after, found, keeps, takes, made), (path, mid, nominates, is, done)) k =
-          made-kept (evaluated now mid) new done (nominates-kept recorded mid path nominates (made-kept _ recorded made puts)) where
+          made-kept (evaluated now mid) new done (nominates-kept (formed_again recorded) mid path nominates (again-kept recorded (made-kept _ recorded made puts))) where
             number : after.number ≡ p.number
             number = ap (λ (x : PairRecord). x.number) takes.3
 
@@ -314,9 +318,7 @@ module _ (floor clock : ℕ) (Q : PairRecord → Type 0) where
             made-kept _ new made named
 
         takes : (l r : ℕ) (number : Option ℕ) (a new : AgentRecord H P) (emitted : Emitted) → FindsOrAddsPair mac q l r number a emitted new → Leads a new
-        takes l r (Some number) a new emitted (inl h) k = pair l r number (forgotten a) new emitted h k
-        takes l r (Some number) a new emitted (inr (i, j, may, h)) k =
-            pair l r number (with_pair (formed a i j) (forgotten a)) new emitted h (kept-push a.next_number a.pairs (formed a i j) refl (s.fresh _ _ _ _ k.low) k)
+        takes l r (Some number) a new emitted h k = pair l r number a new emitted h k
         takes l r None a new emitted h k = either (candidate_at a.local l).discarded h (λ _ j. made-kept a new j.1 k)
             (λ _ j. pair l r a.next_number (with_pair (formed a l r) a) new emitted j.1 (kept-push a.next_number a.pairs (formed a l r) refl (s.fresh _ _ _ _ k.low) k))
 

@@ -2,7 +2,6 @@
 use Rattle.is_stun.specs.declared.header.Class.TheVariants as class
 use Rattle.is_rules.specs.declared.emitted.Issued as code
 use Rattle.is_theorems.specs.Delivery.{IsReachedBy, Issued}
-use Rattle.is_theorems.proofs.Common.{forgotten}
 use Rattle.is_theorems.proofs.Common.{[], ◌&&◌, ◌++◌, ◌+◌, ◌==◌, ◌||◌, ◌∙◌, ◌∷◌, ◌≡◌, ◌≤◌, Absent, AddsPairAndResponds, AddsUnknownSender}
 use Rattle.is_theorems.proofs.Common.{AgentRecord, answer_by, ap, are_too_long, AreApart, arith, AttributesRecord, Barred, binding_reply}
 use Rattle.is_theorems.proofs.Common.{binding_request, Bool, bytes_eq, bytes_eq-Decides, Call, candidate_at, CandidateRecord, carried}
@@ -149,8 +148,7 @@ module _ {H P : Type 0} (mac : H → List ℕ → List ℕ → List ℕ) (answer
 
     takes_at : (l r : ℕ) (number : Option ℕ) (s new : AgentRecord H P) (emitted : Emitted) → (candidate_at s.local l).discarded ≡ false
         → FindsOrAddsPair mac q l r number s emitted new → Replied emitted
-    takes_at l r (Some number) s new emitted live (inl h) = at_pair l r number (forgotten s) new emitted h
-    takes_at l r (Some number) s new emitted live (inr (i, j, may, h)) = at_pair l r number (with_pair (formed s i j) (forgotten s)) new emitted h
+    takes_at l r (Some number) s new emitted live h = at_pair l r number s new emitted h
     takes_at l r None s new emitted live h =
         let k : AddsPairAndResponds mac q l r s emitted new = subst (λ b. MatchBool b (Drops s emitted new) (AddsPairAndResponds mac q l r s emitted new)) live h in
         at_pair l r s.next_number (with_pair (formed s l r) s) new emitted k.1

@@ -1,7 +1,7 @@
 -- While the agent is full, each valid pair has a check that got a response.
 use Rattle.is_pair.specs.Pairs.{last_of}
 use Rattle.is_stun.specs.declared.header.Class.TheVariants as class
-use Rattle.is_theorems.proofs.Common.{forgotten}
+use Rattle.is_theorems.proofs.Common.{each-way, formed_again}
 use Rattle.is_theorems.proofs.Common.{[], ◌&&◌, ◌++◌, ◌||◌, ◌∷◌, ◌≡◌, Absent, AddsUnknownSender, after_request, AgentRecord, all_scheduled}
 use Rattle.is_theorems.proofs.Common.{as_taken, scheduled, at_request, at_timeout, Barred, Bool, candidate_at, CandidateRecord, change_at}
 use Rattle.is_theorems.proofs.Common.{checked, CheckState, ChecksTop, Class, Combination, combined_priority, Conflict, conflict_of}
@@ -203,9 +203,13 @@ module _ {H P : Type 0} where
 
   -- ---- responses
 
+  again-firm : (s : AgentRecord H P) → Keeps s (formed_again s)
+  again-firm s f = each-way (λ a. IsFirm a) s (f.0, f.1) (λ i j may. (f.0, answered-push s.pairs (formed s i j) f.1 (λ is. is)))
+
   success-firm : (now : ℕ) (old new : AgentRecord H P) (via : Path) (m : Message) (emitted : Emitted) → HandlesSuccess now old via m emitted new → Keeps old new
   success-firm now old new via m emitted (recorded, (i, p, after, found, keeps, (place, c, at, took), made), (path, mid, nominates, is, done)) f =
-      made-firm (evaluated now mid) new done (nominates-firm recorded mid path nominates (subst (λ (a : AgentRecord H P). IsFirm a) (sym made) (f.0, puts))) where
+      made-firm (evaluated now mid) new done (nominates-firm (formed_again recorded) mid path nominates
+      (again-firm recorded (subst (λ (a : AgentRecord H P). IsFirm a) (sym made) (f.0, puts)))) where
         puts : AreAnswered (slice_set old.pairs i after)
         puts q has = elim (Has-set old.pairs i after q has) [
           | inl was ↦ f.1 q was
@@ -235,9 +239,7 @@ module _ {H P : Type 0} where
         subst (λ (a : AgentRecord H P). IsFirm a) (sym made) named
 
     takes : (l r : ℕ) (number : Option ℕ) (s new : AgentRecord H P) (emitted : Emitted) → FindsOrAddsPair mac q l r number s emitted new → Keeps s new
-    takes l r (Some number) s new emitted (inl h) f = pair l r number (forgotten s) new emitted h f
-    takes l r (Some number) s new emitted (inr (i, j, may, h)) f =
-        pair l r number (with_pair (formed s i j) (forgotten s)) new emitted h (f.0, answered-push s.pairs (formed s i j) f.1 (λ is. is))
+    takes l r (Some number) s new emitted h f = pair l r number s new emitted h f
     takes l r None s new emitted h f = either (candidate_at s.local l).discarded h (λ _ k. made-firm s new k.1 f)
         (λ _ k. pair l r s.next_number (with_pair (formed s l r) s) new emitted k.1 (f.0, answered-push s.pairs (formed s l r) f.1 (λ is. is)))
 

@@ -1,5 +1,6 @@
 -- Calls in which no response and no request arrives on a path, and `handle_timeout` calls: the times from which consent on it is counted stay.
 use Rattle.is_stun.specs.declared.header.Class.TheVariants as class
+use Rattle.is_theorems.proofs.Common.{◌⊎◌, each-way, formed, formed_again}
 use Rattle.is_theorems.proofs.Common.{◌∙◌, ◌≡◌, AcceptsSuccessOn, AddLocalCandidate, AddRemoteCandidate, AddsLocal, AddsRemote, AgentRecord}
 use Rattle.is_theorems.proofs.Common.{ap, appended, as_remote, scheduled, Bool, Brings, Call, CandidateRecord, Class, Combination}
 use Rattle.is_theorems.proofs.Common.{discovered_emitted, Emitted, enabled_again, Entry, Err, false, FormsAll, HandlesFailure}
@@ -17,7 +18,7 @@ use Rattle.is_theorems.proofs.CallEffects.ChecksAndResponses.{Has-get, Has-set, 
 use Rattle.is_theorems.proofs.CallEffects.FailedCallsAndNewAgents.{enrolment_kept, local_kept, mtu_kept, storing_kept}
 use Rattle.is_theorems.proofs.CallEffects.PathAndTradeEffects.{path_theorem}
 use Rattle.is_theorems.proofs.CallEffects.ServedRequests.{remote_joins}
-use Rattle.is_theorems.proofs.ConnectedConsent.SilentPairs.{Carried, carried-over, forms-over, Goes, IsOver, made-over, moved-over, over-as}
+use Rattle.is_theorems.proofs.ConnectedConsent.SilentPairs.{Carried, carried-over, forms-over, Goes, IsOver, made-over, moved-over, over-as, over-new}
 use Rattle.is_theorems.proofs.ConnectedConsent.SilentPairs.{PairsOver, parts, reselects-over}
 use Rattle.is_theorems.proofs.ConnectedConsent.SilentRequests.{requested-over}
 use Rattle.is_theorems.proofs.DuePairs.AfterNominationAndRemoval.{nominates-thins}
@@ -25,7 +26,7 @@ use Rattle.is_theorems.proofs.DuePairs.ConsentAfterTimeouts.{maintains-consents}
 use Rattle.is_theorems.proofs.ExecutionLogs.LogSegments.{no-case}
 use Rattle.is_theorems.proofs.PathSelection.NominationPoints.{All1, All3, AllNumbers, fit_of}
 use Rattle.is_theorems.proofs.RuleEffects.ChangedPairs.{Has-map}
-use Rattle.is_theorems.proofs.RuleEffects.EarlierAndNewPairs.{Fit, Has-filter}
+use Rattle.is_theorems.proofs.RuleEffects.EarlierAndNewPairs.{Fit, Has-filter, Has-push}
 use Rattle.is_theorems.proofs.RuleEffects.NotedErrors.{coded, recoded, by_failure}
 
 -- no response and no request arrives on the path in this call
@@ -83,19 +84,28 @@ module _ {H P : Type 0} (mac : H → List ℕ → List ℕ → List ℕ) (answer
 
   -- ---- packets
 
+  -- each pair was there before, or is formed again
+  again-has : (s : AgentRecord H P) (p : PairRecord) → Has (formed_again s).pairs p → Has s.pairs p ⊎ ((i j : ℕ) × (formed s i j ≡ p))
+  again-has s p = each-way (λ a. Has a.pairs p → Has s.pairs p ⊎ ((i j : ℕ) × (formed s i j ≡ p))) s (λ has. inl has)
+      (λ i j may has. elim (Has-push s.pairs (formed s i j) p has) [ inl was ↦ inl was | inr is ↦ inr (i, j, is) ])
+
   success : (now : ℕ) (old new : AgentRecord H P) (via : Path) (m : Message) (emitted : Emitted) → HandlesSuccess now old via m emitted new
       → Carried strict sent heard path (λ p. keeps_check_on old via m.id p ≡ true) old new
   success now old new via m emitted (recorded, (i, p, after, found, keeps, (place, c, at, took), made), (named, mid, nominates, is, done)) q has =
-      let thinned = (nominates-thins 0 recorded mid named nominates).1 in
+      let thinned = (nominates-thins 0 (formed_again recorded) mid named nominates).1 in
       let k = thinned.back q (subst (λ (a : AgentRecord H P). Has a.pairs q) done has) in
-      elim (Has-set old.pairs i after k.0 (subst (λ (a : AgentRecord H P). Has a.pairs k.0) made k.1)) [
-        | inl was ↦ (k.0, was, k.2.number, inl (k.2.consented, k.2.heard))
-        | inr now_is ↦ (
-          p,
-          Has-get old.pairs i p found,
-          k.2.number ∙ (ap (λ (x : PairRecord). x.number) (sym now_is) ∙ ap (λ (x : PairRecord). x.number) took),
-          inr keeps,
-        )
+      elim (again-has recorded k.0 k.1) [
+        | inl there ↦ inl (elim (Has-set old.pairs i after k.0 (subst (λ (a : AgentRecord H P). Has a.pairs k.0) made there)) [
+          | inl was ↦ (k.0, was, k.2.number, inl (k.2.consented, k.2.heard))
+          | inr now_is ↦ (
+            p,
+            Has-get old.pairs i p found,
+            k.2.number ∙ (ap (λ (x : PairRecord). x.number) (sym now_is) ∙ ap (λ (x : PairRecord). x.number) took),
+            inr keeps,
+          )
+        ])
+        | inr (j, r, is_new) ↦ inr (over-as strict sent heard path k.0 q k.2.consented k.2.heard
+            (subst (λ (x : PairRecord). IsOver strict sent heard path x) is_new (over-new strict sent heard path (formed recorded j r) refl refl)))
       ]
 
   failure : (old new : AgentRecord H P) (via : Path) (m : Message) (emitted : Emitted) → HandlesFailure old via m emitted new → Over old → Over new
@@ -161,4 +171,4 @@ module _ {H P : Type 0} (mac : H → List ℕ → List ℕ → List ℕ) (answer
       → Step mac answers old s (HandleTimeout now) e new t → MaintainsPairs mac now (timeout_begun now old) s emitted new t → Over old → Over new
   maintained-over now e old new s t emitted full sound step h o =
       carried-over strict sent heard path (λ p. ⊥) old new sound (path_theorem mac answers old new s t (HandleTimeout now) e sound tt step).0.numbers (λ p none on. none)
-      (λ q has. (let k = (maintains-consents mac now (timeout_begun now old) new s t emitted full h).1 q has in (k.0, k.1, k.2.number, inl (k.2.consented, k.2.heard)))) o
+      (λ q has. inl (let k = (maintains-consents mac now (timeout_begun now old) new s t emitted full h).1 q has in (k.0, k.1, k.2.number, inl (k.2.consented, k.2.heard)))) o

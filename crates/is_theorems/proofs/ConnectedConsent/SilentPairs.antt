@@ -144,13 +144,13 @@ module _ (strict : Bool) (sent heard : ℕ) (path : Path) where
     reselects-over true old new named (mid, nominates, made) o = made-over (evaluated _ mid) new made (nominates-over old mid named nominates o)
     reselects-over false old new named (none, made) o = made-over old new made o
 
-    -- ---- no pair is added
+    -- ---- no pair is added that has times
 
-    -- each pair was there before, with the same times, unless it is one of these
+    -- Each pair is over, or was there before, with the same times, unless it is one of these.
     abbrev pub Carried : (PairRecord → Type 0) → AgentRecord H P → AgentRecord H P → Type 0
     Carried Changes old new =
         (q : PairRecord) → Has new.pairs q
-        → (p : PairRecord) × Has old.pairs p × (q.number ≡ p.number) × (((q.consented ≡ p.consented) × (q.last_request ≡ p.last_request)) ⊎ Changes p)
+        → ((p : PairRecord) × Has old.pairs p × (q.number ≡ p.number) × (((q.consented ≡ p.consented) × (q.last_request ≡ p.last_request)) ⊎ Changes p)) ⊎ IsOver q
 
     stayed-on : (old new : AgentRecord H P) → IsSound old → (p q : PairRecord) → Has old.pairs p → q.number ≡ p.number
         → Continues old new q ⊎ ((old.next_number ≤ q.number) × (q.number < new.next_number)) → path_of old p ≡ path_of new q
@@ -164,9 +164,12 @@ module _ (strict : Bool) (sent heard : ℕ) (path : Path) where
         → ((q : PairRecord) → Has new.pairs q → Continues old new q ⊎ ((old.next_number ≤ q.number) × (q.number < new.next_number)))
         → ((p : PairRecord) → Changes p → path_of old p ≡ path → ⊥) → Carried Changes old new → PairsOver old → PairsOver new
     carried-over Changes old new sound numbers apart carried o q has on =
-        let k = carried q has in
-        let before : path_of old k.0 ≡ path = stayed-on old new sound k.0 q k.1 k.2 (numbers q has) ∙ on in
-        elim k.3 [
-          | inl same ↦ over-as k.0 q same.0 same.1 (o k.0 k.1 before)
-          | inr changes ↦ absurd (apart k.0 changes before)
-        ]
+        by (carried q has) where
+          by : ((p : PairRecord) × Has old.pairs p × (q.number ≡ p.number) × (((q.consented ≡ p.consented) × (q.last_request ≡ p.last_request)) ⊎ Changes p)) ⊎ IsOver q → IsOver q
+          by (inr over) = over
+          by (inl k) =
+              let before : path_of old k.0 ≡ path = stayed-on old new sound k.0 q k.1 k.2 (numbers q has) ∙ on in
+              elim k.3 [
+                | inl same ↦ over-as k.0 q same.0 same.1 (o k.0 k.1 before)
+                | inr changes ↦ absurd (apart k.0 changes before)
+              ]

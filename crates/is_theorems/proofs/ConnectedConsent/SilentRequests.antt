@@ -1,5 +1,4 @@
 -- A request on another path leaves the times from which consent on this one is counted.
-use Rattle.is_theorems.proofs.Common.{forgotten}
 use Rattle.is_theorems.proofs.Common.{◌&&◌, ◌<◌, ◌∙◌, ◌≡◌, ◌≢◌, Absent, AddsUnknownSender, after_request, AgentRecord, ap, arith, as_taken}
 use Rattle.is_theorems.proofs.Common.{Barred, base_of, Bool, candidate_at, CandidateRecord, change_at, Conflict, conflict_of}
 use Rattle.is_theorems.proofs.Common.{CountsAndServes, Drops, Emitted, false, FindsOrAddsPair, formed, Full, Has, IceCreds, if◌then◌else◌}
@@ -75,21 +74,10 @@ module _ {H P : Type 0} (mac : H → List ℕ → List ℕ → List ℕ) (strict
 
   takes : (l r : ℕ) (number : Option ℕ) (s new : AgentRecord H P) (emitted : Emitted) → FitIn s → path_between s l r ≡ reversed q.path → IsPairBetween s.pairs l r number
       → FindsOrAddsPair mac q l r number s emitted new → Over s → Over new
-  takes l r (Some number) s new emitted fit via (p, has, between, is) (inl h) o =
+  takes l r (Some number) s new emitted fit via (p, has, between, is) h o =
       let place = is_at_places l r p between in
-      pair l r number (forgotten s) new emitted via
+      pair l r number s new emitted via
       (λ k there same. subst (λ (z : PairRecord). (z.local ≡ l) × (z.remote ≡ r)) (one_pair s.pairs p k fit.rising has there (is ∙ sym same)) place) h o
-  takes l r (Some number) s new emitted fit via (p, has, between, is) (inr (i, j, may, h)) o =
-      let place = is_at_places l r p between in
-      pair l r number (with_pair (formed s i j) (forgotten s)) new emitted via
-      (λ k there same. elim (Has-push s.pairs (formed s i j) k there) [
-        | inl was ↦ subst (λ (z : PairRecord). (z.local ≡ l) × (z.remote ≡ r)) (one_pair s.pairs p k fit.rising has was (is ∙ sym same)) place
-        | inr now ↦ no-less p.number s.next_number (fit.below p has) (is ∙ (sym same ∙ ap (λ (z : PairRecord). z.number) (sym now)))
-      ]) h
-      (λ k there on. elim (Has-push s.pairs (formed s i j) k there) [
-        | inl was ↦ o k was on
-        | inr now ↦ subst (λ (z : PairRecord). IsOver strict sent heard path z) now (over-new strict sent heard path (formed s i j) refl refl)
-      ])
   takes l r None s new emitted fit via none h o = either (candidate_at s.local l).discarded h
       (λ _ k. made-of s new k.1 o)
       (λ _ k. pair l r s.next_number (with_pair (formed s l r) s) new emitted via

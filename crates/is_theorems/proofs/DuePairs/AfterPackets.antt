@@ -3,7 +3,6 @@
 use Rattle.is_pair.specs.Due.{response_wait}
 use Rattle.is_pair.specs.declared.pair.states.NominationState.TheVariants.{None as Unnominated}
 use Rattle.is_stun.specs.declared.header.Class.TheVariants as class
-use Rattle.is_theorems.proofs.Common.{forgotten}
 use Rattle.is_theorems.proofs.Common.{[], ◌&&◌, ◌++◌, ◌+◌, ◌<◌, ◌==◌, ◌||◌, ◌∙◌, ◌∷◌, ◌≡◌, ◌≤◌, ◌⊎◌, Absent, AddsUnknownSender}
 use Rattle.is_theorems.proofs.Common.{after_request, AgentRecord, AllBelow, ap, arith, Arrival, as_taken, Attempt, Barred, Bool}
 use Rattle.is_theorems.proofs.Common.{candidate_at, CandidateRecord, change_at, Check, Class, computed_due_time, Conflict, conflict_of}
@@ -378,12 +377,7 @@ module _ {H P : Type 0} where
           )
 
       takes : (l r : ℕ) (number : Option ℕ) (s new : AgentRecord H P) (emitted : Emitted) → s.controlling ≡ true → s.lite ≡ false → NoneValid s.pairs → FindsOrAddsPair mac q l r number s emitted new → Rests s new
-      takes l r (Some number) s new emitted role full none (inl h) =
-          (let rest = pair l r number (forgotten s) new emitted role full none h in (rest.0, rest.1, rest.2))
-      takes l r (Some number) s new emitted role full none (inr (i, j, may, h)) = (
-          let push = spares-push by (last_time_of s) at s.timing s.next_number i j (priority_between s i j) s.pairs following early in
-          let rest = pair l r number (with_pair (formed s i j) (forgotten s)) new emitted role full (push.invalid none) h in
-          (rest.0, rest.1, spares-on by (last_time_of s) at s.timing s.next_number (s.next_number + 1) new.next_number s.pairs (s.pairs ++ formed s i j ∷ []) new.pairs push rest.2))
+      takes l r (Some number) s new emitted role full none h = pair l r number s new emitted role full none h
       takes l r None s new emitted role full none h = either (candidate_at s.local l).discarded h
           (λ _ k. rests-same s new k.1)
           (λ _ k. (

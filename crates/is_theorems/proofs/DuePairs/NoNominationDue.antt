@@ -1,7 +1,6 @@
 -- An agent without a valid pair selects no path, so no nomination becomes due. If none is to be sent at once, none will be until a
 -- success response is accepted, in whichever role the agent is.
 use Rattle.is_stun.specs.declared.header.Class.TheVariants as class
-use Rattle.is_theorems.proofs.Common.{forgotten}
 use Rattle.is_theorems.proofs.Common.{[], ◌&&◌, ◌++◌, ◌<◌, ◌||◌, ◌∙◌, ◌∷◌, ◌≡◌, ◌⊎◌, Absent, AcceptsSuccess, AddLocalCandidate}
 use Rattle.is_theorems.proofs.Common.{AddRemoteCandidate, AddsUnknownSender, AgentRecord, all_scheduled, all_settings_of, Answer, ap}
 use Rattle.is_theorems.proofs.Common.{AreInRound, arith, scheduled, at_request, at_timeout, Barred, Bool, Call, candidate_at, CandidateRecord}
@@ -212,20 +211,16 @@ module _ {H P : Type 0} where
           calmer-as s _ new (λ is. is, λ is. is, refl) (
           made ∙ ap (λ (a : AgentRecord H P). replied mac q (path_between s l r) (state_updated (is_some path) (triggered_time q s) a)) k.1)
 
-      -- a new pair is not valid
-      pushed-invalid : (s : AgentRecord H P) (l r : ℕ) → NoneValid s.pairs → NoneValid (s.pairs ++ formed s l r ∷ [])
-      pushed-invalid s l r none p has = elim (Has-push s.pairs (formed s l r) p has) [
-        | inl was ↦ none p was
-        | inr is ↦ ap (λ (x : PairRecord). is_valid x) (sym is)
-      ]
-
       takes : (l r : ℕ) (number : Option ℕ) (s new : AgentRecord H P) (emitted : Emitted) → NoneValid s.pairs → FindsOrAddsPair mac q l r number s emitted new → Calmer s new
-      takes l r (Some number) s new emitted none (inl h) = (let c = pair l r number (forgotten s) new emitted none h in (c.0, c.1, c.2))
-      takes l r (Some number) s new emitted none (inr (i, j, may, h)) =
-          (let c = pair l r number (with_pair (formed s i j) (forgotten s)) new emitted (pushed-invalid s i j none) h in (c.0, c.1, c.2))
+      takes l r (Some number) s new emitted none h = pair l r number s new emitted none h
       takes l r None s new emitted none h = either (candidate_at s.local l).discarded h
           (λ _ k. calmer-same s new k.1)
-          (λ _ k. (let c = pair l r s.next_number (with_pair (formed s l r) s) new emitted (pushed-invalid s l r none) k.1 in (c.0, c.1, c.2)))
+          (λ _ k. (let c = pair l r s.next_number (with_pair (formed s l r) s) new emitted pushed k.1 in (c.0, c.1, c.2))) where
+            pushed : NoneValid (s.pairs ++ formed s l r ∷ [])
+            pushed p has = elim (Has-push s.pairs (formed s l r) p has) [
+              | inl was ↦ none p was
+              | inr is ↦ ap (λ (x : PairRecord). is_valid x) (sym is)
+            ]
 
       joins : (l : ℕ) (place : RemotePlace) (s new : AgentRecord H P) (emitted : Emitted) → NoneValid s.pairs → AddsUnknownSender mac q l place s emitted new → Calmer s new
       joins l (Known r) s new emitted none (number, between, h) = takes l r number s new emitted none h

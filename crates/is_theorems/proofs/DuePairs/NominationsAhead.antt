@@ -1,6 +1,6 @@
 -- A nomination becomes due only in a call that selects a path, and only if it is due it is sent at once. Then none is due.
 use Rattle.is_stun.specs.declared.header.Class.TheVariants as class
-use Rattle.is_theorems.proofs.Common.{forgotten}
+use Rattle.is_theorems.proofs.Common.{formed_again}
 use Rattle.is_theorems.proofs.Common.{[], ◌&&◌, ◌+◌, ◌==◌, ◌∙◌, ◌∷◌, ◌≡◌, ◌≤◌, ◌⊎◌, Absent, AddLocalCandidate, AddRemoteCandidate}
 use Rattle.is_theorems.proofs.Common.{AddsUnknownSender, AgentRecord, all_scheduled, Answer, ap, arith, at_request, at_timeout, Barred, Bool}
 use Rattle.is_theorems.proofs.Common.{Call, candidate_at, CandidateRecord, ChecksTop, Class, Combination, Conflict, conflict_of}
@@ -128,7 +128,7 @@ module _ {H P : Type 0} where
 
   success : (now : ℕ) (old new : AgentRecord H P) (via : Path) (m : Message) (emitted : Emitted) → HandlesSuccess now old via m emitted new → Dues (selected emitted) old new
   success now old new via m emitted (recorded, (place, p, after, at, keeps, answered, made), (named, mid, nominates, emitted_is, done)) =
-      let d = nominates-dues recorded mid named nominates in (
+      let d = nominates-dues (formed_again recorded) mid named nominates in (
         λ plain. ap (λ (a : AgentRecord H P). numbers a) done ∙ d.0 (ap (λ (a : AgentRecord H P). numbers a) made ∙ plain),
         λ off. elim (d.1 (ap (λ (a : AgentRecord H P). a.nomination_due) made ∙ off)) [
           | inl still ↦ inl (ap (λ (a : AgentRecord H P). a.nomination_due) done ∙ still)
@@ -158,8 +158,7 @@ module _ {H P : Type 0} where
           made ∙ ap (λ (a : AgentRecord H P). replied mac q (path_between s l r) (state_updated (is_some path) (triggered_time q s) a)) k.1))
 
       takes : (l r : ℕ) (number : Option ℕ) (s new : AgentRecord H P) (emitted : Emitted) → FindsOrAddsPair mac q l r number s emitted new → Dues (selected emitted) s new
-      takes l r (Some number) s new emitted (inl h) = (let d = pair l r number (forgotten s) new emitted h in (d.0, d.1))
-      takes l r (Some number) s new emitted (inr (i, j, may, h)) = (let d = pair l r number (with_pair (formed s i j) (forgotten s)) new emitted h in (d.0, d.1))
+      takes l r (Some number) s new emitted h = pair l r number s new emitted h
       takes l r None s new emitted h = either (candidate_at s.local l).discarded h
           (λ _ k. dues-same (selected emitted) s new k.1)
           (λ _ k. (let d = pair l r s.next_number (with_pair (formed s l r) s) new emitted k.1 in (d.0, d.1)))

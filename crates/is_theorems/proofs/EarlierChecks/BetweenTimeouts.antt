@@ -1,7 +1,7 @@
 -- Whatever happens between two `handle_timeout` calls leaves no more checks of other pairs before a pair, except for
 -- one by each added pair, unless the pair itself is answered.
 use Rattle.is_stun.specs.declared.header.Class.TheVariants as class
-use Rattle.is_theorems.proofs.Common.{forgotten}
+use Rattle.is_theorems.proofs.Common.{each-way, formed_again}
 use Rattle.is_theorems.proofs.Common.{◌&&◌, ◌||◌, ◌∙◌, ◌≡◌, ◌≤◌, ◌⊎◌, Absent, AddsUnknownSender, after_request, AgentRecord, ap, arith}
 use Rattle.is_theorems.proofs.Common.{as_taken, Barred, Bool, candidate_at, CandidateRecord, change_at, Class, Conflict, conflict_of}
 use Rattle.is_theorems.proofs.Common.{CountsAndServes, discovered_emitted, Drops, Emitted, Entry, eq-eqb, eqb-true, Err, evaluated, false}
@@ -108,6 +108,10 @@ module _ {H P : Type 0} where
 
     -- ---- responses
 
+    again : (s : AgentRecord H P) → Goes s (formed_again s)
+    again s = each-way (λ a. Goes s a) s (let k = goes-same s s refl in (k.0, k.1))
+        (λ i j may. (refl, onward-adds n by (last_time_of s) s.pairs s.next_number i j (priority_between s i j)))
+
     success : (now : ℕ) (old new : AgentRecord H P) (via path : Path) (m : Message) (emitted : Emitted) → ((q : PairRecord) → Has old.pairs q → q.number ≡ n → path_of old q ≡ path)
         → HandlesSuccess now old via m emitted new → (is_reverse via path ≡ true) ⊎ Goes old new
     success now old new via path m emitted on (recorded, (place, p, after, at, keeps, (i, c, (c_at, c_id), is), made), (named, mid, nominates, emitted_is, done)) = whose (is_numbered n p) refl where
@@ -122,7 +126,8 @@ module _ {H P : Type 0} where
             onward-set n by (last_time_of old) old.pairs old.next_number place p after at (λ one. (let no : true ≡ false = sym (eq-eqb p.number n one) ∙ numbered in cc))
                 (λ w. own-le w by p after (ap (λ (x : PairRecord). x.number) is) (subst (λ (x : PairRecord). lead w.both by x ≤ lead w.both by p) (sym is) (lead-answered w.both by now i c p c_at))),
           ) made)
-          (goes-to recorded (evaluated now mid) new (let k = nominates-goes recorded mid named nominates in (k.0, k.1)) done))
+          (goes-on recorded (formed_again recorded) new (again recorded)
+          (goes-to (formed_again recorded) (evaluated now mid) new (let k = nominates-goes (formed_again recorded) mid named nominates in (k.0, k.1)) done)))
 
     -- ---- requests
 
@@ -146,10 +151,7 @@ module _ {H P : Type 0} where
                   (served-mild s.controlling s.lite (as_taken (numbers s) q) first)
 
         takes : (l r : ℕ) (number : Option ℕ) (s new : AgentRecord H P) (emitted : Emitted) → FindsOrAddsPair mac q l r number s emitted new → Goes s new
-        takes l r (Some number) s new emitted (inl h) = (let k = pair l r number (forgotten s) new emitted h in (k.0, k.1))
-        takes l r (Some number) s new emitted (inr (i, j, may, h)) =
-            goes-on s (with_pair (formed s i j) (forgotten s)) new (refl, onward-adds n by (last_time_of s) s.pairs s.next_number i j (priority_between s i j))
-            (pair l r number (with_pair (formed s i j) (forgotten s)) new emitted h)
+        takes l r (Some number) s new emitted h = pair l r number s new emitted h
         takes l r None s new emitted h = either (candidate_at s.local l).discarded h
             (λ _ k. goes-same s new k.1)
             (λ _ k. goes-on s (with_pair (formed s l r) s) new (refl, onward-adds n by (last_time_of s) s.pairs s.next_number l r (priority_between s l r))

@@ -1,6 +1,6 @@
 -- Events are appended, in the order in which they happen. What mutants/specifications changes is read by tactics.
 use Rattle.is_stun.specs.declared.header.Class.TheVariants as class
-use Rattle.is_theorems.proofs.Common.{forgotten}
+use Rattle.is_theorems.proofs.Common.{formed_again}
 use Rattle.is_theorems.proofs.Common.{[], ◌&&◌, ◌++◌, ◌==◌, ◌∙◌, ◌∷◌, ◌≡◌, Absent, AddLocalCandidate, AddRemoteCandidate, AddsLocal}
 use Rattle.is_theorems.proofs.Common.{AddsRemote, AddsUnknownSender, AgentRecord, all_scheduled, ap, append-nil, append_assoc, appended}
 use Rattle.is_theorems.proofs.Common.{as_remote, at_request, at_timeout, Barred, Becomes, Begins, Bool, Call, candidate_at, CandidateRecord}
@@ -50,13 +50,13 @@ twice a b c (more, is) (further, after) = (more ++ further, after ∙ (ap (λ xs
 
 -- ---- pairs that are formed again
 
-formed_again : (same : Bool) (profile : Profile) (old new : List IceAgentEvent)
+formed_again_grows : (same : Bool) (profile : Profile) (old new : List IceAgentEvent)
     → new ≡ (if same then events_kept (is_modern_profile profile) old else events_kept (is_modern_profile profile) old ++ IceConnectionStateChange Checking ∷ [])
     → FormsAgain profile Done old new
-formed_again true Modern old new is = inl (search is)
-formed_again false Modern old new is = inr (search is)
-formed_again true Original old new is = search (kept old new is)
-formed_again false Original old new is = (IceConnectionStateChange Checking ∷ [], search is)
+formed_again_grows true Modern old new is = inl (search is)
+formed_again_grows false Modern old new is = inr (search is)
+formed_again_grows true Original old new is = search (kept old new is)
+formed_again_grows false Original old new is = (IceConnectionStateChange Checking ∷ [], search is)
 
 formed_never : (profile : Profile) (error : IceError) (old new : List IceAgentEvent) → new ≡ old → FormsAgain profile (Rejected error) old new
 formed_never Modern error old new is = search is
@@ -116,8 +116,7 @@ module _ {H P : Type 0} where
         both s mid new k (both mid at new (state_grows _ mid) (same_events at new (ap (λ (a : AgentRecord H P). a.events) made)))
 
     takes_grows : (l r : ℕ) (number : Option ℕ) (s new : AgentRecord H P) (emitted : Emitted) → FindsOrAddsPair mac q l r number s emitted new → Grows s new
-    takes_grows l r (Some number) s new emitted (inl h) = pair_grows l r number (forgotten s) new emitted h
-    takes_grows l r (Some number) s new emitted (inr (i, j, may, h)) = pair_grows l r number (with_pair (formed s i j) (forgotten s)) new emitted h
+    takes_grows l r (Some number) s new emitted h = pair_grows l r number s new emitted h
     takes_grows l r None s new emitted h = either (candidate_at s.local l).discarded h (λ _ k. drops_grows s new emitted k)
         (λ _ k. pair_grows l r s.next_number (with_pair (formed s l r) s) new emitted k.1)
 
@@ -154,9 +153,9 @@ module _ {H P : Type 0} where
   success_grows : (now : ℕ) (old new : AgentRecord H P) (via : Path) (m : Message) (emitted : Emitted) → HandlesSuccess now old via m emitted new → Grows old new
   success_grows now old new via m emitted (recorded, (place, p, after, at, keeps, takes, made), (path, mid, nominates, is, last)) =
       let a : Grows old recorded = same_events old recorded (ap (λ (a : AgentRecord H P). a.events) made) in
-      let b : Grows recorded mid = nominates_grows recorded mid path nominates in
+      let b : Grows (formed_again recorded) mid = nominates_grows (formed_again recorded) mid path nominates in
       let c : Grows mid new = grown mid (evaluated now mid) new last (state_grows _ mid) in
-      both old mid new (both old recorded mid a b) c
+      both old mid new (both old (formed_again recorded) mid a b) c
 
   failure_grows : (old new : AgentRecord H P) (via : Path) (m : Message) (emitted : Emitted) → HandlesFailure old via m emitted new → Grows old new
   failure_grows old new via m emitted h =
@@ -308,7 +307,7 @@ module _ {H P : Type 0} where
         subst (λ (x : Entry). Begins x.answer creds old.events new.events) (sym is) (ap (λ (a : AgentRecord H P). a.events) (restart_kept old new creds keep error h))
     reports RecreateCandidatePairs (Ok _, is, h, drawn) =
         subst (λ (x : Entry). FormsAgain old.timing.profile x.answer old.events new.events) (sym is)
-        (formed_again (same_state old.state Checking) old.timing.profile old.events new.events (ap (λ (a : AgentRecord H P). a.events) h.1.2))
+        (formed_again_grows (same_state old.state Checking) old.timing.profile old.events new.events (ap (λ (a : AgentRecord H P). a.events) h.1.2))
     reports RecreateCandidatePairs (Err error, is, h, drawn) =
         subst (λ (x : Entry). FormsAgain old.timing.profile x.answer old.events new.events) (sym is)
         (formed_never old.timing.profile error old.events new.events (ap (λ (a : AgentRecord H P). a.events) (recreation_kept old new error h)))

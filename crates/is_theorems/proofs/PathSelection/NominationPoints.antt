@@ -1,6 +1,7 @@
 -- If nomination is evaluated at the end of a step, the selected pair is a greatest one, and the pair that takes a
 -- response is valid.
 use Rattle.is_stun.specs.declared.header.Class.TheVariants as class
+use Rattle.is_theorems.proofs.Common.{each-way, formed, formed_again}
 use Rattle.is_theorems.proofs.Common.{[], ◌&&◌, ◌<◌, ◌==◌, ◌||◌, ◌∙◌, ◌∷◌, ◌≡◌, ◌≤◌, AgentRecord, all_scheduled, answer_by, answered_at}
 use Rattle.is_theorems.proofs.Common.{AnswersAreValid, ap, arith, scheduled, at_request, at_timeout, below-each, Bool, Brings, Call}
 use Rattle.is_theorems.proofs.Common.{CandidateRecord, change_at, Check, checked, CheckState, ChecksTop, cond, Done, done}
@@ -20,7 +21,8 @@ use Rattle.is_theorems.proofs.BasicLemmas.EqualAddresses.{both}
 use Rattle.is_theorems.proofs.RuleEffects.UnchangedSettings.{either}
 use Rattle.is_theorems.proofs.RuleEffects.SelectedPaths.{one_pair, some_is}
 use Rattle.is_theorems.proofs.RuleEffects.EarlierAndNewPairs.{Fit, thinned}
-use Rattle.is_theorems.proofs.RuleEffects.ChangedPairs.{Kept_by_self, self_kept, Has-map, parts_of, left_moves, names_moves}
+use Rattle.is_theorems.proofs.BasicLemmas.MembersOfLists.{has-front}
+use Rattle.is_theorems.proofs.RuleEffects.ChangedPairs.{forms_again, Kept_by_self, self_kept, Has-map, parts_of, left_moves, names_moves}
 use Rattle.is_theorems.proofs.CallEffects.ChecksAndResponses.{Has-get, again_nominated, sent_nominated, records, put_at}
 use Rattle.is_theorems.proofs.CallEffects.ServedRequests.{Has-mapped}
 use Rattle.is_theorems.proofs.PathSelection.FirstNumbered.{SameOrder, number-mapped}
@@ -323,7 +325,9 @@ module _ {H P : Type 0} where
       let two = both (keeps_check m.id p) (is_reverse via (path_of old p)) on in
       let keeps : keeps_check m.id after ≡ true =
       ap (λ (x : PairRecord). keeps_check m.id x) is ∙ any_set (has_id m.id) p.checks place c (answered_at now c) at.0 refl ∙ two.0 in
-      let still = nominates_still recorded mid path after there nominating in
+      let there_again : Has (formed_again recorded).pairs after =
+      each-way (λ (a : AgentRecord H P). Has a.pairs after) recorded there (λ i j may. has-front recorded.pairs (formed recorded i j) after there) in
+      let still = nominates_still (formed_again recorded) mid path after there_again nominating in
       let same_path : path_of old p ≡ path_of recorded after = elim (o.pairs after there) [
         | inl k ↦ (let same : k.was ≡ p = one_pair old.pairs k.was p fit.rising k.there has (k.number ∙ number) in ap (λ (x : PairRecord). path_of old x) (sym same) ∙ k.path)
         | inr j ↦ (let lt : p.number < old.next_number = fit.below p has in let le : old.next_number ≤ after.number = j.above in absurd (let none : ⊥ = omega (arith, lt, le, number) in none))
@@ -338,7 +342,8 @@ module _ {H P : Type 0} where
   pub success_top : (now : ℕ) (old new : AgentRecord H P) (via : Path) (m : Message) (emitted : Emitted) → FitOf old → HandlesSuccess now old via m emitted new → IsTopSelected new
   success_top now old new via m emitted fit (recorded, records_it, (path, mid, nominating, is_emitted, done)) =
       let o = records AllNumbers All1 All3 now old recorded via m fit (λ q d has_q on_q keeps same. tt) records_it in
-      let top : IsTopSelected mid = nominates_top recorded mid path o.fit.rising nominating in
+      let again = forms_again AllNumbers All1 All3 recorded o.fit in
+      let top : IsTopSelected mid = nominates_top (formed_again recorded) mid path again.fit.rising nominating in
       subst (λ (a : AgentRecord H P). IsTopSelected a) (sym done) top
 
   module _ (mac : H → List ℕ → List ℕ → List ℕ) (answers : P → CandidateRecord → ℕ → ℕ → Type 0) (old new : AgentRecord H P) (s t : Stream) (e : Entry) (sound : IsSound old) where

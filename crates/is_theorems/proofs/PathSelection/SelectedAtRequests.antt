@@ -1,7 +1,6 @@
 -- With selection at once: nomination is evaluated when a request is served on a valid pair. The preconditions that
 -- mutants/specifications changes are read by tactics.
 use Rattle.is_stun.specs.declared.header.Class.TheVariants as class
-use Rattle.is_theorems.proofs.Common.{forgotten}
 use Rattle.is_theorems.proofs.Common.{[], ◌&&◌, ◌++◌, ◌+◌, ◌<◌, ◌∙◌, ◌∷◌, ◌≡◌, ◌≤◌, Absent, AddsUnknownSender, after_request, AgentRecord}
 use Rattle.is_theorems.proofs.Common.{answer_by, ap, arith, at_request, Barred, below-each, Bool, Call, candidate_at, CandidateRecord}
 use Rattle.is_theorems.proofs.Common.{change_at, Conflict, conflict_of, CountsAndServes, Done, done, Drops, Emitted, Entry, eq-eqb, Err}
@@ -91,19 +90,9 @@ module _ {H P : Type 0} where
 
     takes_top : (l r : ℕ) (number : Option ℕ) (s new : AgentRecord H P) (emitted : Emitted) → l < length s.local → r < length s.remote → WhileServing old s
         → IsPairBetween s.pairs l r number → FindsOrAddsPair mac q l r number s emitted new → Selects emitted new
-    takes_top l r (Some number) s new emitted in_local in_remote state (p, has, between, is) (inl h) =
+    takes_top l r (Some number) s new emitted in_local in_remote state (p, has, between, is) h =
         let place = is_at_places l r p between in
-        records_top l r number (forgotten s) new emitted (record { fit = state.fit; at_once = state.at_once; keeps = state.keeps }) (p, has, place.0, place.1, is) h
-    takes_top l r (Some number) s new emitted in_local in_remote state (p, has, between, is) (inr (i, j, may, h)) =
-        let place = is_at_places l r p between in
-        let x : Parts = parts_of AllNumbers All1 All3 s in
-        let own : PairRecord = formed s i j in
-        let joins = pushed AllNumbers All1 All3 x x.pairs own state.fit (λ _ has. has) state.fit.rising refl (may.in_local, may.in_remote) refl (λ (is : false ≡ true). cc) (λ _. inr tt) (λ _. inr tt) (λ _ _ _. inr tt) in
-        records_top l r number (with_pair own (forgotten s)) new emitted (record {
-          fit = joins.fit;
-          at_once = state.at_once;
-          keeps = λ o there valid. (let w = state.keeps o there valid in (w.0, has-front s.pairs own w.0 w.1, w.2, w.3));
-        }) (p, has-front s.pairs own p has, place.0, place.1, is) h
+        records_top l r number s new emitted state (p, has, place.0, place.1, is) h
     takes_top l r None s new emitted in_local in_remote state none h = either (candidate_at s.local l).discarded h
         (λ _ k. drops_top s new emitted k)
         (λ _ k. (

@@ -1,4 +1,4 @@
--- A pair is checked in time in the rounds of a log, whatever pairs requests add. What mutants/specifications changes is read by tactics.
+-- A pair is checked in time in the rounds of a log, whatever pairs packets add. What mutants/specifications changes is read by tactics.
 use Rattle.is_theorems.specs.TimedSteadyRounds.{AreEnoughLater, BeginsAfter, NoneIsStarvedInTime, SteadyRounds, SufficeSteadyInTime}
 use Rattle.is_theorems.specs.TimedSteadyRounds.{bound_in}
 use Rattle.is_theorems.proofs.Common.{[], ◌*◌, ◌++◌, ◌+◌, ◌-◌, ◌<◌, ◌∙◌, ◌∷◌, ◌≡◌, ◌≤◌, ◌⊎◌, AgentRecord, all_entries, ap, append_assoc}
@@ -16,9 +16,9 @@ use Rattle.is_theorems.proofs.ExecutionLogs.LogSegments.{no-case, run-on}
 use Rattle.is_theorems.proofs.ExecutionLogs.PerAgentExecutions.{either_has}
 use Rattle.is_theorems.proofs.PollingRounds.CountedSelections.{ahead-fewer}
 use Rattle.is_theorems.proofs.PollingRounds.InTurnAlong.{IsOfRound, profile-along}
-use Rattle.is_theorems.proofs.PollingRounds.LimitedPairsAndRequests.{few-pairs, few-timeouts, none-ends, steady-as-original, suffice-steady}
+use Rattle.is_theorems.proofs.PollingRounds.LimitedPairsAndPackets.{few-pairs, few-timeouts, none-ends, steady-as-original, suffice-steady}
 use Rattle.is_theorems.proofs.PunctualTimeouts.ChecksInTimeInLogs.{come-in-time}
-use Rattle.is_theorems.proofs.RemainingChecks.PairsThatRequestsAdd.{part-spends}
+use Rattle.is_theorems.proofs.RemainingChecks.PairsThatPacketsAdd.{part-spends}
 use Rattle.is_theorems.proofs.RemainingChecks.RemainingAfterRules.{Held, held_of}
 
 module _ {P : Type 0} where

@@ -3,7 +3,7 @@
 use Rattle.is_pair.specs.Due as due
 use Rattle.is_pair.proofs.PairEntries.ChangedEntry.{rises-changed, rises-filter}
 use Rattle.is_stun.specs.declared.header.Class.TheVariants as class
-use Rattle.is_theorems.proofs.Common.{forgotten}
+use Rattle.is_theorems.proofs.Common.{each-way, formed_again}
 use Rattle.is_theorems.proofs.Common.{[], ◌&&◌, ◌*◌, ◌++◌, ◌+◌, ◌-◌, ◌||◌, ◌∙◌, ◌∷◌, ◌≡◌, ◌≤◌, Absent, AddsUnknownSender, after_request}
 use Rattle.is_theorems.proofs.Common.{AgentRecord, all_scheduled, ap, arith, as_taken, scheduled, at_request, at_timeout, Barred, Bool}
 use Rattle.is_theorems.proofs.Common.{candidate_at, CandidateRecord, change_at, change_pair, checked, ChecksTop, Class, Conflict}
@@ -146,6 +146,13 @@ module _ {H P : Type 0} where
       by true = omega arith
       by false = let long : length (a.local ++ mapped_candidate a p mapped ∷ []) ≡ length a.local + 1 = length-append a.local (mapped_candidate a p mapped ∷ []) in omega (arith, long)
 
+    again : (s : AgentRecord H P) → Spends 0 s (formed_again s)
+    again s = each-way (λ a. Spends 0 s a) s (let k = spends-none s s refl in (k.0, k.1, k.2)) (λ i j may. (
+      refl,
+      omega arith,
+      (let all = unspents-push m (formed s i j) s.pairs refl in let more = one-more s.next_number m in omega (arith, all, more)),
+    ))
+
     success : (now : ℕ) (old new : AgentRecord H P) (via : Path) (message : Message) (emitted : Emitted) → HandlesSuccess now old via message emitted new → Spends 0 old new
     success now old new via message emitted (recorded, (place, p, after, at, keeps, (i, c, c_at, is), made), (named, mid, nominates, emitted_is, done)) =
         spends-on 0 0 old recorded new
@@ -154,7 +161,8 @@ module _ {H P : Type 0} where
           mapped-grows (success_counted old) p message.attributes.xor_mapped_address,
           (let le = unspents-set m old.pairs place p after at (subst (λ (x : PairRecord). unspent m p ≤ unspent m x) (sym is) (unspent-answered m now i c p)) in omega (arith, le)),
         ) made)
-        (spends-to 0 recorded (evaluated now mid) new (let k = nominates-spends recorded mid named nominates in (k.0, k.1, k.2)) done)
+        (spends-on 0 0 recorded (formed_again recorded) new (again recorded)
+        (spends-to 0 (formed_again recorded) (evaluated now mid) new (let k = nominates-spends (formed_again recorded) mid named nominates in (k.0, k.1, k.2)) done))
 
     -- ---- requests
 
@@ -173,14 +181,7 @@ module _ {H P : Type 0} where
             (λ _ k. spends-none (pair_served q number s) mid k.1)) in (k.0, k.1, k.2)) made
 
         takes : (l r : ℕ) (number : Option ℕ) (s new : AgentRecord H P) (emitted : Emitted) → FindsOrAddsPair mac q l r number s emitted new → Spends 0 s new
-        takes l r (Some number) s new emitted (inl h) = (let k = pair l r number (forgotten s) new emitted h in (k.0, k.1, k.2))
-        takes l r (Some number) s new emitted (inr (i, j, may, h)) =
-            spends-on 0 0 s (with_pair (formed s i j) (forgotten s)) new (
-              refl,
-              omega arith,
-              (let all = unspents-push m (formed s i j) s.pairs refl in let more = one-more s.next_number m in omega (arith, all, more)),
-            )
-            (pair l r number (with_pair (formed s i j) (forgotten s)) new emitted h)
+        takes l r (Some number) s new emitted h = pair l r number s new emitted h
         takes l r None s new emitted h = either (candidate_at s.local l).discarded h
             (λ _ k. spends-none s new k.1)
             (λ _ k. spends-on 0 0 s (with_pair (formed s l r) s) new (

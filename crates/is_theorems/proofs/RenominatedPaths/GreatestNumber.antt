@@ -2,7 +2,6 @@
 -- ends with the best one selected.
 use Rattle.is_stun.specs.declared.header.Class.TheVariants as class
 use Rattle.is_theorems.specs.Numbered.{IsGreatest}
-use Rattle.is_theorems.proofs.Common.{forgotten}
 use Rattle.is_theorems.proofs.Common.{[], ◌&&◌, ◌++◌, ◌+◌, ◌<◌, ◌==◌, ◌||◌, ◌∙◌, ◌∷◌, ◌≡◌, ◌≤◌, ◌⊎◌, Absent, added, AddLocalCandidate}
 use Rattle.is_theorems.proofs.Common.{AddRemoteCandidate, AddsLocal, AddsRemote, AddsUnknownSender, after_request, AgentRecord, Answer}
 use Rattle.is_theorems.proofs.Common.{answer_by, ap, arith, at_request, Barred, Bool, Call, candidate_at, CandidateRecord, Class, clears_at}
@@ -116,12 +115,7 @@ module _ {H P : Type 0} where
 
     takes-settles : (l r : ℕ) (number : Option ℕ) (s new : AgentRecord H P) (emitted : Emitted) → l < length s.local → r < length s.remote → FitOf s
         → FindsOrAddsPair mac q l r number s emitted new → IsPlaceAtLimit s emitted new
-    takes-settles l r (Some number) s new emitted in_local in_remote fit (inl h) = records-settles l r number (forgotten s) new emitted fit h
-    takes-settles l r (Some number) s new emitted in_local in_remote fit (inr (i, j, may, h)) =
-        let x = parts_of AllNumbers All1 All3 s in
-        let p : PairRecord = formed s i j in
-        let joins = pushed AllNumbers All1 All3 x x.pairs p fit (λ _ has. has) fit.rising refl (may.in_local, may.in_remote) refl (λ (is : false ≡ true). cc) (λ _. inr tt) (λ _. inr tt) (λ _ _ _. inr tt) in
-        records-settles l r number (with_pair p (forgotten s)) new emitted joins.fit h
+    takes-settles l r (Some number) s new emitted in_local in_remote fit h = records-settles l r number s new emitted fit h
     takes-settles l r None s new emitted in_local in_remote fit h = either (candidate_at s.local l).discarded h
         (λ _ k. settles-same s new emitted k.0 k.1)
         (λ _ k. (

@@ -1,7 +1,6 @@
 -- Which pair an agent records as the one that its peer nominated last: that of the request with USE-CANDIDATE that was served last.
 use Rattle.is_stun.specs.declared.header.Class.TheVariants as class
-use Rattle.is_theorems.proofs.BasicLemmas.MembersOfLists.{has-front}
-use Rattle.is_theorems.proofs.Common.{forgotten}
+use Rattle.is_theorems.proofs.Common.{formed_again}
 use Rattle.is_theorems.proofs.Common.{[], ◌&&◌, ◌++◌, ◌==◌, ◌∙◌, ◌∷◌, ◌≡◌, ◌⊎◌, Absent, AddsUnknownSender, after_request, AgentRecord}
 use Rattle.is_theorems.proofs.Common.{all_scheduled, answer_by, ap, as_taken, at_request, at_timeout, Barred, base_of, Bool, Call, candidate_at}
 use Rattle.is_theorems.proofs.Common.{CandidateRecord, change_at, change_pair, ChecksTop, Class, Conflict, conflict_of, CountsAndServes}
@@ -107,7 +106,7 @@ module _ {H P : Type 0} where
 
   success-last : (now : ℕ) (old new : AgentRecord H P) (via : Path) (m : Message) (emitted : Emitted) → HandlesSuccess now old via m emitted new → new.last_nominated ≡ old.last_nominated
   success-last now old new via m emitted (recorded, (place, p, after, found, on, takes, made), (path, named, nominating, is, concluded)) =
-      ap (λ (a : AgentRecord H P). a.last_nominated) concluded ∙ nominates-last recorded named path nominating ∙ ap (λ (a : AgentRecord H P). a.last_nominated) made
+      ap (λ (a : AgentRecord H P). a.last_nominated) concluded ∙ nominates-last (formed_again recorded) named path nominating ∙ ap (λ (a : AgentRecord H P). a.last_nominated) made
 
   failure-last : (old new : AgentRecord H P) (via : Path) (m : Message) (emitted : Emitted) → HandlesFailure old via m emitted new → new.last_nominated ≡ old.last_nominated
   failure-last old new via m emitted h = by_failure (λ _ a. a.last_nominated ≡ old.last_nominated) old new via m emitted (λ code. refl) (λ code. refl) h
@@ -201,13 +200,9 @@ module _ {H P : Type 0} where
 
     takes : (l r : ℕ) (number : Option ℕ) (s new : AgentRecord H P) (emitted : Emitted) → path_between s l r ≡ reversed q.path → IsPairBetween s.pairs l r number
         → FindsOrAddsPair mac q l r number s emitted new → Notes s emitted new
-    takes l r (Some number) s new emitted via (p, has, between, is) (inl h) =
+    takes l r (Some number) s new emitted via (p, has, between, is) h =
         let k = both (p.local == l) (p.remote == r) between in
-        pair l r number (forgotten s) new emitted via (p, has, is, eqb-true p.local l k.0, eqb-true p.remote r k.1) h
-    takes l r (Some number) s new emitted via (p, has, between, is) (inr (i, j, may, h)) =
-        let k = both (p.local == l) (p.remote == r) between in
-        pair l r number (with_pair (formed s i j) (forgotten s)) new emitted via
-        (p, has-front s.pairs (formed s i j) p has, is, eqb-true p.local l k.0, eqb-true p.remote r k.1) h
+        pair l r number s new emitted via (p, has, is, eqb-true p.local l k.0, eqb-true p.remote r k.1) h
     takes l r None s new emitted via none h = either (candidate_at s.local l).discarded h (λ _ k. dropped s new emitted k)
         (λ _ k. pair l r s.next_number (with_pair (formed s l r) s) new emitted via (formed s l r, Has-last s.pairs (formed s l r), refl, refl, refl) k.1)
 

@@ -1,6 +1,7 @@
 -- The effects of nomination, removal of pairs, checks and responses on pairs.
 use Rattle.is_theorems.proofs.Common.{[], ◌&&◌, ◌<◌, ◌||◌, ◌∙◌, ◌∷◌, ◌≡◌, ◌≤◌, ◌⊎◌, AgentRecord, ap, AreRising, arith, Bool, change_at}
-use Rattle.is_theorems.proofs.Common.{change_pair, Check, chosen-able, eq-eqb, expired_gone, false, followed, get_or, gives_way, Has}
+use Rattle.is_theorems.proofs.Common.{change_pair, Check, chosen-able, each-way, eq-eqb, expired_gone, false, followed, formed, formed_again, get_or}
+use Rattle.is_theorems.proofs.Common.{gives_way, Has}
 use Rattle.is_theorems.proofs.Common.{hastened, if◌then◌else◌, inl, inr, is_eligible, is_expired, is_nominated, is_numbered, is_valid}
 use Rattle.is_theorems.proofs.Common.{length, List, list_any, map, moved_up, nominated, nominated_by_self, Nominates, None, not, Option}
 use Rattle.is_theorems.proofs.Common.{PairRecord, Path, path_left, path_of, refl, remains, RemovesExpired, selection_of, silent_gone, Some}
@@ -8,7 +9,7 @@ use Rattle.is_theorems.proofs.Common.{subst, suc, sym, true, zero, ℕ}
 use Rattle.is_theorems.proofs.RuleEffects.UnchangedSettings.{either}
 use Rattle.is_theorems.proofs.RuleEffects.SelectedPaths.{Evaluates, evaluates_none, one_pair, some_is, none_is}
 use Rattle.is_theorems.proofs.RuleEffects.EarlierAndNewPairs.{Parts, path_in, Fit, IsConsented, IsStarted, IsNominatedIn, Persisted, Onward}
-use Rattle.is_theorems.proofs.RuleEffects.EarlierAndNewPairs.{here, onward, thinned, Has-filter}
+use Rattle.is_theorems.proofs.RuleEffects.EarlierAndNewPairs.{here, not_below, onward, pushed, thinned, Has-filter}
 use Rattle.is_theorems.proofs.RuleEffects.NominatedPairs.{selected_paths, SelectsPath, selects_path}
 use Rattle.is_theorems.proofs.RuleEffects.HastenedPairs.{by-hastened, left-held, Hastens}
 
@@ -204,6 +205,12 @@ module _ (asks : Path → ℕ → Type 0) (met : Path → Type 0) (sent : Path �
   module _ {H P : Type 0} where
     abbrev pub parts_of : AgentRecord H P → Parts
     parts_of a = record { local = a.local; remote = a.remote; pairs = a.pairs; next_number = a.next_number }
+
+    -- the pair of the path that was left last is formed again
+    pub forms_again : (s : AgentRecord H P) → Fit (parts_of s) → Onward asks met sent (parts_of s) (parts_of (formed_again s))
+    forms_again s fit = each-way (λ a. Onward asks met sent (parts_of s) (parts_of a)) s (here asks met sent (parts_of s) fit)
+        (λ i j may. pushed asks met sent (parts_of s) s.pairs (formed s i j) fit (λ q has. has) fit.rising refl (may.in_local, may.in_remote) refl
+        (λ (is : false ≡ true). cc) (λ (is : false ≡ true). cc) (λ (is : false ≡ true). cc) (λ m pos le. not_below m pos le))
 
     -- nomination leaves everything except nominations, and selects a valid path
     selects_one : (old new : AgentRecord H P) (path : Option Path) → ((old.controlling || old.lite) ≡ true → (p : Path) (m : ℕ) → asks p m) → Fit (parts_of old) → SelectsPath old path new

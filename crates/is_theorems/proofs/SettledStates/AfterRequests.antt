@@ -1,6 +1,5 @@
 -- A request that is served: if it selects a path, the state is evaluated with `Modern`.
 use Rattle.is_stun.specs.declared.header.Class.TheVariants as class
-use Rattle.is_theorems.proofs.Common.{forgotten}
 use Rattle.is_theorems.proofs.Common.{◌&&◌, ◌∙◌, ◌≡◌, Absent, AddsUnknownSender, after_request, AgentRecord, ap, as_taken, Barred, Bool}
 use Rattle.is_theorems.proofs.Common.{candidate_at, change_at, Conflict, conflict_of, CountsAndServes, Drops, Emitted, false}
 use Rattle.is_theorems.proofs.Common.{FindsOrAddsPair, formed, Full, Has, IceCreds, if◌then◌else◌, in_turn, inl, inr, is_connected}
@@ -149,9 +148,7 @@ module _ {H P : Type 0} where
 
     takes : (l r : ℕ) (number : Option ℕ) (s new : AgentRecord H P) (emitted : Emitted) → s.lite ≡ false → FindsOrAddsPair mac q l r number s emitted new
         → Outcome s emitted new
-    takes l r (Some number) s new emitted full (inl h) = after-preparing s (forgotten s) new emitted (record { state = refl; rules = refl; back = λ live. live; keeps = λ is. is }) (pair l r number (forgotten s) new emitted full h)
-    takes l r (Some number) s new emitted full (inr (i, j, may, h)) = after-preparing s (with_pair (formed s i j) (forgotten s)) new emitted (let k = added i j s in record { state = k.state; rules = k.rules; back = k.back; keeps = k.keeps })
-        (pair l r number (with_pair (formed s i j) (forgotten s)) new emitted full h)
+    takes l r (Some number) s new emitted full h = pair l r number s new emitted full h
     takes l r None s new emitted full h = either (candidate_at s.local l).discarded h (λ _ k. dropped s new emitted k)
         (λ _ k. after-preparing s (with_pair (formed s l r) s) new emitted (added l r s)
         (pair l r s.next_number (with_pair (formed s l r) s) new emitted full k.1))

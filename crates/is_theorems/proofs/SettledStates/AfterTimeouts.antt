@@ -1,5 +1,6 @@
 -- Responses and `handle_timeout` calls: the state is evaluated after nomination.
 use Rattle.is_stun.specs.declared.header.Class.TheVariants as class
+use Rattle.is_theorems.proofs.Common.{formed_again}
 use Rattle.is_theorems.proofs.Common.{◌&&◌, ◌∙◌, ◌≡◌, AgentRecord, all_scheduled, ap, scheduled, at_request, at_timeout, Bool, CandidateRecord}
 use Rattle.is_theorems.proofs.Common.{change_at, check_sent, Checking, ChecksTop, Class, discovered_emitted, Emitted, Entry, Err}
 use Rattle.is_theorems.proofs.Common.{expired_gone, false, first_taken, HandlesFailure, HandlesPacket, HandlesSuccess, Has, has_nominated}
@@ -27,12 +28,12 @@ module _ {H P : Type 0} where
   success : (now : ℕ) (old new : AgentRecord H P) (via : Path) (m : Message) (emitted : Emitted) → HandlesSuccess now old via m emitted new
       → Outcome old emitted new
   success now old new via m emitted (recorded, (i, p, after, found, keeps, took, made), (path, mid, nominates, is, concluded)) =
-      let state : mid.state ≡ old.state = nominates-state recorded mid path nominates ∙ ap (λ (a : AgentRecord H P). a.state) made in
+      let state : mid.state ≡ old.state = nominates-state (formed_again recorded) mid path nominates ∙ ap (λ (a : AgentRecord H P). a.state) made in
       inr (subst (λ (a : AgentRecord H P). IsPlaceAtLimit old a) (sym concluded) (record {
         begun = begun-evaluated now mid;
         backed = evaluated-backed now mid;
         connects = λ rules live. evaluated-connects now mid (ap (λ z. same_state z New) state ∙ settles-begun old rules.0) live;
-        selects = λ _ live. nominates-selects recorded mid path nominates live;
+        selects = λ _ live. nominates-selects (formed_again recorded) mid path nominates live;
       }))
 
   module _ (mac : H → List ℕ → List ℕ → List ℕ) where

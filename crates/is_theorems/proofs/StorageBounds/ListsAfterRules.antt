@@ -1,6 +1,5 @@
 -- How requests, packets and timeouts change the lists that a limit bounds.
 use Rattle.is_stun.specs.declared.header.Class.TheVariants as class
-use Rattle.is_theorems.proofs.Common.{forgotten}
 use Rattle.is_theorems.proofs.Common.{[], ◌&&◌, ◌++◌, ◌-◌, ◌<◌, ◌∙◌, ◌∷◌, ◌≡◌, ◌≤◌, Absent, AddsUnknownSender, AgentRecord, ap, arith}
 use Rattle.is_theorems.proofs.Common.{at_request, Barred, Bool, candidate_at, CandidateRecord, Class, Conflict, conflict_of}
 use Rattle.is_theorems.proofs.Common.{CountsAndServes, discovered_count, discovered_emitted, Drops, Emitted, Entry, Err, false}
@@ -71,8 +70,7 @@ module _ {H P : Type 0} where
           ap (λ (a : AgentRecord H P). lists_of a) made ∙ where_same (selects_at_requests s && is_valid_at number s.pairs) (pair_served q number s) mid path nominates
 
       takes : (l r : ℕ) (number : Option ℕ) (s new : AgentRecord H P) (emitted : Emitted) → FindsOrAddsPair mac q l r number s emitted new → Same s new
-      takes l r (Some number) s new emitted (inl h) = pair l r number (forgotten s) new emitted h
-      takes l r (Some number) s new emitted (inr (i, j, may, h)) = pair l r number (with_pair (formed s i j) (forgotten s)) new emitted h
+      takes l r (Some number) s new emitted h = pair l r number s new emitted h
       takes l r None s new emitted h = either (candidate_at s.local l).discarded h (λ _ k. same s new k.1) (λ _ k. pair l r s.next_number (with_pair (formed s l r) s) new emitted k.1)
 
       joins_at : (l : ℕ) (place : RemotePlace) (s new : AgentRecord H P) (emitted : Emitted) → IsSenderPlace s q place → AddsUnknownSender mac q l place s emitted new → Served s new

@@ -2,7 +2,7 @@
 -- the limit on pairs holds.
 use Rattle.is_pair.specs.Multiset.{is_between}
 use Rattle.is_stun.specs.declared.header.Class.TheVariants as class
-use Rattle.is_theorems.proofs.Common.{forgotten}
+use Rattle.is_theorems.proofs.Common.{each-way, formed_again}
 use Rattle.is_theorems.proofs.Common.{[], ◌&&◌, ◌++◌, ◌<◌, ◌==◌, ◌||◌, ◌∙◌, ◌∷◌, ◌≡◌, ◌≤◌, Absent, AddsUnknownSender, after_request}
 use Rattle.is_theorems.proofs.Common.{AgentRecord, all_scheduled, ap, arith, as_taken, scheduled, at_request, at_timeout, Barred, Bool}
 use Rattle.is_theorems.proofs.Common.{candidate_at, CandidateKind, CandidateRecord, change_at, ChecksTop, Class, Combination, Conflict}
@@ -233,10 +233,20 @@ module _ {H P : Type 0} where
     by true = omega arith
     by false = let e = appended_fewer old.local (mapped_candidate (success_counted old) p mapped) old.pairs inside in omega (arith, e)
 
+  -- a new pair has a cell of its own
+  added_fewer : (s : AgentRecord H P) (l r : ℕ) → own_at s.local l ≡ true → list_any (is_between l r) s.pairs ≡ false → Fewer s (with_pair (formed s l r) s)
+  added_fewer s l r its none =
+      let e : extras (own_at s.local) (cells (s.pairs ++ formed s l r ∷ [])) ≡ surplus s = extras-new (own_at s.local) s.pairs (formed s l r) its (none-between l r s.pairs none) in
+      omega (arith, e)
+
+  again : (s : AgentRecord H P) → Fewer s (formed_again s)
+  again s = each-way (λ a. Fewer s a) s (unchanged s s refl) (λ i j may. added_fewer s i j (ap not may.own) may.unmatched)
+
   success_fewer : (now : ℕ) (old new : AgentRecord H P) (via : Path) (m : Message) (emitted : Emitted) → ((q : PairRecord) → Has old.pairs q → q.local < length old.local)
       → HandlesSuccess now old via m emitted new → Fewer old new
   success_fewer now old new via m emitted inside (recorded, (i, p, after, found, keeps, (place, c, at, took), made), (path, mid, nominates, is, done)) =
-      evaluated_fewer now old mid new done (on old recorded mid (made-as old _ recorded made counts) (nominates_fewer recorded mid path nominates)) where
+      evaluated_fewer now old mid new done (on old (formed_again recorded) mid (on old recorded (formed_again recorded) (made-as old _ recorded made counts) (again recorded))
+      (nominates_fewer (formed_again recorded) mid path nominates)) where
         counts : extras (own_at (local_with p m.attributes.xor_mapped_address (success_counted old))) (cells (slice_set old.pairs i after)) ≤ surplus old
         counts =
             subst (λ (cs : List Combination). extras (own_at (local_with p m.attributes.xor_mapped_address (success_counted old))) cs ≤ surplus old)
@@ -271,18 +281,10 @@ module _ {H P : Type 0} where
         on s (pair_served q number s) new (alike s (pair_served q number s) e)
         (on (pair_served q number s) mid new f (alike mid new (ap (λ (a : AgentRecord H P). grid_of a) made)))
 
-    -- a new pair has a cell of its own
-    added-anew : (s : AgentRecord H P) (l r : ℕ) → own_at s.local l ≡ true → list_any (is_between l r) s.pairs ≡ false → Fewer s (with_pair (formed s l r) s)
-    added-anew s l r its none =
-        let e : extras (own_at s.local) (cells (s.pairs ++ formed s l r ∷ [])) ≡ surplus s = extras-new (own_at s.local) s.pairs (formed s l r) its (none-between l r s.pairs none) in
-        omega (arith, e)
-
     takes : (l r : ℕ) (number : Option ℕ) (s new : AgentRecord H P) (emitted : Emitted) → own_at s.local l ≡ true → IsPairBetween s.pairs l r number → FindsOrAddsPair mac q l r number s emitted new → Fewer s new
-    takes l r (Some number) s new emitted its between (inl h) = (let k = pair l r number (forgotten s) new emitted h in k)
-    takes l r (Some number) s new emitted its between (inr (i, j, may, h)) =
-        on s (with_pair (formed s i j) (forgotten s)) new (added-anew s i j (ap not may.own) may.unmatched) (pair l r number (with_pair (formed s i j) (forgotten s)) new emitted h)
+    takes l r (Some number) s new emitted its between h = pair l r number s new emitted h
     takes l r None s new emitted its between h = either (candidate_at s.local l).discarded h (λ _ k. unchanged s new k.1)
-        (λ _ k. on s (with_pair (formed s l r) s) new (added-anew s l r its (none-any (is_between l r) s.pairs between))
+        (λ _ k. on s (with_pair (formed s l r) s) new (added_fewer s l r its (none-any (is_between l r) s.pairs between))
         (pair l r s.next_number (with_pair (formed s l r) s) new emitted k.1))
 
     joins_at : (l : ℕ) (place : RemotePlace) (s new : AgentRecord H P) (emitted : Emitted) → own_at s.local l ≡ true → AddsUnknownSender mac q l place s emitted new → Fewer s new

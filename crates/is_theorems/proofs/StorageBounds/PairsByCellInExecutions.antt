@@ -182,7 +182,7 @@ module _ {H P : Type 0} where
               let some = extras-length (own_at last.local) (cells last.pairs) in
               omega (arith, formed, most, all, some)
 
-    -- requests add pairs only at local candidates that no response brought
+    -- packets add pairs only at local candidates that no response brought
     pub few_pairs : (limit : ℕ) (first : AgentRecord H P) (s : Stream) (log : List (Logged P)) (last : AgentRecord H P) (t : Stream) → IsFresh first → FormsFew mac answers limit first s log
         → Run mac answers first s log last t → length last.pairs ≤ limit + count_by is_own last.local * length last.remote
     few_pairs limit first s log last t is_fresh few run =

@@ -1,5 +1,5 @@
 -- How the rules change the queues of packets and events.
-use Rattle.is_theorems.proofs.Common.{forgotten, inl, inr}
+use Rattle.is_theorems.proofs.Common.{formed_again}
 use Rattle.is_theorems.proofs.Common.{[], ◌&&◌, ◌++◌, ◌+◌, ◌∙◌, ◌∷◌, ◌≡◌, ◌≤◌, Absent, AddsUnknownSender, AgentRecord, all_scheduled, ap, arith}
 use Rattle.is_theorems.proofs.Common.{at_timeout, Barred, Bool, candidate_at, ChecksTop, Combination, cond, Conflict, conflict_of, count_by}
 use Rattle.is_theorems.proofs.Common.{CountsAndServes, discovery_count, Drops, Emitted, evaluated, events_kept, expired_gone, false, filter}
@@ -194,7 +194,8 @@ module _ {H P : Type 0} where
   success_adds now old new via m emitted (recorded, (i, p, after, found, keeps, took, made), (path, mid, nominates, is, done)) =
       as-made 0 2 old (evaluated now mid) new done
       (more 0 1 0 1 old mid (evaluated now mid)
-      (more 0 0 0 1 old recorded mid (same old recorded (ap (λ (a : AgentRecord H P). lines_of a) made)) (nominates_adds recorded mid path nominates))
+      (more 0 0 0 1 old (formed_again recorded) mid (same old (formed_again recorded) (ap (λ (a : AgentRecord H P). lines_of a) made))
+      (nominates_adds (formed_again recorded) mid path nominates))
       (evaluated_adds now mid))
 
   pub failure_adds : (old new : AgentRecord H P) (via : Path) (m : Message) (emitted : Emitted) → HandlesFailure old via m emitted new → Adds 0 0 old new
@@ -217,8 +218,7 @@ module _ {H P : Type 0} where
         (more 0 1 1 0 mid at new (updated_adds (is_some path) (triggered_time q s) mid) (as-made 1 0 at _ new made (one-packet (lines_of at) _)))
 
     takes : (l r : ℕ) (number : Option ℕ) (s new : AgentRecord H P) (emitted : Emitted) → FindsOrAddsPair mac q l r number s emitted new → Adds 1 2 s new
-    takes l r (Some number) s new emitted (inl h) = pair l r number (forgotten s) new emitted h
-    takes l r (Some number) s new emitted (inr (i, j, may, h)) = pair l r number (with_pair (formed s i j) (forgotten s)) new emitted h
+    takes l r (Some number) s new emitted h = pair l r number s new emitted h
     takes l r None s new emitted h = either (candidate_at s.local l).discarded h
         (λ _ k. none s new (kept s new k.1))
         (λ _ k. pair l r s.next_number (with_pair (formed s l r) s) new emitted k.1)

@@ -1,4 +1,5 @@
 -- The rules that do not change the lists that a limit bounds.
+use Rattle.is_theorems.proofs.Common.{formed_again}
 use Rattle.is_theorems.proofs.Common.{◌∙◌, ◌≡◌, AgentRecord, all_scheduled, ap, at_timeout, Bool, ChecksTop, Combination, Emitted, expired_gone}
 use Rattle.is_theorems.proofs.Common.{false, FormsAll, HandlesFailure, HandlesSuccess, IceCreds, is_expired, Issued, List, list_any}
 use Rattle.is_theorems.proofs.Common.{MaintainsPairs, mapped_added, MayCheck, Message, nominated_emitted, Nominates, NominatesWhere, None}
@@ -59,7 +60,7 @@ module _ {H P : Type 0} where
   pub success_same : (now : ℕ) (old new : AgentRecord H P) (via : Path) (m : Message) (emitted : Emitted) → HandlesSuccess now old via m emitted new
       → (p : PairRecord) × Same (mapped_added p m.attributes.xor_mapped_address (success_counted old)) new
   success_same now old new via m emitted (recorded, (i, p, after, found, keeps, took, made), (path, mid, nominates, is, done)) =
-      (p, ap (λ (a : AgentRecord H P). lists_of a) done ∙ (nominates_same recorded mid path nominates ∙ ap (λ (a : AgentRecord H P). lists_of a) made))
+      (p, ap (λ (a : AgentRecord H P). lists_of a) done ∙ (nominates_same (formed_again recorded) mid path nominates ∙ ap (λ (a : AgentRecord H P). lists_of a) made))
 
   pub failure_same : (old new : AgentRecord H P) (via : Path) (m : Message) (emitted : Emitted) → HandlesFailure old via m emitted new → Same old new
   failure_same old new via m emitted h = by_failure (λ _ a. Same old a) old new via m emitted (λ code. refl) (λ code. refl) h

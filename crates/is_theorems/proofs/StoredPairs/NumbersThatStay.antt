@@ -1,7 +1,7 @@
 -- Each step leaves each pair its number, and whether a request came to it, except for steps that remove pairs.
 use Rattle.is_pair.specs.Due as due
 use Rattle.is_stun.specs.declared.header.Class.TheVariants as class
-use Rattle.is_theorems.proofs.Common.{forgotten}
+use Rattle.is_theorems.proofs.Common.{each-way, formed_again}
 use Rattle.is_theorems.proofs.Common.{[], ◌&&◌, ◌++◌, ◌||◌, ◌∙◌, ◌∷◌, ◌≡◌, ◌⊎◌, Absent, AddsUnknownSender, after_request, AgentRecord}
 use Rattle.is_theorems.proofs.Common.{all_scheduled, ap, arith, as_taken, at_timeout, Barred, Bool, candidate_at, change_at, change_pair}
 use Rattle.is_theorems.proofs.Common.{ChecksTop, Class, Conflict, conflict_of, counted, CountsAndServes, Drops, Emitted, evaluated}
@@ -244,10 +244,7 @@ module _ {H P : Type 0} where
           (λ _ k. keep-same (pair_served q number s) mid k.1))) made
 
       takes : (l r : ℕ) (number : Option ℕ) (s new : AgentRecord H P) (emitted : Emitted) → FindsOrAddsPair mac q l r number s emitted new → Keep s new
-      takes l r (Some number) s new emitted (inl h) = pair l r number (forgotten s) new emitted h
-      takes l r (Some number) s new emitted (inr (i, j, may, h)) =
-          keeps-on s.pairs (s.pairs ++ formed s i j ∷ []) new.pairs (keeps-push s.pairs (formed s i j ∷ []))
-          (pair l r number (with_pair (formed s i j) (forgotten s)) new emitted h)
+      takes l r (Some number) s new emitted h = pair l r number s new emitted h
       takes l r None s new emitted h = either (candidate_at s.local l).discarded h
           (λ _ k. keep-same s new k.1)
           (λ _ k. keeps-on s.pairs (s.pairs ++ formed s l r ∷ []) new.pairs (keeps-push s.pairs (formed s l r ∷ []))
@@ -288,12 +285,17 @@ module _ {H P : Type 0} where
 
     -- ---- responses
 
+    again : (s : AgentRecord H P) → Keep s (formed_again s)
+    again s = each-way (λ a. Keep s a) s (λ n asks x. x) (λ i j may. keeps-push s.pairs (formed s i j ∷ []))
+
     success : (now : ℕ) (old new : AgentRecord H P) (via : Path) (m : Message) (emitted : Emitted) → HandlesSuccess now old via m emitted new → Keep old new
     success now old new via m emitted (recorded, (place, p, after, at, keeps, (k, c, is_at, is), made), (path, mid, nominates, emitted_is, done)) =
         keep-as old (evaluated now mid) new
-        (keeps-on old.pairs recorded.pairs mid.pairs
+        (keeps-on old.pairs (formed_again recorded).pairs mid.pairs
+        (keeps-on old.pairs recorded.pairs (formed_again recorded).pairs
         (keep-as old _ recorded (keeps-set old.pairs place p after at (ap (λ (x : PairRecord). x.number) is, λ on. subst (λ (x : PairRecord). is_asked x ≡ true) (sym is) on)) made)
-        (keep-nominates recorded mid path nominates)) done
+        (again recorded))
+        (keep-nominates (formed_again recorded) mid path nominates)) done
 
     failure : (old new : AgentRecord H P) (via : Path) (m : Message) (emitted : Emitted) → HandlesFailure old via m emitted new → Keep old new
     failure old new via m emitted h =

@@ -1,7 +1,6 @@
 -- A `handle_timeout` call that sends a check stores it.
 use Rattle.is_stun.specs.declared.header.Class.TheVariants as class
 use Rattle.is_rules.specs.declared.emitted.Issued as code
-use Rattle.is_theorems.proofs.Common.{forgotten}
 use Rattle.is_theorems.proofs.Common.{[], ◌++◌, ◌+◌, ◌-◌, ◌<◌, ◌==◌, ◌∙◌, ◌∷◌, ◌≡◌, ◌≤◌, Absent, AddsUnknownSender, AgentRecord, all_scheduled}
 use Rattle.is_theorems.proofs.Common.{ap, arith, at_request, Barred, Bool, bytes_eq, bytes_eq-Decides, candidate_at, CandidateRecord}
 use Rattle.is_theorems.proofs.Common.{change_at, change_pair, Check, check_message, check_of, check_sent, ChecksAreKept, ChecksPair}
@@ -78,8 +77,7 @@ module _ {H P : Type 0} (mac : H → List ℕ → List ℕ → List ℕ) (answer
         let wrong : class.Success ≡ class.Request = other_class _ _ via _ id (sym (ap (λ (t : Emitted). t.issued) is) ∙ out) in cc
 
     takes_at : (l r : ℕ) (number : Option ℕ) (s new : AgentRecord H P) (emitted : Emitted) → FindsOrAddsPair mac q l r number s emitted new → NoCheck emitted
-    takes_at l r (Some number) s new emitted (inl h) = at_pair l r number (forgotten s) new emitted h
-    takes_at l r (Some number) s new emitted (inr (i, j, may, h)) = at_pair l r number (with_pair (formed s i j) (forgotten s)) new emitted h
+    takes_at l r (Some number) s new emitted h = at_pair l r number s new emitted h
     takes_at l r None s new emitted h = either (candidate_at s.local l).discarded h (λ _ k. dropped s new emitted k) (λ _ k. at_pair l r s.next_number (with_pair (formed s l r) s) new emitted k.1)
 
     joins_at : (l : ℕ) (place : RemotePlace) (s new : AgentRecord H P) (emitted : Emitted) → AddsUnknownSender mac q l place s emitted new → NoCheck emitted

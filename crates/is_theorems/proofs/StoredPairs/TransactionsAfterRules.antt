@@ -2,7 +2,7 @@
 -- to them.
 use Rattle.is_pair.specs.Due as due
 use Rattle.is_stun.specs.declared.header.Class.TheVariants as class
-use Rattle.is_theorems.proofs.Common.{forgotten}
+use Rattle.is_theorems.proofs.Common.{each-way, formed_again}
 use Rattle.is_theorems.proofs.Common.{[], ◌&&◌, ◌++◌, ◌-◌, ◌||◌, ◌∙◌, ◌∷◌, ◌≡◌, ◌⊎◌, Absent, AddsUnknownSender, after_request, AgentRecord}
 use Rattle.is_theorems.proofs.Common.{all_scheduled, answered_at, ap, as_sent, as_taken, at_timeout, Barred, Bool, candidate_at, change_at}
 use Rattle.is_theorems.proofs.Common.{change_pair, Check, check_of, check_sent, ChecksTop, Class, Conflict, conflict_of, CountsAndServes}
@@ -319,10 +319,7 @@ module _ {H P : Type 0} where
           (λ _ k. keep-same (pair_served q number s) mid k.1))) made
 
       takes : (l r : ℕ) (number : Option ℕ) (s new : AgentRecord H P) (emitted : Emitted) → FindsOrAddsPair mac q l r number s emitted new → Keep s new
-      takes l r (Some number) s new emitted (inl h) = pair l r number (forgotten s) new emitted h
-      takes l r (Some number) s new emitted (inr (i, j, may, h)) =
-          keeps-on s.pairs (s.pairs ++ formed s i j ∷ []) new.pairs (keeps-push s.pairs (formed s i j ∷ []))
-          (pair l r number (with_pair (formed s i j) (forgotten s)) new emitted h)
+      takes l r (Some number) s new emitted h = pair l r number s new emitted h
       takes l r None s new emitted h = either (candidate_at s.local l).discarded h
           (λ _ k. keep-same s new k.1)
           (λ _ k. keeps-on s.pairs (s.pairs ++ formed s l r ∷ []) new.pairs (keeps-push s.pairs (formed s l r ∷ []))
@@ -363,12 +360,17 @@ module _ {H P : Type 0} where
 
     -- ---- responses
 
+    again : (s : AgentRecord H P) → Keep s (formed_again s)
+    again s = each-way (λ a. Keep s a) s (keeps-self s.pairs) (λ i j may. keeps-push s.pairs (formed s i j ∷ []))
+
     success : (now : ℕ) (old new : AgentRecord H P) (via : Path) (m : Message) (emitted : Emitted) → HandlesSuccess now old via m emitted new → Keep old new
     success now old new via m emitted (recorded, (place, p, after, at, keeps, (k, c, is_at, is), made), (path, mid, nominates, emitted_is, done)) =
         keep-as old (evaluated now mid) new
-        (keeps-on old.pairs recorded.pairs mid.pairs
+        (keeps-on old.pairs (formed_again recorded).pairs mid.pairs
+        (keeps-on old.pairs recorded.pairs (formed_again recorded).pairs
         (keep-as old _ recorded (keeps-set old.pairs place p after at (answer-same p after now m.id (k, c, is_at, is))) made)
-        (keep-nominates recorded mid path nominates)) done
+        (again recorded))
+        (keep-nominates (formed_again recorded) mid path nominates)) done
 
     failure : (old new : AgentRecord H P) (via : Path) (m : Message) (emitted : Emitted) → HandlesFailure old via m emitted new → Keep old new
     failure old new via m emitted h =

@@ -1,6 +1,6 @@
 -- Packets and polls leave each pending transaction of a pair, on its path.
 use Rattle.is_stun.specs.declared.header.Class.TheVariants as class
-use Rattle.is_theorems.proofs.Common.{forgotten}
+use Rattle.is_theorems.proofs.Common.{each-way, forgotten, formed_again}
 use Rattle.is_theorems.proofs.Common.{[], ◌&&◌, ◌++◌, ◌+◌, ◌<◌, ◌||◌, ◌∙◌, ◌∷◌, ◌≡◌, ◌⊎◌, Absent, AddsUnknownSender, after_request}
 use Rattle.is_theorems.proofs.Common.{AgentRecord, answered_at, ap, AreBetween, arith, as_taken, scheduled, Barred, base_of, Bool, Call}
 use Rattle.is_theorems.proofs.Common.{candidate_at, CandidateRecord, change_at, ChecksStay, Class, Conflict, conflict_of, CountsAndServes}
@@ -214,12 +214,7 @@ module _ {H P : Type 0} where
           (subst (λ (a : AgentRecord H P). Stays mid a) (sym made) (stays_by mid (replied mac q (path_between s l r) (state_updated (is_some path) (triggered_time q s) mid)) (inl refl) (inl refl) (same_pairs mid.pairs))))
 
       takes_at : (l r : ℕ) (number : Option ℕ) (s new : AgentRecord H P) (emitted : Emitted) → FindsOrAddsPair mac q l r number s emitted new → Stays s new
-      takes_at l r (Some number) s new emitted (inl h) =
-          stays_on s (forgotten s) new (stays_by s (forgotten s) (inl refl) (inl refl) (λ p has. (p, has, alike_same p))) (at_pair l r number (forgotten s) new emitted h)
-      takes_at l r (Some number) s new emitted (inr (i, j, may, h)) =
-          stays_on s (with_pair (formed s i j) (forgotten s)) new
-          (stays_by s (with_pair (formed s i j) (forgotten s)) (inl refl) (inl refl) (λ p has. (p, has_front s.pairs (formed s i j) p has, alike_same p)))
-          (at_pair l r number (with_pair (formed s i j) (forgotten s)) new emitted h)
+      takes_at l r (Some number) s new emitted h = at_pair l r number s new emitted h
       takes_at l r None s new emitted h = either (candidate_at s.local l).discarded h
           (λ _ k. stays_same s new k.1)
           (λ _ k. stays_on s (with_pair (formed s l r) s) new
@@ -282,11 +277,16 @@ module _ {H P : Type 0} where
             | inr (own, put) ↦ (after, put, subst (λ (x : PairRecord). Alike x after) (sym own) (answer_alike p after now m.id takes))
           ]
 
+    again : (s : AgentRecord H P) → Stays s (formed_again s)
+    again s = each-way (λ a. Stays s a) s (stays_by s (forgotten s) (inl refl) (inl refl) (same_pairs s.pairs))
+        (λ i j may. stays_by s (with_pair (formed s i j) (forgotten s)) (inl refl) (inl refl) (λ p has. (p, has_front s.pairs (formed s i j) p has, alike_same p)))
+
     succeeds : (now : ℕ) (old new : AgentRecord H P) (via : Path) (m : Message) (emitted : Emitted) → HandlesSuccess now old via m emitted new → Stays old new
     succeeds now old new via m emitted (recorded, recording, (path, mid, nominating, is, made)) =
         stays_on old recorded new (records now old recorded via m recording)
-        (stays_on recorded mid new (nominates recorded mid path nominating)
-        (subst (λ (a : AgentRecord H P). Stays mid a) (sym made) (stays_by mid _ (inl refl) (inl refl) (same_pairs mid.pairs))))
+        (stays_on recorded (formed_again recorded) new (again recorded)
+        (stays_on (formed_again recorded) mid new (nominates (formed_again recorded) mid path nominating)
+        (subst (λ (a : AgentRecord H P). Stays mid a) (sym made) (stays_by mid _ (inl refl) (inl refl) (same_pairs mid.pairs)))))
 
     fails : (s new : AgentRecord H P) (via : Path) (m : Message) (emitted : Emitted) → HandlesFailure s via m emitted new → Stays s new
     fails s new via m emitted h =

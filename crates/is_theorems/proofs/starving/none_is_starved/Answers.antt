@@ -1,4 +1,4 @@
-use Rattle.is_theorems.proofs.PollingRounds.LimitedPairsAndRequests.{none-starves}
+use Rattle.is_theorems.proofs.PollingRounds.LimitedPairsAndPackets.{none-starves}
 use Rattle.is_theorems.proofs.starving.none_is_starved.Goals as goal
 
 pub returns : goal.returns

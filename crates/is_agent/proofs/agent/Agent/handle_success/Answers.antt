@@ -6,7 +6,7 @@ use Rattle.is_pair.specs.Pairs.{PairRecord}
 use Rattle.is_rules.specs.Agent.{AgentRecord}
 use Rattle.is_agent.specs.View.{record_of}
 use Rattle.is_rules.specs.Due.{IsRecorded}
-use Rattle.is_rules.specs.Answers.{is_reverse, joined_by, local_with, success_counted}
+use Rattle.is_rules.specs.Answers.{is_reverse, joined_by, local_with, success_counted, Concludes}
 use Rattle.is_rules.specs.Sending.{path_of}
 use Rattle.is_agent.proofs.AgentParts.ReceivedResponses.{success-taken}
 use Rattle.is_agent.proofs.AgentParts.PairsByNumber.{both, kept-at}
@@ -32,7 +32,8 @@ returns-clause-taken g c =
     let place = subst (λ (o : Option PairRecord). IfSome o (λ (q : PairRecord). c.local_place_of-l.result ≡ q.local)) found c.local_place_of-l.ensures.place in
     let new_mapped_candidate = c.in_ok-mapped.ensures.new_mapped_candidate p place ∙ ap (λ (a : Option SocketAddr). local_with p a (success_counted old)) c.mapped_address.ensures in
     success-taken now old recorded (record_of c.conclude.new.self) c.args.path.now m c.conclude.result number p (joined_by mapped old.local)
-    c.numbers_rise.ensures found on new_mapped_candidate named c.conclude.ensures.concludes
+    c.numbers_rise.ensures found on new_mapped_candidate named
+    (subst (λ (a : AgentRecord g.row.H.Denot g.row.P.Denot). Concludes now a c.conclude.result (record_of c.conclude.new.self)) c.form_again.ensures.formed c.conclude.ensures.concludes)
 
 pub local_place_of-l-requires : goal.local_place_of-l-requires
 local_place_of-l-requires g c = let (p, found, on) = c.requires.kept in numbered-has c.args.number (record_of c.args.self.now).pairs p found

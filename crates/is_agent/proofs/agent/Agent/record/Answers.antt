@@ -23,4 +23,11 @@ invariant_of-self-clause-room_suffices g c =
     let self = c.args.self.now in
     let more : live_count c.join.new.local.items ≤ live_count self.local.items + 1 = rw (c.join.ensures.items) (live-joined c.args.mapped self.local.items) in
     let same = as-many-answered c.args.number c.args.now.0 c.args.id.0 (multiset_of self.pairs) _ c.record_binding_response.ensures.answered in
-    omega (arith, more, same, c.requires.candidate)
+    omega (arith, more, same, c.requires.room.2)
+
+pub returns-clause-pairs : goal.returns-clause-pairs
+returns-clause-pairs g c = λ n room.
+    let self = c.args.self.now in
+    let more : live_count c.join.new.local.items ≤ live_count self.local.items + 1 = rw (c.join.ensures.items) (live-joined c.args.mapped self.local.items) in
+    let same = as-many-answered c.args.number c.args.now.0 c.args.id.0 (multiset_of self.pairs) _ c.record_binding_response.ensures.answered in
+    (c.record_binding_response.ensures.room n room.1, omega (arith, more, same, room.2))

@@ -1,4 +1,4 @@
--- With limits, a bound on the rounds before a pair that is due is checked, whatever pairs requests add in them.
+-- With limits, a bound on the rounds before a pair that is due is checked, whatever pairs packets add in them.
 use Rattle.is_theorems.proofs.Common.{[], ◌*◌, ◌++◌, ◌+◌, ◌<◌, ◌∙◌, ◌∷◌, ◌≡◌, ◌≤◌, add-mul, AddLocalCandidate, AddRemoteCandidate}
 use Rattle.is_theorems.proofs.Common.{AgentRecord, ap, AreSteady, arith, Bool, Call, CandidateRecord, cond, ConsentLastsIn, count_by}
 use Rattle.is_theorems.proofs.Common.{entries_of, Entry, false, FormsFew, gathered_count, HandleTimeout, Has, inl, inr, InvalidateCandidate}
@@ -14,7 +14,7 @@ use Rattle.is_theorems.proofs.CallEffects.PathAndTradeEffects.{path_theorem}
 use Rattle.is_theorems.proofs.ExecutionLogs.LogTheorems.{runs_sound}
 use Rattle.is_theorems.proofs.ExecutionLogs.LogSegments.{no-case, run-on}
 use Rattle.is_theorems.proofs.ExecutionLogs.PointsOfSegments.{deeper}
-use Rattle.is_theorems.proofs.RemainingChecks.PairsThatRequestsAdd.{requests-add-few}
+use Rattle.is_theorems.proofs.RemainingChecks.PairsThatPacketsAdd.{packets-add-few}
 use Rattle.is_theorems.proofs.BasicLemmas.EqualAddresses.{both}
 
 -- ---- numbers
@@ -146,14 +146,14 @@ module _ {H P : Type 0} (mac : H → List ℕ → List ℕ → List ℕ) (answer
       (λ b m a y k. limited b m a y (deeper mac answers first s log (part ++ before) rest b m y a split k))
       (λ b m a y k. few b m a y (deeper mac answers first s log (part ++ before) rest b m y a split k)) led))
 
-  -- rounds that suffice whatever pairs requests add in them suffice with those that they do
+  -- rounds that suffice whatever pairs packets add in them suffice with those that they do
   pub suffice-steady : (first : AgentRecord H P) (s : Stream) (log : List (Logged P)) → IsFresh first → (before part : List (Logged P)) (start last : AgentRecord H P)
       → (found : Part mac answers first s log before start part last) → start.lite ≡ false → AreSteady false part → ConsentLastsIn mac answers before start found.at part last found.following found.run
       → (pairs bound sent rounds : ℕ) → length start.pairs ≤ pairs → length last.pairs ≤ bound → timeout_count part ≤ rounds
       → times (is_modern start.timing) (2 * pairs + bound + sent) * start.timing.max_retransmits + times (is_modern start.timing) rounds ≤ (rounds + 1) * start.timing.max_retransmits
       → times (is_modern start.timing) (2 * length start.pairs + last.next_number + sent) ≤ rounds + 1 + times (is_modern start.timing) start.next_number
   suffice-steady first s log fresh before part start last found full steady consents pairs bound sent rounds few few_last timeouts enough =
-      let added = requests-add-few mac answers first s log fresh before part start last found full steady consents in
+      let added = packets-add-few mac answers first s log fresh before part start last found full steady consents in
       let sound : IsSound start = runs_sound mac answers (path_theorem mac answers) first start s found.at before fresh found.led in
       let fit : times (is_modern start.timing) (2 * pairs + last.next_number + sent) ≤ rounds + 1 + times (is_modern start.timing) start.next_number =
       enough-rounds-in-turn (is_modern start.timing) pairs (length last.pairs) start.next_number last.next_number rounds

@@ -1,8 +1,8 @@
--- How many pairs requests add in a segment of a log in which no candidate is added.
+-- How many pairs packets add in a segment of a log in which no candidate is added.
 use Rattle.is_theorems.proofs.Common.{[], ◌++◌, ◌∙◌, ◌∷◌, ◌≡◌, add-mul, AgentRecord, ap, AreSteady, arith, scheduled, Call, CandidateRecord}
 use Rattle.is_theorems.proofs.Common.{cond, ConsentLastsIn, Entry, Err, false, HandleTimeout, HaveConsent, inl, inr, is_steady, is_timeout}
 use Rattle.is_theorems.proofs.Common.{IsFresh, IsSound, length, List, Logged, map, Ok, PollEvent, PollTimeout, PollTransmit, ReceivePacket}
-use Rattle.is_theorems.proofs.Common.{refl, RequestsAddFew, Run, RunsOn, SetControlling, SetControlTieBreaker, SetLocalCredentials}
+use Rattle.is_theorems.proofs.Common.{refl, PacketsAddFew, Run, RunsOn, SetControlling, SetControlTieBreaker, SetLocalCredentials}
 use Rattle.is_theorems.proofs.Common.{SetLocalPreference, SetMaxCandidatePairs, SetMaxCandidates, SetMaxDiscovered, SetMtu, SetRenomination, SetTimingAdvance}
 use Rattle.is_theorems.proofs.Common.{Step, Stream, subst, sum_by-cons, sym, timeout_count, true, ℕ}
 use Rattle.is_theorems.proofs.CallEffects.PathAndTradeEffects.{path_theorem}
@@ -58,8 +58,8 @@ module _ {H P : Type 0} (mac : H → List ℕ → List ℕ → List ℕ) (answer
         (spends-on m (timeout_count part) (cond (is_timeout x.call) 1 0) start mid last so_far one)
 
 module _ {H P : Type 0} (mac : H → List ℕ → List ℕ → List ℕ) (answers : P → CandidateRecord → ℕ → ℕ → Type 0) where
-  pub requests-add-few : RequestsAddFew {H = H} {P = P} mac answers
-  requests-add-few first s log fresh before part start last found full steady consents =
+  pub packets-add-few : PacketsAddFew {H = H} {P = P} mac answers
+  packets-add-few first s log fresh before part start last found full steady consents =
       let k = part-spends mac answers start.timing.max_retransmits first s fresh before start found.at found.led full refl part last found.following steady found.run consents in
       let less = k.2 in
       let most = unspents-most start.timing.max_retransmits last.pairs in
