@@ -488,8 +488,8 @@ IS_ICE_QUIET_CALL int32_t is_ice_set_tie_breaker(is_ice_agent *agent, uint64_t t
 
 /* is_ice_set_max_pairs - limits how many pairs are left when a candidate is added or pairs are formed again: those of
  * the lowest priority are removed then. With `modern` of is_ice_set_settings, each time the lowest pair of the kind that
- * has the most is removed. A request of the other agent adds its pair without regard to this limit, which counts the pair
- * when pairs are next formed. IS_ICE_OK. */
+ * has the most is removed. A request of the other agent adds its pair, and with `modern` a response that of the path that
+ * was left, without regard to this limit, which counts the pair when pairs are next formed. IS_ICE_OK. */
 IS_ICE_QUIET_CALL int32_t is_ice_set_max_pairs(is_ice_agent *agent, size_t limit);
 
 /* No limit: see is_ice_set_max_discovered and is_ice_set_max_candidates. */
@@ -1247,7 +1247,7 @@ typedef struct is_ice_stun_message {
     is_ice_stun_number controlling;    /* the tie-breaker of ICE-CONTROLLING */
     is_ice_stun_number error_code;     /* 300 to 699 (RFC 8489, section 14.8) */
     is_ice_stun_number lifetime;       /* in seconds (RFC 8656, section 18.2) */
-    is_ice_stun_number channel_number; /* 0x4000 to 0x7FFF (RFC 8656, section 18.1) */
+    is_ice_stun_number channel_number; /* 0x4000 to 0x7FFF (RFC 5766); RFC 8656, section 12, ends it at 0x4FFF */
     is_ice_stun_number network_id;     /* NETWORK-COST: the ID of the sender's network */
     is_ice_stun_number network_cost;   /* and its cost */
     is_ice_stun_number nomination;     /* NOMINATION: the number of a nomination (draft-thatcher-ice-renomination) */
@@ -1415,7 +1415,7 @@ enum {
 /* Why a client ended. */
 enum {
     IS_ICE_ENDED_FAILED = 0, /* it never had a mapped or relayed address */
-    IS_ICE_ENDED_LOST = 1,   /* it had one, which is gone: invalidate its candidates */
+    IS_ICE_ENDED_LOST = 1,   /* it had one, which is gone: invalidate its relayed candidate */
     IS_ICE_ENDED_CLOSED = 2  /* is_ice_servers_close ended it */
 };
 
@@ -1505,15 +1505,16 @@ IS_ICE_CALL int32_t is_ice_servers_receive(
 
 /* is_ice_servers_outgoing - says how a packet of the agent, or media, goes out. Pass all of them. If `source` is the relayed
  * address of a client, what goes to its server is written to the start of the buffer, and that peer is permitted. Media
- * goes by ChannelData once its channel is bound, and until then, as packets of the agent, by Send indications (RFC 8656,
- * sections 11 and 12).
+ * requests a channel, and goes by ChannelData once it is bound. Packets of the agent request none: they go by Send
+ * indications until media has bound one to that address (RFC 8656, sections 11 and 12).
  *
  * `random` holds IS_ICE_SERVERS_RANDOM bytes or more: the first twelve are the transaction ID of a Send indication. Draw
  * new ones for each call. A buffer that is longer than the packet by IS_ICE_WRAPPING_LENGTH is long enough.
  *
  * IS_ICE_OK: send buffer[0 .. packet.length] from packet.source to packet.destination; over IS_ICE_TCP put it into the
  * stream. IS_ICE_NOTHING: `source` is no relayed address: send the bytes as they are. IS_ICE_NO_RELAY: drop the packet, the
- * relayed address is gone, or the server barred the peer within the last minute, or all places are taken. After these two and
+ * relayed address is gone or of another IP version than the peer, or the server barred the peer within the last minute, or all
+ * places are taken. After these two and
  * each error the buffer and *packet are unchanged. IS_ICE_TOO_FEW_RANDOM_BYTES: fewer than 12. IS_ICE_BAD_ADDRESS: an
  * unknown family. IS_ICE_BUFFER_TOO_SHORT, IS_ICE_MESSAGE_TOO_LONG (longer than 65535 bytes, or than one message holds): the
  * peer may have been permitted all the same. */
@@ -1525,8 +1526,8 @@ IS_ICE_CALL int32_t is_ice_servers_outgoing(
 
 /* is_ice_servers_permit - requests at each TURN client that the server lets in packets from the IP address of this peer
  * (RFC 8656, section 9), so that its checks come in before one went out. Call it for each remote candidate, and again for
- * all of them after ALLOCATED: a client without an allocation does nothing. A permission is renewed while it is in use:
- * requested, sent to, or received from.
+ * all of them after ALLOCATED: a client whose Allocate request is pending requests it once it has the allocation, and one
+ * that has ended does nothing. A permission is renewed while it is in use: requested, sent to, or received from.
  *
  * IS_ICE_OK. IS_ICE_BAD_ADDRESS: an unknown family. */
 IS_ICE_CALL int32_t is_ice_servers_permit(is_ice_servers *servers, uint64_t now, const is_ice_address *peer);

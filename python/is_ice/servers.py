@@ -212,7 +212,7 @@ class Servers(Unique):
             in_range(places, 64, "a number of places"), user, len(user), secret, len(secret)))
 
     def permit(self, now: int, peer: SocketAddress) -> None:
-        """Has each TURN server that made an allocation let in packets from the IP address of this peer."""
+        """Has each TURN server let in packets from the IP address of this peer: at once, or once it has made its allocation."""
         done(self._c.is_ice_servers_permit(self._at, _time(now), address_of(peer)))
 
     def probe(self, now: int) -> None:

@@ -226,7 +226,8 @@ impl Servers {
     }
 
     /// Asks each TURN server to let in packets of this peer: of its IP address, from any port. Call it for each remote candidate, and again for
-    /// all of them after [`Happened::Allocated`](super::Happened::Allocated): a client without an allocation does nothing.
+    /// all of them after [`Happened::Allocated`](super::Happened::Allocated): a client whose Allocate request is pending asks once it has the
+    /// allocation, and one that has ended does nothing.
     pub fn permit(&mut self, now: Instant, peer: SocketAddr) {
         let now = self.clock.start(now);
         let code = ffi::is_ice_servers_permit(&mut self.held, now, &address_of(peer));
