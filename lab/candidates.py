@@ -54,7 +54,7 @@ class Candidates:
     next_number: int = 0
     selected: int | None = None
     last_nominated: int | None = None  # by the peer
-    left: tuple[int, int] | None = None  # the candidates of the path that was left last, until their pair is formed again
+    left: tuple[int, int] | None = None  # the candidates of the path that was left, until their pair is formed again
     nominations: int = 0  # how many paths were selected, which numbers the nominations
     nomination_due: bool = False  # a path was selected, and its pair was not checked since
     numbers_seen: bool = False  # a nomination with a number was served since the last restart
@@ -285,7 +285,7 @@ class Candidates:
         if silent is None:
             return self
         new = self._without({silent.number: Removal.CONSENT_LOST})
-        return replace(new, left=(silent.local, silent.remote), pairs=tuple(
+        return replace(new, left=self.left or (silent.local, silent.remote), pairs=tuple(
             p.moved_up(now + 1) if self.controlling and p.is_valid and not p.is_nominated else p for p in new.pairs))
 
     def may_form_again(self, local: int, remote: int) -> bool:
@@ -296,7 +296,7 @@ class Candidates:
         return not own.is_discarded and own.kind != "prflx" and remote in self._partners(own, self.remote)
 
     def formed_again(self) -> Self:
-        """Returns the agent with the pair of the path that was left last, if that may be formed again."""
+        """Returns the agent with the pair of the path that was left, if that may be formed again."""
         new = replace(self, left=None)
         if self.left is None or not self.may_form_again(*self.left):
             return new

@@ -96,7 +96,7 @@ pub struct Agent<H, P> {
     pub(crate) selected_pair: Option<u64>,
     /// The number of the pair that the peer nominated last.
     pub(crate) last_nominated: Option<u64>,
-    /// The indices of the candidates of the path that was left last, until their pair is formed again.
+    /// The indices of the candidates of the path that was left, until their pair is formed again.
     pub(crate) left: Option<(usize, usize)>,
     /// How many paths were selected, which numbers the nominations.
     pub(crate) nominations: u32,

@@ -165,7 +165,7 @@ impl<H: Sha1HmacProvider + Drop, P: LocalPreference> Agent<H, P> {
     }
 
     /// The pair with this number records the success response, the mapped address is added as a candidate if it is unknown
-    /// and the limit allows it, and the pair of the path that was left last is formed again. Then nomination and state are evaluated.
+    /// and the limit allows it, and the pair of the path that was left is formed again. Then nomination and state are evaluated.
     pub(crate) fn handle_success(
         &mut self,
         number: u64,

@@ -73,17 +73,21 @@ impl<H: Sha1HmacProvider + Drop, P: LocalPreference> Agent<H, P> {
         Some(pair.id().0)
     }
 
-    /// The candidates of the pair with this number, or of the one that was left before.
+    /// The candidates of the path that was left before, until their pair is formed again, or else of the pair with this number.
     fn left_after(&self, number: u64) -> Option<(usize, usize)>
-        ensures { result ≡ option_or (option_map candidates_of (pair_numbered number (record_of self.now).pairs)) self.now.left }
+        ensures { result ≡ option_or self.now.left (option_map candidates_of (pair_numbered number (record_of self.now).pairs)) }
     {
+        if let Some(left) = self.left {
+            return Some(left);
+        }
         match self.pairs.get(number) {
             Some(pair) => Some((pair.local_idx(), pair.remote_idx())),
-            None => self.left,
+            None => None,
         }
     }
 
-    /// Removes the selected pair, if it gives way, and keeps its candidates. Then the pairs that the agent may nominate are due next.
+    /// Removes the selected pair, if it gives way, and keeps its candidates, if none are kept. Then the pairs that the agent may nominate are
+    /// due next.
     pub(crate) fn leave_path(&mut self, now: Instant)
         ensures left { record_of self.new ≡ path_left now.0 (record_of self.old) }
         ensures emitted { emitted_of self.new ≡ emitted_of self.old }
@@ -114,7 +118,7 @@ impl<H: Sha1HmacProvider + Drop, P: LocalPreference> Agent<H, P> {
         usize::from(self.left.is_some())
     }
 
-    /// Forms the pair of the path that was left last again, if it may be.
+    /// Forms the pair of the path that was left again, if it may be.
     pub(crate) fn form_again(&mut self)
         requires pairs { IfSome self.old.left (λ _. HasPairRoom 1 self.old) }
         ensures formed { record_of self.new ≡ formed_again (record_of self.old) }

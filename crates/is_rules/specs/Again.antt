@@ -40,7 +40,7 @@ module _ {H P : Type 0} where
   abbrev pub pair_again : AgentRecord H P → Option PairRecord
   pair_again a = option_and_then (λ (at : ℕ × ℕ). if may_form_again a at then Some (formed a at.0 at.1) else None) a.left
 
-  -- The pair of the path that was left last is formed again, if it may be.
+  -- The pair of the path that was left is formed again, if it may be.
   abbrev pub formed_again : AgentRecord H P → AgentRecord H P
   formed_again a = record a {
     pairs = pairs_with (pair_again a) a.pairs;

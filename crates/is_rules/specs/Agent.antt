@@ -49,7 +49,7 @@ pub record AgentRecord (H P : Type 0) : Type 0 where
   pub selected_pair : Option ℕ
   -- the number of the pair that the peer nominated last, as of the last request with USE-CANDIDATE that was served
   pub last_nominated : Option ℕ
-  -- the indices of the candidates of the path that was left last, until their pair is formed again
+  -- the indices of the candidates of the path that was left, until their pair is formed again
   pub left : Option (ℕ × ℕ)
   -- how many paths were selected, which numbers the nominations; past 2^32 - 1 it stays
   pub nominations : ℕ

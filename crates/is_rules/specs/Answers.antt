@@ -87,7 +87,7 @@ module _ {H P : Type 0} where
   Concludes now old emitted new =
       (path : Option Path) × (mid : AgentRecord H P) × Nominates old path mid × (emitted ≡ selected_only path) × (new ≡ evaluated now mid)
 
-  -- The pair records the success response, and that of the path that was left last is formed again. Then nomination and state are evaluated.
+  -- The pair records the success response, and that of the path that was left is formed again. Then nomination and state are evaluated.
   abbrev pub HandlesSuccess : ℕ → AgentRecord H P → Path → Message → Emitted → AgentRecord H P → Type 0
   HandlesSuccess now old via m emitted new =
       (recorded : AgentRecord H P) × Records now old via m recorded × Concludes now (formed_again recorded) emitted new

@@ -83,11 +83,11 @@ module _ {H P : Type 0} where
   abbrev pub silent_gone : ℕ → AgentRecord H P → AgentRecord H P
   silent_gone now a = record a { pairs = without (gives_way now a) a.pairs }
 
-  -- the candidates of the pair that gives way, or of the one that was left before
+  -- the candidates of the path that was left before, until their pair is formed again, or else of the pair that gives way
   abbrev pub left_after : ℕ → AgentRecord H P → Option (ℕ × ℕ)
-  left_after now a = option_or (option_map candidates_of (find (gives_way now a) a.pairs)) a.left
+  left_after now a = option_or a.left (option_map candidates_of (find (gives_way now a) a.pairs))
 
-  -- If there was one, its candidates are kept, and the pairs that the agent may nominate are due next.
+  -- If there was one, its candidates are kept if none are, and the pairs that the agent may nominate are due next.
   abbrev pub path_left : ℕ → AgentRecord H P → AgentRecord H P
   path_left now a = record a {
     pairs = map (hastened (list_any (gives_way now a) a.pairs && a.controlling) now) (silent_gone now a).pairs;

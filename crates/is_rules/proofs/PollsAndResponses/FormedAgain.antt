@@ -1,4 +1,4 @@
--- The pair of the path that was left last is formed again, or none is: then no path is left.
+-- The pair of the path that was left is formed again, or none is: then no path is left.
 use Rattle.is_candidate.specs.Candidates.{candidate_at}
 use Rattle.is_pair.specs.Multiset.{is_between}
 use Rattle.is_rules.specs.Again.{formed_again, may_form_again, number_after, pairs_with}

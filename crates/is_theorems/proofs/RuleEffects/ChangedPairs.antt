@@ -206,7 +206,7 @@ module _ (asks : Path → ℕ → Type 0) (met : Path → Type 0) (sent : Path �
     abbrev pub parts_of : AgentRecord H P → Parts
     parts_of a = record { local = a.local; remote = a.remote; pairs = a.pairs; next_number = a.next_number }
 
-    -- the pair of the path that was left last is formed again
+    -- the pair of the path that was left is formed again
     pub forms_again : (s : AgentRecord H P) → Fit (parts_of s) → Onward asks met sent (parts_of s) (parts_of (formed_again s))
     forms_again s fit = each-way (λ a. Onward asks met sent (parts_of s) (parts_of a)) s (here asks met sent (parts_of s) fit)
         (λ i j may. pushed asks met sent (parts_of s) s.pairs (formed s i j) fit (λ q has. has) fit.rising refl (may.in_local, may.in_remote) refl

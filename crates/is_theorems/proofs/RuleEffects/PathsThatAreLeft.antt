@@ -24,6 +24,10 @@ none-found : {X : Type 0} (test : X → Bool) (xs : List X) → ((x : X) → Has
 none-found test [] none = refl
 none-found test (x ∷ xs) none = ap (λ b. if b then Some x else find test xs) (none x (inl refl)) ∙ none-found test xs (λ y has. none y (inr has))
 
+or-none : (o : Option (ℕ × ℕ)) → option_or o None ≡ o
+or-none None = refl
+or-none (Some at) = refl
+
 pub passes : {X : Type 0} (test : X → Bool) (xs : List X) → list_any test xs ≡ true → (x : X) × Has xs x × (test x ≡ true)
 passes test [] h = absurd (let no : false ≡ true = h in cc)
 passes {X} test (x ∷ xs) h = by (test x) refl h (passes test xs) where
@@ -128,7 +132,8 @@ module _ {H P : Type 0} where
       ap (λ b. record a { pairs = map (hastened (b && a.controlling) now) (silent_gone now a).pairs; left = left_after now a }) (none-any (gives_way now a) a.pairs none)
       ∙ (ap (λ ps. record a { pairs = map (hastened false now) ps; left = left_after now a }) (filter-all (λ p. not (gives_way now a p)) a.pairs (λ p has. ap not (none p has)))
       ∙ (ap (λ ps. record a { pairs = ps; left = left_after now a }) (none-hastened now a.pairs)
-      ∙ ap (λ o. record a { left = option_or (option_map candidates_of o) a.left }) (none-found (gives_way now a) a.pairs none)))
+      ∙ (ap (λ o. record a { left = option_or a.left (option_map candidates_of o) }) (none-found (gives_way now a) a.pairs none)
+      ∙ ap (λ o. record a { left = o }) (or-none a.left))))
 
   -- no pair is valid
   pub invalid-stays : (now : ℕ) (a : AgentRecord H P) (p : PairRecord) → is_valid p ≡ false → gives_way now a p ≡ false

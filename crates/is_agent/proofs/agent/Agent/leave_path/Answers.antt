@@ -1,4 +1,4 @@
-use Rattle.std.proofs.Common.{◌≡◌, ℕ, ◌&&◌, ◌||◌, Bool, true, false, is_some, not, List, [], ◌∷◌, map, find, Option, None, option_map, ap, refl, sym, ◌∙◌, length, arith}
+use Rattle.std.proofs.Common.{◌≡◌, ℕ, ◌&&◌, ◌||◌, Bool, true, false, is_some, not, List, [], ◌∷◌, map, find, Option, Some, None, option_map, ap, refl, sym, ◌∙◌, length, arith}
 use Rattle.std.specs.List.{list_any}
 use Rattle.std.specs.Option.{option_map_or, option_or}
 use Rattle.is_pair.specs.Checklists.{multiset_of}
@@ -20,6 +20,10 @@ unhastened : (now : ℕ) (ps : List PairRecord) → map (hastened false now) ps 
 unhastened now [] = refl
 unhastened now (p ∷ ps) = ap (λ qs. p ∷ qs) (unhastened now ps)
 
+or-none : (o : Option (ℕ × ℕ)) → option_or o None ≡ o
+or-none None = refl
+or-none (Some at) = refl
+
 module _ {H P : Type 0} (now : ℕ) (a : AgentRecord H P) where
   abbrev gone : Bool
   gone = list_any (gives_way now a) a.pairs
@@ -31,7 +35,7 @@ module _ {H P : Type 0} (now : ℕ) (a : AgentRecord H P) where
   path-stays : a.pairs ≡ left → false ≡ gone → None ≡ find (gives_way now a) a.pairs → a ≡ path_left now a
   path-stays same none no-pair =
       let stays : a.pairs ≡ map (hastened (gone && a.controlling) now) left = same ∙ (sym (unhastened now left) ∙ ap (λ b. map (hastened (b && a.controlling) now) left) none) in
-      let kept : a.left ≡ left_after now a = ap (λ (o : Option PairRecord). option_or (option_map candidates_of o) a.left) no-pair in
+      let kept : a.left ≡ left_after now a = sym (or-none a.left) ∙ ap (λ (o : Option PairRecord). option_or a.left (option_map candidates_of o)) no-pair in
       ap (λ (ps : List PairRecord). record a { pairs = ps }) stays
       ∙ ap (λ (l : Option (ℕ × ℕ)). record a { pairs = (path_left now a).pairs; left = l }) kept
 
@@ -54,7 +58,7 @@ returns-in-Some-clause-left g c =
     c.change_all.ensures.changed ∙ ap (map (hastened a.controlling now)) (c.remove.ensures.left ∙ others)
     ∙ ap (λ (b : Bool). map (hastened (b && a.controlling) now) (without (gives_way now a) a.pairs)) gone in
     let left : c.left_after-self.result ≡ left_after now a =
-    c.left_after-self.ensures ∙ ap (λ (o : Option PairRecord). option_or (option_map candidates_of o) a.left) found in
+    c.left_after-self.ensures ∙ ap (λ (o : Option PairRecord). option_or a.left (option_map candidates_of o)) found in
     cc (pairs, left)
 
 pub returns-in-Some-clause-checks : goal.returns-in-Some-clause-checks
