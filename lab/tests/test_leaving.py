@@ -18,6 +18,10 @@ MODERN = tuple(f"{side}.{what}" for side in "ab" for what in ("max_rto_ms=2900",
 # B is a lite agent with a public address.
 LITE_SERVER = ("b.lite=true", 'b.interface=[{ name = "eth0", ip = "198.51.100.20", up = "home", down = "home" }]',
                'nat=[{ name = "mobile carrier", inner = "mobile", outside = "203.0.113.3" }]')
+# A has two wires, of which the first is preferred, and a mobile link.
+TWO_WIRES = ('[{ name = "eth0", ip = "192.0.2.10", up = "home", down = "home" }, '
+             '{ name = "eth1", ip = "192.0.2.11", up = "home", down = "home" }, '
+             '{ name = "lte", ip = "10.64.0.10", network = "mobile", up = "mobile", down = "mobile" }]')
 # The other path is the quicker one.
 QUICKER = ("link.home.delay_ms=60", "link.mobile.delay_ms=8")
 
@@ -53,6 +57,19 @@ def unplugged(seconds: float) -> Callable[[Session, float], None]:
     def happens(session: Session, at: float) -> None:
         def turn(is_on: bool) -> None:
             session.endpoints["a"].interfaces[0].is_on = is_on
+
+        session.clock.at(BEGINNING + nanoseconds(at * 1000), turn, False)
+        session.clock.at(BEGINNING + nanoseconds((at + seconds) * 1000), turn, True)
+
+    return happens
+
+
+def both_unplugged(seconds: float) -> Callable[[Session, float], None]:
+    """All packets from and to A's first two interfaces are lost; after some time those of the first one arrive again."""
+    def happens(session: Session, at: float) -> None:
+        def turn(is_on: bool) -> None:
+            first, second, _ = session.endpoints["a"].interfaces
+            first.is_on, second.is_on = is_on, False
 
         session.clock.at(BEGINNING + nanoseconds(at * 1000), turn, False)
         session.clock.at(BEGINNING + nanoseconds((at + seconds) * 1000), turn, True)
@@ -128,6 +145,15 @@ class Leaving(unittest.TestCase):
                 self.assertLess(got[side][0] - at, 4.05, (seed, side))
                 self.assertEqual(len(got[side]), 2, (seed, side))
                 self.assertLess(got[side][1] - at - 5, 3.5, (seed, side))
+
+    def test_of_two_paths_that_were_left_the_first_comes_back(self) -> None:
+        """Both fail together, and the second is left before a response arrives on the third. The first works again 10 s later."""
+        changes = (*MODERN, *LITE_SERVER, *NOTHING_FAILS, "link.home.delay_ms=40", "link.home.jitter_ms=2", "link.mobile.delay_ms=20",
+                   "link.mobile.jitter_ms=5", f"a.interface={TWO_WIRES}")
+        for seed in range(5):
+            at = Random(seed).uniform(0, 3)
+            last = play(seed, changes, both_unplugged(10))["a"][-1]
+            self.assertTrue(10 < last - at < 14, (seed, last - at))
 
     def test_a_path_to_a_lite_peer_comes_back(self) -> None:
         """A lite peer sends no requests, so its responses have to suffice."""
