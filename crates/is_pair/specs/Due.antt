@@ -6,7 +6,7 @@ use Rattle.is_proto.specs.Lists.{Has, NonePass}
 use Rattle.is_proto.specs.Times.{MAX, MILLISECOND, SECOND, later}
 use Rattle.is_stun.specs.declared.timing.StunTiming.{StunTiming}
 use Rattle.is_stun.specs.declared.timing.Consent.{Consent}
-use Rattle.is_stun.specs.Timing.{consent_of, early_delay, is_modern, EARLY_INTERVAL, resend_delay, last_resend_delay, timeout_of}
+use Rattle.is_stun.specs.Timing.{consent_of, early_delay, is_modern, resend_delay, last_resend_delay, timeout_of}
 use Rattle.is_pair.specs.declared.pair.states.NominationState.{NominationState}
 use Rattle.is_pair.specs.declared.pair.states.NominationState.TheVariants.{None as Unnominated, Nominated, Attempt, Success}
 use Rattle.is_pair.specs.Checks.{Check, last_check, last_round_trip, unanswered_count, first_unanswered}
