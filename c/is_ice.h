@@ -1513,11 +1513,10 @@ IS_ICE_CALL int32_t is_ice_servers_receive(
  *
  * IS_ICE_OK: send buffer[0 .. packet.length] from packet.source to packet.destination; over IS_ICE_TCP put it into the
  * stream. IS_ICE_NOTHING: `source` is no relayed address: send the bytes as they are. IS_ICE_NO_RELAY: drop the packet, the
- * relayed address is gone or of another IP version than the peer, or the server barred the peer within the last minute, or all
- * places are taken. After these two and
- * each error the buffer and *packet are unchanged. IS_ICE_TOO_FEW_RANDOM_BYTES: fewer than 12. IS_ICE_BAD_ADDRESS: an
- * unknown family. IS_ICE_BUFFER_TOO_SHORT, IS_ICE_MESSAGE_TOO_LONG (longer than 65535 bytes, or than one message holds): the
- * peer may have been permitted all the same. */
+ * relayed address is gone or of another IP version than the peer, or the server barred the peer within the last minute, or
+ * all places are taken. After these two and each error the buffer and *packet are unchanged. IS_ICE_TOO_FEW_RANDOM_BYTES:
+ * fewer than 12. IS_ICE_BAD_ADDRESS: an unknown family. IS_ICE_BUFFER_TOO_SHORT, IS_ICE_MESSAGE_TOO_LONG (longer than 65535
+ * bytes, or than one message holds): the peer may have been permitted all the same. */
 enum { IS_ICE_SERVERS_RANDOM = 12, IS_ICE_WRAPPING_LENGTH = 64 };
 IS_ICE_CALL int32_t is_ice_servers_outgoing(
     is_ice_servers *servers, uint64_t now, const is_ice_address *source, const is_ice_address *destination,
