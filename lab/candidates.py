@@ -268,7 +268,8 @@ class Candidates:
         return is_silent and self.modern and not self.lite and any(self.may_replace(pair, p, now) for p in self.pairs)
 
     def asked_along(self, now: int) -> list[Pair]:
-        """Returns the pairs of which one is asked along with the selected one, while that is silent: those that are due first."""
+        """Returns the pairs of which one is asked along with the selected one, while that is silent: those whose last check was sent
+        first."""
         silent = next((p for p in self.pairs if p.number == self.selected), None) if self.state.is_connected() else None
         if silent is None or silent.due_at(now, self.timing) > now:
             return []
@@ -276,8 +277,8 @@ class Candidates:
             return []
         silence = silent.silence_until(now)
         others = [p for p in self.pairs if p is not silent and p.is_valid and silence is not None and not p.outlives(silence)]
-        order = {p.number: (p.due_at(now, self.timing), -p.priority) for p in others}
-        return [p for p in others if order[p.number] == min(order.values())]
+        first = min((p.last_sent for p in others), default=0)
+        return [p for p in others if p.last_sent == first]
 
     def path_left(self, now: int) -> Self:
         """Returns the agent without the selected pair, if that gives way. Then those that the agent may nominate are due next."""

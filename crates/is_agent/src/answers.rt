@@ -94,15 +94,15 @@ impl<H: Sha1HmacProvider + Drop, P: LocalPreference> Agent<H, P> {
         ensures made { (p : PairRecord) → l ≡ p.local → IfOk result (λ c. c ≡ mapped_candidate (record_of self.now) p mapped) }
         ensures low { IfOk result (λ c. candidate_priority c < TOO_HIGH) }
     {
-        let ufrag = self.local_creds.ufrag.clone()?;
-        Ok(peer_reflexive(
+        peer_reflexive(
+            *self.local.allocator(),
             None,
             proto_at(&self.local, l),
             check_priority_at(&self.local, l),
             mapped,
             base_at(&self.local, l),
-            ufrag,
-        ))
+            self.local_creds.ufrag.as_str(),
+        )
     }
 
     /// The candidate that the mapped address adds, if no local candidate has that address and the limit allows one more.

@@ -25,7 +25,7 @@ use is_candidate::candidate::equality::TEMPORARY_FOUNDATION;
 use is_candidate::candidate::making::peer_reflexive;
 use is_candidate::{Candidate, LocalPreference};
 use is_pair::pair::CandidatePair;
-use is_proto::{IceError, Sha1HmacProvider, Text, Transmit, reserve_one, reserve_one_in};
+use is_proto::{IceError, Sha1HmacProvider, Transmit, reserve_one, reserve_one_in};
 use is_rules::emitted::{Emitted, Issued, Path};
 use is_rules::forming::pair_of;
 use is_rules::limit::sender_place;
@@ -125,17 +125,16 @@ impl<H: Sha1HmacProvider + Drop, P: LocalPreference> Agent<H, P> {
         match place {
             RemotePlace::Known(_) | RemotePlace::Barred | RemotePlace::Full => Ok(None),
             RemotePlace::Unknown | RemotePlace::Vacant(_) => {
-                let foundation = Text::from_str(*self.remote.allocator(), TEMPORARY_FOUNDATION)?;
-                let ufrag = self.local_creds.ufrag.clone()?;
                 let source = request.path.source;
                 Ok(Some(peer_reflexive(
-                    Some(foundation),
+                    *self.remote.allocator(),
+                    Some(TEMPORARY_FOUNDATION),
                     request.path.proto,
                     request.priority,
                     source,
                     source,
-                    ufrag,
-                )))
+                    self.local_creds.ufrag.as_str(),
+                )?))
             }
         }
     }

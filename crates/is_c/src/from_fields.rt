@@ -10,7 +10,7 @@ use crate::fields::{Fields, put_made_fields};
 use crate::lines::{is_word, rejection};
 use is_c_calls::Address;
 use is_candidate::{Candidate, CandidateKind};
-use is_proto::{IceError, Protocol, TcpType, Text};
+use is_proto::{IceError, Protocol, TcpType};
 use std::alloc::Global;
 use std::net::SocketAddr;
 
@@ -92,20 +92,18 @@ fn drafted(
     if !is_word(foundation) {
         return Err(rejection(alloc, "foundation is not one word"));
     }
-    match Text::from_str(alloc, foundation) {
-        Ok(foundation) => Ok(Candidate::from_parts(
-            foundation,
-            fields.component,
-            meant.proto,
-            fields.priority,
-            meant.addr,
-            meant.kind,
-            meant.raddr,
-            meant.tcptype,
-            None,
-        )),
-        Err(_) => Err(IceError::OutOfMemory),
-    }
+    Ok(Candidate::from_parts(
+        alloc,
+        foundation,
+        fields.component,
+        meant.proto,
+        fields.priority,
+        meant.addr,
+        meant.kind,
+        meant.raddr,
+        meant.tcptype,
+        None,
+    )?)
 }
 
 fn drafted_bytes(

@@ -2,6 +2,7 @@ pub mod Kinds
 pub mod Addresses
 pub mod Candidates
 pub mod Stored
+pub mod Texts
 pub mod Priorities
 pub mod Preferences
 pub mod Rejections

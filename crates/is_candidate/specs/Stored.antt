@@ -1,5 +1,5 @@
 -- What a candidate stores: two addresses and a number, of which its base, related and local address and its given priority follow.
-use Rattle.std.specs.Prelude.{◌≡◌, refl, ℕ, Bool, true, false, not, IsTrue, Option, Some, None, unwrap_or, if◌then◌else◌}
+use Rattle.std.specs.Prelude.{◌≡◌, refl, ℕ, Bool, true, not, IsTrue, Option, Some, None, unwrap_or, if◌then◌else◌}
 use Rattle.std.proofs.Common.{sym}
 use Rattle.std.specs.declared.net.socket_addr.SocketAddr.{SocketAddr}
 use Rattle.is_candidate.specs.declared.candidate.kind.CandidateKind.{CandidateKind}

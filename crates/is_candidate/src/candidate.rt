@@ -19,19 +19,20 @@ pub mod priority;
 pub mod round_trip;
 pub mod sdp;
 pub mod source;
+mod texts;
 
-use is_proto::{IceError, Protocol, TcpType, Text};
+use is_proto::{IceError, Protocol, TcpType};
 use kind::CandidateKind;
 use source::{Source, signaled_local};
 use std::alloc::Global;
 use std::marker::Model;
 use std::net::SocketAddr;
+use texts::Texts;
 
 /// An address at which an agent can be reached (RFC 8445, section 5.1). A host or relayed candidate is its own base.
 #[derive(Debug, PartialEq, Eq, Hash, Drop)]
 pub struct Candidate {
-    foundation: Option<Text>,
-    ufrag: Option<Text>,
+    texts: Texts,
     addr: SocketAddr,
     other: SocketAddr,
     priority: u32,
@@ -55,7 +56,7 @@ impl Model for Candidate {
     ghost use Rattle.is_candidate.specs.Stored.{same_source, same_other, same_priority};
 
     ghost view = { λ c. record {
-      foundation = c.foundation;
+      foundation = c.texts.foundation;
       component = c.component;
       proto = c.proto;
       given_priority = priority_from c.source c.kind c.priority;
@@ -64,7 +65,7 @@ impl Model for Candidate {
       kind = c.kind;
       raddr = related_from c.source c.kind c.addr c.other;
       tcptype = c.tcptype;
-      ufrag = c.ufrag;
+      ufrag = c.texts.ufrag;
       local = local_from c.source c.kind c.addr c.other;
       local_preference = c.local_preference;
       discarded = c.discarded;
@@ -73,8 +74,7 @@ impl Model for Candidate {
     ghost invariant = { λ c. FillsOther c.source c.addr c.other × FillsPriority c.source c.kind c.priority };
 
     ghost inverse = { λ c. record {
-      foundation = c.foundation;
-      ufrag = c.ufrag;
+      texts = record { foundation = c.foundation; ufrag = c.ufrag };
       addr = c.addr;
       other = other_of c.given_base c.raddr c.local c.addr;
       priority = unwrap_or c.given_priority 0;
@@ -88,8 +88,7 @@ impl Model for Candidate {
     } };
 
     ghost inverse_ok = { λ c fills i. record {
-      foundation = c.foundation;
-      ufrag = c.ufrag;
+      texts = c.texts;
       addr = c.addr;
       other = same_other c.source c.kind c.addr c.other fills.0 i;
       priority = same_priority c.source c.kind c.priority fills.1 i;
@@ -148,10 +147,7 @@ impl Candidate {
     pub fn ufrag(&self) -> Option<&str>
         ensures { option_copied result ≡ self.now.ufrag }
     {
-        match &self.ufrag {
-            Some(ufrag) => Some(ufrag.as_str()),
-            None => None,
-        }
+        self.texts.ufrag()
     }
 
     /// Sets the username fragment. Fails only if an allocation fails, and then leaves the candidate unchanged.
@@ -160,7 +156,7 @@ impl Candidate {
         ensures err { OnErr result (self.new ≡ self.old) }
         ensures rejection { IsOkUnless result OutOfMemory }
     {
-        self.ufrag = Some(Text::from_str(alloc, ufrag)?);
+        self.texts = Texts::copy_of(alloc, self.texts.foundation(), Some(ufrag))?;
         Ok(())
     }
 }

@@ -193,7 +193,8 @@ impl<'a> Builder<'a, HasClass> {
         }
     }
 
-    /// Sets CHANNEL-NUMBER (RFC 8656, section 18.1). Any number is written, but only 0x4000 to 0x7FFF can be parsed.
+    /// Sets CHANNEL-NUMBER (RFC 8656, section 18.1). Any number is written, but only 0x4000 to 0x7FFF, the range of
+    /// RFC 5766, can be parsed; that of RFC 8656 ends at 0x4FFF.
     pub fn channel_number(self, number: u16) -> Self
         ensures kind { kind_so_far result ≡ kind_so_far self.entry }
         ensures attributes { attributes_so_far result ≡ record (attributes_so_far self.entry) { channel_number = Some number } }

@@ -60,8 +60,9 @@ pub(super) fn numbered(alloc: Global, number: u8) -> Option<Candidate> {
 
 /// A candidate of the greatest priority.
 pub(super) fn greatest(alloc: Global) -> Option<Candidate> {
-    Some(Candidate::from_parts(
-        Text::from_str(alloc, "1").ok()?,
+    Candidate::from_parts(
+        alloc,
+        "1",
         1,
         Protocol::Udp,
         u32::MAX,
@@ -70,7 +71,8 @@ pub(super) fn greatest(alloc: Global) -> Option<Candidate> {
         None,
         None,
         None,
-    ))
+    )
+    .ok()
 }
 
 // ---- messages

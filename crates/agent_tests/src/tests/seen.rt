@@ -184,7 +184,7 @@ fn are_unnamed(agent: &Agent) -> bool {
 /// The destination of a removed pair, why it was removed, how many checks were sent, and the code of the last error response.
 fn removed_at(agent: &Agent, index: usize) -> Option<(SocketAddr, Removal, u64, Option<u16>)> {
     let pair = agent.removed_pair(index)?;
-    let path = agent.removed_pair_path(pair)?;
+    let path = agent.removed_pair_path(&pair)?;
     Some((path.destination, pair.why, pair.checks_sent, pair.error))
 }
 

@@ -58,12 +58,8 @@ pub fn is_alike(a: &Candidate, b: &Candidate) -> bool
 pub fn is_temporary(c: &Candidate) -> bool
     ensures { result ≡ is_temporary c.now }
 {
-    match given_foundation(c) {
-        Some(foundation) => {
-            same_kind(c.kind, CandidateKind::PeerReflexive) && foundation == TEMPORARY_FOUNDATION
-        }
-        None => false,
-    }
+    same_kind(c.kind, CandidateKind::PeerReflexive)
+        && given_foundation(c) == Some(TEMPORARY_FOUNDATION)
 }
 
 /// Equal candidates feed a hasher with the same input.

@@ -62,8 +62,8 @@ impl fmt::Display for Foundation<'_> {
 
     fn fmt<W: fmt::Write>(&self, f: &mut fmt::Formatter<W>) -> fmt::Result {
         let c = self.0;
-        match &c.foundation {
-            Some(foundation) => f.write_str(foundation.as_str()),
+        match c.texts.foundation() {
+            Some(foundation) => f.write_str(foundation),
             None => {
                 let computed = Computed(c);
                 write!(f, "{computed}")

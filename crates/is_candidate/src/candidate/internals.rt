@@ -6,7 +6,7 @@ ghost use Rattle.is_candidate.specs.Candidates.{base_of, IsBased};
 use super::Candidate;
 use super::kind::{CandidateKind, is_direct, same_kind};
 use super::source::{Source, hidden_related};
-use is_proto::Text;
+use super::texts::Texts;
 use std::net::SocketAddr;
 
 /// Returns the base: the address from which packets of the candidate are sent. A host or relayed candidate is its own
@@ -52,10 +52,7 @@ pub(super) fn given_priority(c: &Candidate) -> Option<u32>
 pub fn given_foundation(c: &Candidate) -> Option<&str>
     ensures { option_copied result ≡ c.now.foundation }
 {
-    match &c.foundation {
-        Some(foundation) => Some(foundation.as_str()),
-        None => None,
-    }
+    c.texts.foundation()
 }
 
 /// Returns the component: 1, except if a candidate attribute named another.
@@ -94,16 +91,10 @@ pub fn set_local_preference(c: &mut Candidate, preference: u32)
     c.local_preference = Some(preference as u16);
 }
 
-/// Sets the username fragment. It never allocates.
-pub fn give_ufrag(c: &mut Candidate, ufrag: Text)
-    ensures { c.new ≡ record c.old { ufrag = Some ufrag } }
-{
-    c.ufrag = Some(ufrag);
-}
-
 /// Removes the username fragment.
 pub fn clear_ufrag(c: &mut Candidate)
     ensures { c.new ≡ record c.old { ufrag = None } }
 {
-    c.ufrag = None;
+    let texts = std::mem::replace(&mut c.texts, Texts::none());
+    c.texts = texts.without_ufrag();
 }

@@ -1,5 +1,6 @@
 //! The constructors.
-ghost use Rattle.std.specs.Prelude.{◌≡◌, ◌++◌, codes, false, if◌then◌else◌};
+ghost use Rattle.std.specs.Prelude.{◌≡◌, ◌++◌, codes, false, if◌then◌else◌, IfOk};
+ghost use Rattle.std.specs.Option.{option_copied};
 ghost use Rattle.std.specs.Net.Socket.{socket_ip};
 ghost use Rattle.std.specs.Net.Text.{ip_text};
 ghost use Rattle.is_candidate.specs.declared.candidate.kind.CandidateKind.TheVariants.{PeerReflexive};
@@ -13,8 +14,9 @@ use super::Candidate;
 use super::address::{is_valid_ip, same_version};
 use super::kind::CandidateKind;
 use super::source::Source;
-use is_proto::{IceError, Protocol, TcpType, Text};
-use std::alloc::Global;
+use super::texts::Texts;
+use is_proto::{IceError, Protocol, TcpType};
+use std::alloc::{AllocError, Global};
 use std::net::{IpAddr, SocketAddr};
 
 impl Candidate {
@@ -72,11 +74,13 @@ impl Candidate {
         Ok(new_relayed(addr, local, proto, None))
     }
 
-    /// Makes the candidate that a candidate attribute describes. It never fails. Its base is its address. Its local
-    /// address is its address for a host, otherwise the unspecified one of the same IP version with port 0.
+    /// Makes the candidate that a candidate attribute describes. Its base is its address. Its local address is its
+    /// address for a host, otherwise the unspecified one of the same IP version with port 0. Fails only if there is no
+    /// memory for the texts.
     #[allow(clippy::too_many_arguments)]
     pub fn from_parts(
-        foundation: Text,
+        alloc: Global,
+        foundation: &str,
         component: u16,
         proto: Protocol,
         priority: u32,
@@ -84,13 +88,12 @@ impl Candidate {
         kind: CandidateKind,
         raddr: Option<SocketAddr>,
         tcptype: Option<TcpType>,
-        ufrag: Option<Text>,
-    ) -> Candidate
-        ensures { result ≡ signalled_candidate foundation component proto priority addr kind raddr tcptype ufrag }
+        ufrag: Option<&str>,
+    ) -> Result<Candidate, AllocError>
+        ensures { IfOk result (λ c. c ≡ signalled_candidate foundation.now component proto priority addr kind raddr tcptype (option_copied ufrag.entry)) }
     {
         let mut candidate = Candidate {
-            foundation: Some(foundation),
-            ufrag,
+            texts: Texts::copy_of(alloc, Some(foundation), ufrag)?,
             addr,
             other: addr,
             priority,
@@ -106,25 +109,25 @@ impl Candidate {
             candidate.source = Source::Related;
             candidate.other = raddr;
         }
-        candidate
+        Ok(candidate)
     }
 }
 
 /// Makes a peer-reflexive candidate of component 1: an address that a check discovered, with the priority that the
 /// check carried. Its local address is its base.
 pub fn peer_reflexive(
-    foundation: Option<Text>,
+    alloc: Global,
+    foundation: Option<&str>,
     proto: Protocol,
     priority: u32,
     addr: SocketAddr,
     base: SocketAddr,
-    ufrag: Text,
-) -> Candidate
-    ensures { result ≡ peer_reflexive_candidate foundation proto priority addr base ufrag }
+    ufrag: &str,
+) -> Result<Candidate, AllocError>
+    ensures { IfOk result (λ c. c ≡ peer_reflexive_candidate (option_copied foundation.entry) proto priority addr base ufrag.now) }
 {
-    Candidate {
-        foundation,
-        ufrag: Some(ufrag),
+    Ok(Candidate {
+        texts: Texts::copy_of(alloc, foundation, Some(ufrag))?,
         addr,
         other: base,
         priority,
@@ -135,7 +138,7 @@ pub fn peer_reflexive(
         proto,
         tcptype: None,
         discarded: false,
-    }
+    })
 }
 
 pub(super) fn new_host(addr: SocketAddr, proto: Protocol, tcptype: Option<TcpType>) -> Candidate
@@ -177,8 +180,7 @@ fn gathered(
     ensures { result ≡ gathered kind proto addr (if is_direct kind then addr else local) local (hidden_related kind addr) tcptype }
 {
     Candidate {
-        foundation: None,
-        ufrag: None,
+        texts: Texts::none(),
         addr,
         other: local,
         priority: 0,

@@ -1,12 +1,13 @@
 //! The candidate attribute, here also: the line of a candidate (RFC 5245, section 15.1).
 ghost use Rattle.std.specs.Prelude.{◌≡◌, Some, IfOk, IsOkUnless, string_bytes};
+ghost use Rattle.std.specs.Option.{option_copied};
 ghost use Rattle.is_proto.specs.declared.error.IceError.TheVariants.{OutOfMemory};
 ghost use Rattle.is_candidate.specs.Sdp.{front_text, place_text, related_text, role_text, fragment_text, sdp_text};
 
 use super::Candidate;
 use super::foundation::Foundation;
 use super::internals::raddr;
-use is_proto::{IceError, TcpType, Text};
+use is_proto::{IceError, TcpType};
 use std::alloc::Global;
 use std::fmt;
 use std::net::SocketAddr;
@@ -36,7 +37,7 @@ impl fmt::Display for Candidate {
         let place = Place(self);
         let related = Related(raddr(self));
         let role = Role(self.tcptype);
-        let fragment = Fragment(&self.ufrag);
+        let fragment = Fragment(self.ufrag());
         write!(f, "{front}{place}{related}{role}{fragment}")
     }
 }
@@ -109,10 +110,10 @@ impl fmt::Display for Role {
 }
 
 #[derive(Clone, Copy)]
-struct Fragment<'a>(&'a Option<Text>);
+struct Fragment<'a>(Option<&'a str>);
 
 impl fmt::Display for Fragment<'_> {
-    ghost output = { λ t. Some (fragment_text t.0.now) };
+    ghost output = { λ t. Some (fragment_text (option_copied t.0)) };
 
     #[tactic(auto, unfolding(crate::specs::Sdp::fragment_text))]
     fn fmt<W: fmt::Write>(&self, f: &mut fmt::Formatter<W>) -> fmt::Result {

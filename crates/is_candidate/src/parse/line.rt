@@ -9,7 +9,6 @@ use super::keys::{Keys, read_keys};
 use super::place::{Place, read_place};
 use crate::candidate::Candidate;
 use crate::candidate::address::plain_socket;
-use is_proto::Text;
 use std::alloc::{AllocError, Global};
 use std::net::{IpAddr, SocketAddr};
 
@@ -51,13 +50,9 @@ pub(crate) fn candidate_of(alloc: Global, line: &Line<'_>) -> Result<Candidate, 
     ensures { IfOk result (λ c. c ≡ candidate_of line.now) }
 {
     let Line { head, place, keys } = *line;
-    let foundation = Text::from_str(alloc, head.foundation)?;
-    let ufrag = match keys.ufrag {
-        Some(ufrag) => Some(Text::from_str(alloc, ufrag)?),
-        None => None,
-    };
-    Ok(Candidate::from_parts(
-        foundation,
+    Candidate::from_parts(
+        alloc,
+        head.foundation,
         head.component,
         head.proto,
         head.priority,
@@ -65,8 +60,8 @@ pub(crate) fn candidate_of(alloc: Global, line: &Line<'_>) -> Result<Candidate, 
         place.kind,
         related_address(keys.raddr, keys.rport),
         keys.tcptype,
-        ufrag,
-    ))
+        keys.ufrag,
+    )
 }
 
 fn related_address(ip: Option<IpAddr>, port: Option<u16>) -> Option<SocketAddr>

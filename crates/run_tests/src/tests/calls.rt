@@ -125,27 +125,39 @@ fn host(alloc: Global, address: SocketAddr) -> Result<Candidate, IceError> {
     Candidate::host(alloc, address, Protocol::Udp)
 }
 
-/// The calls for candidates, preference and credentials. The restart keeps the host candidate, which is invalidated
-/// after it.
-fn calls_with_memory(
-    alloc: Global,
-    preference: Box<dyn LocalPreference>,
-) -> Result<Vec<Call>, IceError> {
+/// The peer's credentials, the host candidate, once more, and one of the peer.
+fn first_calls(alloc: Global) -> Result<Vec<Call>, IceError> {
     let calls = [
         AgentCall::SetRemoteCredentials(creds(alloc, "farr", "farpass")?),
         AgentCall::AddLocalCandidate(host(alloc, at(1, 1000))?),
         AgentCall::AddLocalCandidate(host(alloc, at(1, 1000))?),
         AgentCall::AddRemoteCandidate(host(alloc, at(2, 2000))?),
         AgentCall::RecreateCandidatePairs,
-        AgentCall::RestartIce {
-            creds: creds(alloc, "near", "nearpass")?,
-            keep: true,
-        },
-        AgentCall::InvalidateCandidate(host(alloc, at(1, 1000))?),
-        AgentCall::SetLocalPreference(preference),
-        AgentCall::SetLocalCredentials(IceCreds::new(alloc, &mut Pcg32::seed_from_u64(1))?),
     ];
     Ok(Vec::from_array(alloc, calls)?)
+}
+
+/// A restart that keeps the host candidate, which is invalidated after it.
+fn restart(alloc: Global, calls: &mut Vec<Call>) -> Result<(), IceError> {
+    calls.push(AgentCall::RestartIce {
+        creds: creds(alloc, "near", "nearpass")?,
+        keep: true,
+    })?;
+    calls.push(AgentCall::InvalidateCandidate(host(alloc, at(1, 1000))?))?;
+    Ok(())
+}
+
+/// The calls for candidates, preference and credentials.
+fn calls_with_memory(
+    alloc: Global,
+    preference: Box<dyn LocalPreference>,
+) -> Result<Vec<Call>, IceError> {
+    let mut calls = first_calls(alloc)?;
+    restart(alloc, &mut calls)?;
+    calls.push(AgentCall::SetLocalPreference(preference))?;
+    let own = IceCreds::new(alloc, &mut Pcg32::seed_from_u64(1))?;
+    calls.push(AgentCall::SetLocalCredentials(own))?;
+    Ok(calls)
 }
 
 /// The host is not added a second time: its priority would be lower, since it would be the second of its kind.

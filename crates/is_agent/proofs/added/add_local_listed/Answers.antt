@@ -1,3 +1,4 @@
+use Rattle.std.proofs.Common.{rules}
 use Rattle.is_rules.specs.Local.{widened}
 use Rattle.is_agent.specs.View.{emitted_of}
 use Rattle.is_agent.proofs.added.add_local_listed.Goals as goal
@@ -16,4 +17,12 @@ returns-in-None g c = (
   emitted_of c.add_local.new.self,
   c.add_local.ensures,
   rw (c.in_ok-place.was) (search (c.in-None.is, c.unwanted_addition-otherwise.ensures)),
+)
+
+pub returns-in_err-place : goal.returns-in_err-place
+returns-in_err-place g c = (
+  widened c.add_local.result,
+  emitted_of c.add_local.new.self,
+  c.add_local.ensures,
+  rw (c.in_err-place.was) (search (c.from_residual.ensures, c.in_err-place.is, rules)),
 )

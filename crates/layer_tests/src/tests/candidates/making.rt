@@ -3,7 +3,7 @@
 use super::{has_line, has_line_end};
 use is_candidate::candidate::copy::clone_with_ufrag;
 use is_candidate::candidate::equality::is_temporary;
-use is_candidate::candidate::internals::{base, give_ufrag};
+use is_candidate::candidate::internals::base;
 use is_candidate::candidate::making::peer_reflexive;
 use is_candidate::candidate::priority::check_priority;
 use is_candidate::{Candidate, CandidateKind};
@@ -41,10 +41,9 @@ fn a_host_on_every_interface_is_rejected(rt: HostRuntime) -> Result<(), Fail> {
 /// The remote candidate for a request from 10.0.0.2:2000.
 fn remote_peer_reflexive(alloc: Global) -> Result<Candidate, Fail> {
     let source: SocketAddr = "10.0.0.2:2000".parse()?;
-    let foundation = Text::from_str(alloc, "tmp_prflx")?;
-    let ufrag = Text::from_str(alloc, "p9KA")?;
+    let foundation = Some("tmp_prflx");
     let proto = Protocol::Udp;
-    Ok(peer_reflexive(Some(foundation), proto, 1853824767, source, source, ufrag))
+    Ok(peer_reflexive(alloc, foundation, proto, 1853824767, source, source, "p9KA")?)
 }
 
 #[test]
@@ -76,12 +75,12 @@ fn a_copy_has_its_own_ufrag(rt: HostRuntime) -> Result<(), Fail> {
 }
 
 /// Whether a copy under this ufrag has it, and is what the candidate is under it.
-fn is_copied_under(mut found: Candidate, ufrag: Text) -> bool {
-    match clone_with_ufrag(&found, &ufrag) {
+fn is_copied_under(alloc: Global, mut found: Candidate, ufrag: Text) -> bool {
+    match clone_with_ufrag(alloc, &found, &ufrag) {
         Ok(copy) => {
-            let is_named = copy.ufrag() == Some(ufrag.as_str());
-            give_ufrag(&mut found, ufrag);
-            is_named && copy == found
+            copy.ufrag() == Some(ufrag.as_str())
+                && found.set_ufrag(alloc, ufrag.as_str()).is_ok()
+                && copy == found
         }
         Err(_) => false,
     }
@@ -91,7 +90,7 @@ fn is_copied_under(mut found: Candidate, ufrag: Text) -> bool {
 fn a_copy_is_made_under_another_ufrag(rt: HostRuntime) -> Result<(), Fail> {
     let ufrag = Text::from_str(rt.alloc(), "SQAt")?;
     let found = remote_peer_reflexive(rt.alloc())?;
-    assert!(rt; is_copied_under(found, ufrag));
+    assert!(rt; is_copied_under(rt.alloc(), found, ufrag));
     Ok(())
 }
 

@@ -1,5 +1,5 @@
 -- The request at any time is the one that was asked about, except for its time.
-use Rattle.std.proofs.Common.{◌≡◌, ℕ, Option, Some, None, refl, rules, sym, subst, ap, ◌∙◌}
+use Rattle.std.proofs.Common.{◌≡◌, ℕ, Option, Some, None, rules, subst, ap}
 use Rattle.std.proofs.lemmas.Slice.Eq.{bytes_eq-Decides}
 use Rattle.std.specs.Prelude.{IfSome, IsSomeAnd, List, [], bytes_eq, not, true, false}
 use Rattle.std.specs.Option.{option_map_or}
@@ -12,10 +12,9 @@ use Rattle.is_rules.specs.Accepting.{IsAcceptedAs, IsAddressed}
 use Rattle.is_rules.specs.Answers.{keeps_check_on}
 use Rattle.is_rules.specs.Agent.{AgentRecord}
 use Rattle.is_rules.specs.Request.{RequestRecord, request_in}
-use Rattle.is_rules.specs.RequestView.{request_view, packet_path}
-use Rattle.is_agent.specs.declared.unserved.Unserved.{Unserved}
+use Rattle.is_rules.specs.RequestView.{packet_path}
 use Rattle.is_agent.specs.Ready.{NamesPeer}
-use Rattle.is_agent.specs.Unserved.{IsUnserved, IsAcceptedRequest, UnservedIs}
+use Rattle.is_agent.specs.Unserved.{IsUnserved, IsAcceptedRequest}
 use Rattle.is_agent.specs.View.{record_of}
 use Rattle.is_agent.proofs.AgentParts.RequestsWithoutResponse.{reports, unserved-later}
 use Rattle.is_agent.proofs.agent.Agent.unserved.Goals as goal
