@@ -1,7 +1,6 @@
 //! The pairs that were removed last, and why: queries that change nothing.
 
 ghost use Rattle.std.specs.Prelude.{◌≡◌, length, slice_get};
-ghost use Rattle.std.specs.Option.{option_copied};
 ghost use Rattle.is_agent.specs.Removed.{removed_of, path_between_some};
 ghost use Rattle.is_agent.specs.View.{record_of};
 
@@ -21,8 +20,8 @@ impl<H: Sha1HmacProvider + Drop, P: LocalPreference> Agent<H, P> {
 
     /// The removed pair with this index, if there is one: as it was when it was removed, and why it was. The one that was removed
     /// first has index 0. Does not allocate.
-    pub fn removed_pair(&self, index: usize) -> Option<&RemovedPair>
-        ensures { option_copied result ≡ slice_get (removed_of self.now) index }
+    pub fn removed_pair(&self, index: usize) -> Option<RemovedPair>
+        ensures { result ≡ slice_get (removed_of self.now) index }
     {
         self.pairs.removed(index)
     }

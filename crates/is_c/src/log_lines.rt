@@ -1,7 +1,6 @@
 //! The lines of a session's log, for C: of an event, of a removed pair, and of a datagram that nobody took.
 
 ghost use Rattle.std.specs.Prelude.{◌≡◌, None, codes, option_map};
-ghost use Rattle.std.specs.Option.{option_copied};
 ghost use Rattle.is_stun.specs.MessageView.{message_view};
 ghost use Rattle.is_agent.specs.View.{record_of};
 ghost use Rattle.is_c.specs.LogLines.{PutsSaid, state_of, event_said, PutsEvent, LogsEvent, PutsRemoved, LogsRemoved};
@@ -98,15 +97,15 @@ pub extern "C" fn is_ice_event_line(
 fn put_removed(
     alloc: Global,
     held: &HeldAgent,
-    found: Option<&RemovedPair>,
+    found: Option<RemovedPair>,
     buffer: &mut [u8],
     length: &mut usize,
 ) -> i32
-    ensures { PutsRemoved (record_of held.now.agent) (option_copied found.entry) buffer.old length.old result buffer.new length.new }
+    ensures { PutsRemoved (record_of held.now.agent) found buffer.old length.old result buffer.new length.new }
 {
     match found {
         Some(pair) => {
-            let said = Said::Loses(*pair, held.agent.removed_pair_path(pair));
+            let said = Said::Loses(pair, held.agent.removed_pair_path(&pair));
             put_said(alloc, held, &said, buffer, length)
         }
         None => codes::NOTHING,

@@ -1,7 +1,6 @@
 //! Pairs that were removed, listed: why a session failed, or lost a path.
 
 ghost use Rattle.std.specs.Prelude.{◌≡◌, None};
-ghost use Rattle.std.specs.Option.{option_copied};
 ghost use Rattle.is_agent.specs.View.{record_of};
 ghost use Rattle.is_c.specs.Slots.{held_by};
 ghost use Rattle.is_c_calls.specs.Held.{At};
@@ -75,12 +74,12 @@ fn reported_removed(held: &HeldAgent, pair: &RemovedPair, before: MediaPath) -> 
     }
 }
 
-fn return_removed(held: &HeldAgent, found: Option<&RemovedPair>, removed: &mut Removed) -> i32
-    ensures { ReturnsOfRemoved (record_of held.now.agent) (option_copied found.entry) removed.old removed.new result }
+fn return_removed(held: &HeldAgent, found: Option<RemovedPair>, removed: &mut Removed) -> i32
+    ensures { ReturnsOfRemoved (record_of held.now.agent) found removed.old removed.new result }
 {
     match found {
         Some(found) => {
-            *removed = reported_removed(held, found, removed.path);
+            *removed = reported_removed(held, &found, removed.path);
             codes::OK
         }
         None => codes::NOTHING,

@@ -4,7 +4,7 @@ ghost use Rattle.std.specs.Prelude.{◌≡◌, ◌==◌, Some, unwrap_or};
 ghost use Rattle.is_c_calls.specs.Codes.{BAD_LIMIT, done_code, found_code};
 ghost use Rattle.is_c_calls.specs.Limits.{NO_LIMIT, limit_of};
 ghost use Rattle.is_c.specs.Roles.{is_controlling};
-ghost use Rattle.is_c.specs.Slots.{held_by};
+ghost use Rattle.is_c.specs.Slots.{held_record, held_by};
 ghost use Rattle.is_c_calls.specs.Following.{Followed, at_once, in_turn};
 ghost use Rattle.is_c_calls.specs.Held.{At};
 ghost use Rattle.is_c_calls.specs.declared.preference.Preference.TheVariants.{ByDefault, Fixed, ByTable};
@@ -12,6 +12,7 @@ ghost use Rattle.is_c_calls.specs.Uses.{Does, SetControlling, SetLite, SetRenomi
 
 use crate::codes;
 use crate::deadlines::followed;
+use crate::held::HeldAgent;
 use crate::slot::Slot;
 use is_c_calls::{Preference, PreferenceTable};
 use is_proto::Duration;
@@ -256,6 +257,17 @@ pub extern "C" fn is_ice_reset_local_preference(alloc: Global, slot: &mut Slot) 
     codes::OK
 }
 
+/// Sets this limit of the agent, unless it is 0.
+fn set_max_retransmits(held: &mut HeldAgent, limit: usize) -> i32
+    ensures { Followed in_turn (SetMaxRetransmits limit) (held_record held.old) result (held_record held.new) }
+{
+    if limit == 0 {
+        return codes::BAD_LIMIT;
+    }
+    held.agent.set_max_stun_retransmits(limit);
+    followed(held, false, codes::OK)
+}
+
 /// Sets how many checks a pair sends without a response before it is removed. Fails with `BAD_LIMIT` if the limit is 0.
 #[unsafe(no_mangle)]
 pub extern "C" fn is_ice_set_max_retransmits(alloc: Global, slot: &mut Slot, limit: usize) -> i32
@@ -264,9 +276,5 @@ pub extern "C" fn is_ice_set_max_retransmits(alloc: Global, slot: &mut Slot, lim
     let Some(held) = slot.held() else {
         return codes::NO_AGENT;
     };
-    if limit == 0 {
-        return codes::BAD_LIMIT;
-    }
-    held.agent.set_max_stun_retransmits(limit);
-    followed(held, false, codes::OK)
+    set_max_retransmits(held, limit)
 }

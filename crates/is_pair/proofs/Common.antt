@@ -45,9 +45,14 @@ pub use Rattle.is_pair.specs.Multiset.{IsGreatest, IsLeast, IsLeastPassing, IsLo
 pub use Rattle.is_pair.specs.Multiset.{passes_at, ranks, rises, with_priority, without}
 pub use Rattle.is_pair.specs.Pairs.{check_of, checked, PairRecord, TakesAnswer}
 pub use Rattle.is_pair.specs.Removed.{kept_as, last_removed, removed_after, REMOVED_LIMIT, removed_passing, RemovedFit}
+pub use Rattle.is_pair.specs.Records.{RecordsFit, records_of}
+pub use Rattle.is_pair.specs.ShortRecords.{joined, long_count, pair_of_short}
 pub use Rattle.is_pair.specs.Turns.{CheckedIsLater, due_by, FewerAreAhead, is_due_by, IsPaced}
 pub use Rattle.is_pair.specs.declared.checklist.entries.Kept.{Kept}
 pub use Rattle.is_pair.specs.declared.checklist.entries.Rank.{Rank}
+pub use Rattle.is_pair.specs.declared.checklist.records.Place.{Place}
+pub use Rattle.is_pair.specs.declared.checklist.records.Place.TheVariants.{Long, Short}
+pub use Rattle.is_pair.specs.declared.checklist.records.ShortRecord.{ShortRecord}
 pub use Rattle.is_pair.specs.declared.checklist.removed.Removal.TheVariants.{Evicted}
 pub use Rattle.is_pair.specs.declared.checklist.removed.RemovedPair.{RemovedPair}
 pub use Rattle.is_pair.specs.declared.pair.cut.Cut.{Cut}

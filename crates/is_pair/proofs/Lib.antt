@@ -8,3 +8,4 @@ pub mod ConsentTimes
 pub mod ListParts
 pub mod RemovedPairs
 pub mod EvictedBlock
+pub mod ShortRecords

@@ -1,12 +1,15 @@
 -- What is listed of the pairs that are removed.
 use Rattle.std.proofs.lemmas.List.Elements.{filter-append, filter_map-append}
+use Rattle.is_pair.specs.declared.checklist.records.Records.{Records}
 use Rattle.is_pair.specs.declared.checklist.removed.Removal.{Removal}
 use Rattle.is_pair.proofs.Common.{[], ◌++◌, ◌+◌, ◌-◌, ◌<◌, ◌==◌, ◌∙◌, ◌∷◌, ◌≡◌, ◌≤◌, ap, append-nil, append_assoc, arith, Bool, cons_option}
 use Rattle.is_pair.proofs.Common.{count_by-le-length, drop, drop-append-le, drop-drop, eqb-true, false, filter, get_or, Has, if◌then◌else◌}
 use Rattle.is_pair.proofs.Common.{is_numbered, kept_as, last_removed, length, length-append, length-drop, length-filter, length-take, List}
 use Rattle.is_pair.proofs.Common.{listed_by, map, map-append, nat_lt, nat_tests, None, not, option_to_list, pair_numbered, PairRecord}
-use Rattle.is_pair.proofs.Common.{pairs_of, Rank, refl, removed_after, REMOVED_LIMIT, RemovedFit, RemovedPair, reverse, rises, Some, sym}
+use Rattle.is_pair.proofs.Common.{pairs_of, Rank, refl, removed_after, REMOVED_LIMIT, RemovedPair, reverse, rises, Some, sym}
 use Rattle.is_pair.proofs.Common.{take, take-append-drop, take_more, true, ℕ}
+use Rattle.is_pair.proofs.Common.{Evicted, EvictsSome, records_of, RecordsFit}
+use Rattle.is_pair.proofs.ShortRecords.{joined-length}
 use Rattle.is_pair.proofs.ListParts.{named-once, none-numbered}
 use Rattle.is_pair.proofs.PairEntries.ChangedEntry.{above, both, found-number}
 use Rattle.is_pair.proofs.PriorityOrder.GreatestPair.{all-has, filter-none, found-has}
@@ -92,13 +95,23 @@ split-lengths t (x ∷ xs) =
       | false ↦ omega (arith, rest)
     ]
 
--- ---- capacity, after as many were listed as have gone
+-- ---- the records
 
-pub fit-after : (len after cap gone left pairs : ℕ) → RemovedFit len cap pairs → after ≤ len + gone → gone + left ≡ pairs → RemovedFit after cap left
-fit-after len after cap gone left pairs fit few all = omega arith
+pub few-records : (r : Records) → length (records_of r) ≤ REMOVED_LIMIT
+few-records r = omega (arith, joined-length r.places.items r.long.items (r.counted ∙ r.long.ok.0), r.places.ok.0, r.few)
 
-pub fit-more-after : (len after cap gone left pairs n : ℕ) → RemovedFit len cap (pairs + n) → after ≤ len + gone → gone + left ≡ pairs → RemovedFit after cap (left + n)
-fit-more-after len after cap gone left pairs n fit few all = omega arith
+pub none-evicted : (limit : ℕ) (ps : List PairRecord) (r : Records) → EvictsSome limit ps ps (records_of r) (records_of r)
+none-evicted limit ps r = ([], λ rest new h. h, after-none (λ p. Evicted) (records_of r) (few-records r))
+
+pub fits-fewer : (m n : ℕ) (r : Records) → m ≤ n → RecordsFit n r → RecordsFit m r
+fits-fewer m n r fewer fit = (omega (arith, fewer, fit.0), omega (arith, fewer, fit.1))
+
+-- as many pairs are left as have not gone
+pub gone-left : (t : PairRecord → Bool) (ps left : List PairRecord) (gone before after : ℕ) → gone ≡ length (filter t ps)
+    → left ≡ filter (λ (p : PairRecord). not (t p)) ps → before ≡ length ps → after ≡ length left → gone + after ≡ before
+gone-left t ps left gone before after few is first last =
+    let parts = split-lengths t ps in
+    omega (arith, parts, few, ap length is, first, last)
 
 -- ---- by priority
 

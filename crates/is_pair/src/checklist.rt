@@ -1,11 +1,10 @@
 //! The checklist (RFC 8445, section 6.1.2): the pairs by their numbers, an index of the transaction IDs of their stored
 //! checks, and their order by priority.
 
-ghost use Rattle.std.specs.Prelude.{◌≡◌, ◌≤◌, true, vec_len};
-ghost use Rattle.std.specs.VecDeque.{deque_len, deque_capacity};
+ghost use Rattle.std.specs.Prelude.{◌≡◌, true, vec_len};
 ghost use Rattle.is_pair.specs.Entries.{are_ordered, are_single, ids_rise, IsIndex, IsRanking};
 ghost use Rattle.is_pair.specs.Multiset.{rises};
-ghost use Rattle.is_pair.specs.Removed.{REMOVED_LIMIT, RemovedFit};
+ghost use Rattle.is_pair.specs.Records.{RecordsFit};
 
 mod beginning;
 mod changes;
@@ -21,6 +20,7 @@ mod pair_change;
 mod pair_test;
 mod ranks;
 mod reading;
+mod records;
 mod removed;
 mod rule;
 
@@ -32,6 +32,7 @@ use is_proto::reserve_few;
 pub use listed::goes_before;
 pub use pair_change::PairChange;
 pub use pair_test::PairTest;
+use records::Records;
 pub use removed::{PairRemoval, Removal, RemovedPair};
 pub use rule::PairPriority;
 use std::alloc::{AllocError, Global};
@@ -49,15 +50,14 @@ pub struct Checklist {
     /// Receives the checks of a pair whose queue is full.
     spare: VecDeque<BindingAttempt>,
     /// The pairs that were removed last, the oldest first. It has capacity for those that are still to be removed.
-    removed: VecDeque<RemovedPair>,
+    removed: Records,
     ghost rising: { rises pairs.items ≡ true },
     ghost by_id: { ids_rise index.items ≡ true },
     ghost indexed: { IsIndex index.items pairs.items },
     ghost ordered: { are_ordered ranks.items ≡ true },
     ghost ranked: { IsRanking ranks.items pairs.items },
     ghost single: { are_single ranks.items ≡ true },
-    ghost few: { deque_len removed ≤ REMOVED_LIMIT },
-    ghost fit: { RemovedFit (deque_len removed) (deque_capacity removed) (vec_len pairs) },
+    ghost fit: { RecordsFit (vec_len pairs) removed },
 }
 
 impl Checklist {
@@ -77,7 +77,7 @@ impl Checklist {
             index: Vec::new(alloc),
             ranks: Vec::new(alloc),
             spare: VecDeque::new(alloc),
-            removed: VecDeque::new(alloc),
+            removed: Records::new(alloc),
         }
     }
 

@@ -10,6 +10,6 @@ pub use pair::due::{
 };
 pub use pair::replacing::take_over;
 pub use pair::silence::{
-    is_long_silent, is_wholly_silent, lost_checks, outlives, silence_of, silence_until,
+    is_long_silent, is_wholly_silent, last_sent, lost_checks, outlives, silence_of, silence_until,
 };
 pub use pair::{keep_number, renominate};

@@ -115,7 +115,7 @@ module _ {H P : Type 0} (a : AgentRecord H P) (now : ℕ) (p : PairRecord) where
   along-is-there : IsAskedAlong now a (Some p) → IsThere
   along-is-there along = by-selected (pair_selected a.selected_pair a.pairs) refl along where
     by-silence : (q : PairRecord) → Has a.pairs q → (o : Option Span) → late_since now a q ≡ o
-        → MatchOption o (Some p ≡ None) (λ silence. IsAskedNext q.number silence now a.timing a.pairs (Some p)) → IsThere
+        → MatchOption o (Some p ≡ None) (λ silence. IsAskedNext q.number silence a.pairs (Some p)) → IsThere
     by-silence q has None since is = absurd (cc)
     by-silence q has (Some silence) since (there, asked, first) = (
       there,
@@ -124,7 +124,7 @@ module _ {H P : Type 0} (a : AgentRecord H P) (now : ℕ) (p : PairRecord) where
     )
 
     by-selected : (o : Option PairRecord) → o ≡ pair_selected a.selected_pair a.pairs
-        → MatchOption o (Some p ≡ None) (λ q. MatchOption (late_since now a q) (Some p ≡ None) (λ silence. IsAskedNext q.number silence now a.timing a.pairs (Some p))) → IsThere
+        → MatchOption o (Some p ≡ None) (λ q. MatchOption (late_since now a q) (Some p ≡ None) (λ silence. IsAskedNext q.number silence a.pairs (Some p))) → IsThere
     by-selected None is none = absurd (cc)
     by-selected (Some q) is asked = by-silence q (selected-has a.selected_pair a.pairs q is) (late_since now a q) refl asked
 

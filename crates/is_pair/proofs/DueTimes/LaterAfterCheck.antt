@@ -9,7 +9,7 @@ use Rattle.is_pair.specs.States.{nomination_once_sent}
 use Rattle.is_pair.proofs.Common.{[], ◌*◌, ◌++◌, ◌+◌, ◌-◌, ◌/◌, ◌<◌, ◌==◌, ◌^◌, ◌||◌, ◌∙◌, ◌∷◌, ◌≡◌, ◌≤◌, ap, arith, Bool, Check, check_of}
 use Rattle.is_pair.proofs.Common.{checked, CheckedIsLater, computed_due_time, delay_of, delaying_count, drop, drop-append-le, false}
 use Rattle.is_pair.proofs.Common.{hushed_delay, HUSHED_INTERVAL, HUSHED_TIME, if◌then◌else◌, is_answered, is_hushed, is_repeated_early}
-use Rattle.is_pair.proofs.Common.{is_silent, is_within, IsPaced, last_check, last_checks, last_round_trip, LATENESS, later, length, List}
+use Rattle.is_pair.proofs.Common.{is_silent, is_within, IsPaced, last_check, last_checks, later, length, List}
 use Rattle.is_pair.proofs.Common.{MAX, max, MILLISECOND, min, modern_delay, nat_lt, nat_tests, next_due_time, None, Option, option_map_or}
 use Rattle.is_pair.proofs.Common.{PairRecord, position, position-Some, refl, repeated_delay, reverse, reverse-append, SHORT_INTERVAL}
 use Rattle.is_pair.proofs.Common.{silent_count, slice_get, slice_get-get_or, Some, StunTiming, subst, suc, sym, true, unanswered_count}

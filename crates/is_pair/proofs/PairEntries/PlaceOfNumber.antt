@@ -1,7 +1,7 @@
 -- The index of the pair with a number, in a list that is sorted by number.
 use Rattle.is_pair.proofs.Common.{[], ◌+◌, ◌==◌, ◌∙◌, ◌∷◌, ◌≡◌, ◌≤◌, ap, arith, cond, cond_some, eq-eqb, false, find_at, is_numbered}
 use Rattle.is_pair.proofs.Common.{IsPartitionedBy, IsPartitionPoint, length, List, nat_lt, nat_tests, None, pair_numbered, PairRecord}
-use Rattle.is_pair.proofs.Common.{position, position_or_len, refl, rises, slice_get, slice_get_past, slice_get_within, Some, suc, true}
+use Rattle.is_pair.proofs.Common.{get_or_from_slice_get, position, position_or_len, refl, rises, slice_get, slice_get_past, slice_get_within, Some, suc, sym, true}
 use Rattle.is_pair.proofs.Common.{zero, ℕ}
 use Rattle.is_pair.proofs.PairEntries.ChangedEntry.{above, apart, below-apart, both}
 use Rattle.is_pair.proofs.PriorityOrder.OrderedPairs.{all-at}
@@ -57,6 +57,24 @@ place-here n ps i q point at is =
     let in_list = slice_get_within ps i q at in
     let less : nat_lt i (length ps) ≡ true = grind (arith, nat_tests, in_list) in
     rw (placed n ps i q point at is, less) refl
+
+-- the same without a partition point
+direct : (n : ℕ) (ps : List PairRecord) (i : ℕ) (q : PairRecord) → rises ps ≡ true → slice_get ps i ≡ Some q → q.number ≡ n → position_or_len (is_numbered n) ps ≡ i
+direct n [] i q rising at is = absurd (cc)
+direct n (p ∷ ps) zero q rising at is =
+    let same : p ≡ q = cc in
+    rw (eq-eqb p.number n (ap (λ (x : PairRecord). x.number) same ∙ is)) refl
+direct n (p ∷ ps) (suc i) q rising at is =
+    let parts = both (above p.number ps) (rises ps) rising in
+    let less = all-at (λ (r : PairRecord). nat_lt p.number r.number) ps i q parts.0 (slice_get_within ps i q at) in
+    let below : nat_lt p.number n ≡ true = sym (ap (λ (r : PairRecord). nat_lt p.number r.number) (get_or_from_slice_get ps i q q at) ∙ ap (nat_lt p.number) is) ∙ less in
+    rw (below-apart n p.number below) (next _ i (direct n ps i q parts.1 at is))
+
+pub place-direct : (n : ℕ) (ps : List PairRecord) (i : ℕ) (q : PairRecord) → rises ps ≡ true → slice_get ps i ≡ Some q → q.number ≡ n → position (is_numbered n) ps ≡ Some i
+place-direct n ps i q rising at is =
+    let in_list = slice_get_within ps i q at in
+    let less : nat_lt i (length ps) ≡ true = grind (arith, nat_tests, in_list) in
+    rw (direct n ps i q rising at is, less) refl
 
 none-above : (n m : ℕ) (ps : List PairRecord) → nat_lt n m ≡ true → above m ps ≡ true → position_or_len (is_numbered n) ps ≡ length ps
 none-above n m [] less h = refl

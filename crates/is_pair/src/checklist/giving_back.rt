@@ -32,5 +32,6 @@ impl Checklist {
         give_back(&mut self.pairs);
         give_back(&mut self.index);
         give_back(&mut self.ranks);
+        self.removed.give_back(self.pairs.len().saturating_add(1));
     }
 }

@@ -1,7 +1,7 @@
 //! The pairs of a checklist, in the order of their numbers.
 
-ghost use Rattle.std.specs.Prelude.{◌≡◌, ◌<◌, ◌≤◌, ◌+◌, ◌++◌, ◌∷◌, [], List, true, false, IfSome, OnOk, find, fold, length, map, max, min};
-ghost use Rattle.std.specs.Prelude.{is_some, position, vec_len, vec_capacity};
+ghost use Rattle.std.specs.Prelude.{◌≡◌, ◌<◌, ◌≤◌, ◌+◌, ◌-◌, ◌++◌, ◌∷◌, [], List, true, false, IfSome, OnOk, Some, find, fold, length, map, max, min};
+ghost use Rattle.std.specs.Prelude.{is_some, position, slice_get, vec_len, vec_capacity};
 ghost use Rattle.std.specs.List.{list_any};
 ghost use Rattle.std.specs.Option.{option_copied};
 ghost use Rattle.std.specs.VecDeque.{deque_capacity};
@@ -21,8 +21,18 @@ use is_stun::stun::{Consent, StunTiming};
 use std::alloc::AllocError;
 use std::collections::VecDeque;
 
-/// Returns the index of the pair with the number, if there is one.
-pub(super) fn place_of(pairs: &[CandidatePair], number: u64) -> Option<usize>
+/// Returns the index that the pair with the number has if no pair after the first one was removed.
+fn place_without_gaps(pairs: &[CandidatePair], number: u64) -> usize
+    ensures { (first : PairRecord) → slice_get pairs.now 0 ≡ Some first → result ≡ number - first.number }
+{
+    match pairs.first() {
+        Some(first) => number.saturating_sub(first.id().0) as usize,
+        None => 0,
+    }
+}
+
+/// Searches a sorted list for the pair with the number.
+fn search(pairs: &[CandidatePair], number: u64) -> Option<usize>
     requires rising { rises pairs.now ≡ true }
     ensures place { result ≡ position (is_numbered number) pairs.now }
     ensures within { IfSome result (λ place. place < length pairs.now) }
@@ -34,6 +44,20 @@ pub(super) fn place_of(pairs: &[CandidatePair], number: u64) -> Option<usize>
     } else {
         None
     }
+}
+
+/// Returns the index of the pair with the number, if there is one.
+pub(super) fn place_of(pairs: &[CandidatePair], number: u64) -> Option<usize>
+    requires rising { rises pairs.now ≡ true }
+    ensures place { result ≡ position (is_numbered number) pairs.now }
+    ensures within { IfSome result (λ place. place < length pairs.now) }
+    ensures has { is_some result ≡ has_number number pairs.now }
+{
+    let place = place_without_gaps(pairs, number);
+    if place < pairs.len() && pairs[place].id().0 == number {
+        return Some(place);
+    }
+    search(pairs, number)
 }
 
 /// Returns the pair with the number, if there is one.

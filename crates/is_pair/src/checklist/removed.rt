@@ -1,21 +1,18 @@
 //! The pairs that were removed last, and why: for callers that ask why a session failed. Nothing is decided by them.
 
-ghost use Rattle.std.specs.Prelude.{◌≡◌, ◌≤◌, ◌+◌, ◌==◌, ◌++◌, ◌∷◌, ℕ, not, true, List, [], filter, length, reverse, slice_get, OnOk};
-ghost use Rattle.std.specs.Option.{option_copied, option_to_list};
-ghost use Rattle.std.specs.VecDeque.{deque_len, deque_capacity};
+ghost use Rattle.std.specs.Prelude.{◌≡◌, ◌≤◌, ◌+◌, ◌==◌, ℕ, not, true, [], filter, length, reverse, slice_get, OnOk};
+ghost use Rattle.std.specs.Option.{option_to_list};
 ghost use Rattle.is_pair.specs.Multiset.{is_numbered, pair_numbered, rises};
 ghost use Rattle.is_pair.specs.Lowest.{listed_by, pairs_of};
 ghost use Rattle.is_pair.specs.Checklists.{multiset_of, HasRoom, HasCheckRoom, removed_of};
-ghost use Rattle.is_pair.specs.Removed.{REMOVED_LIMIT, kept_as, last_removed, removed_passing, RemovedFit};
+ghost use Rattle.is_pair.specs.Removed.{REMOVED_LIMIT, kept_as, removed_passing};
+ghost use Rattle.is_pair.specs.Records.{records_of, RecordsFit};
 
 use super::entries::Rank;
+use super::records::Records;
 use super::{Checklist, PairTest, listed, ranks};
 use crate::pair::{CandidatePair, CheckState};
 use std::alloc::AllocError;
-use std::collections::VecDeque;
-
-/// The greatest number of removed pairs that are kept.
-const LIMIT: usize = 32;
 
 /// Why a pair was removed.
 #[derive(Clone, Copy, Debug, PartialEq, Eq)]
@@ -90,153 +87,106 @@ impl RemovedPair {
 }
 
 /// Reserves capacity to list n more pairs and this many others, or as many as are listed at most.
-pub(super) fn reserve(
-    removed: &mut VecDeque<RemovedPair>,
-    pairs: usize,
-    n: usize,
-) -> Result<(), AllocError>
-    requires few { deque_len removed.old ≤ REMOVED_LIMIT }
-    ensures items { removed.new.items ≡ removed.old.items }
-    ensures len { deque_len removed.new ≡ deque_len removed.old }
-    ensures ok { OnOk result (RemovedFit (deque_len removed.new) (deque_capacity removed.new) (pairs + n)) }
-    ensures capacity { deque_capacity removed.old ≤ deque_capacity removed.new }
+pub(super) fn reserve(records: &mut Records, pairs: usize, n: usize) -> Result<(), AllocError>
+    ensures records { records_of records.new ≡ records_of records.old }
+    ensures reserved { OnOk result (RecordsFit (pairs + n) records.new) }
+    ensures room { (m : ℕ) → RecordsFit m records.old → RecordsFit m records.new }
 {
-    let free = LIMIT - removed.len();
-    removed.reserve_exact(pairs.saturating_add(n).min(free))
-}
-
-/// Lists one more, and drops the oldest beyond the limit.
-fn keep(removed: &mut VecDeque<RemovedPair>, pair: RemovedPair)
-    requires few { deque_len removed.old ≤ REMOVED_LIMIT }
-    requires room { RemovedFit (deque_len removed.old) (deque_capacity removed.old) 1 }
-    ensures kept { removed.new.items ≡ last_removed (removed.old.items ++ pair ∷ []) }
-    ensures few { deque_len removed.new ≤ REMOVED_LIMIT }
-    ensures len { deque_len removed.new ≤ deque_len removed.old + 1 }
-    ensures capacity { deque_capacity removed.new ≡ deque_capacity removed.old }
-{
-    if removed.len() >= LIMIT {
-        let _ = removed.pop_front();
-    }
-    removed.push_back_reserved(pair);
+    records.reserve(pairs.saturating_add(n))
 }
 
 /// Lists the pair with the number, if there is one.
 pub(super) fn keep_numbered(
-    removed: &mut VecDeque<RemovedPair>,
+    records: &mut Records,
     pairs: &[CandidatePair],
     number: u64,
     why: Removal,
 )
     requires rising { rises pairs.now ≡ true }
-    requires few { deque_len removed.old ≤ REMOVED_LIMIT }
-    requires room { RemovedFit (deque_len removed.old) (deque_capacity removed.old) (length pairs.now) }
-    ensures removed { removed.new.items ≡ removed_passing (is_numbered number) (λ p. why) pairs.now removed.old.items }
-    ensures few { deque_len removed.new ≤ REMOVED_LIMIT }
-    ensures len { deque_len removed.new ≤ deque_len removed.old + length (filter (is_numbered number) pairs.now) }
-    ensures capacity { deque_capacity removed.new ≡ deque_capacity removed.old }
+    requires room { RecordsFit (length pairs.now) records.old }
+    ensures removed { records_of records.new ≡ removed_passing (is_numbered number) (λ p. why) pairs.now (records_of records.old) }
+    ensures room { (n : ℕ) → RecordsFit (length (filter (is_numbered number) pairs.now) + n) records.old → RecordsFit n records.new }
 {
     match listed::get(pairs, number) {
-        Some(pair) => keep(removed, RemovedPair::of(pair, why)),
+        Some(pair) => records.push(RemovedPair::of(pair, why)),
         None => {}
     }
 }
 
 /// Lists the pairs that pass the test, in the order of their numbers.
-fn keep_by_number<T: PairRemoval>(
-    removed: &mut VecDeque<RemovedPair>,
-    pairs: &[CandidatePair],
-    test: &T,
-)
-    requires few { deque_len removed.old ≤ REMOVED_LIMIT }
-    requires room { RemovedFit (deque_len removed.old) (deque_capacity removed.old) (length pairs.now) }
-    ensures removed { removed.new.items ≡ removed_passing (T.passes test.now) (T.reason test.now) pairs.now removed.old.items }
-    ensures few { deque_len removed.new ≤ REMOVED_LIMIT }
-    ensures len { deque_len removed.new ≤ deque_len removed.old + length (filter (T.passes test.now) pairs.now) }
-    ensures capacity { deque_capacity removed.new ≡ deque_capacity removed.old }
+fn keep_by_number<T: PairRemoval>(records: &mut Records, pairs: &[CandidatePair], test: &T)
+    requires room { RecordsFit (length pairs.now) records.old }
+    ensures removed { records_of records.new ≡ removed_passing (T.passes test.now) (T.reason test.now) pairs.now (records_of records.old) }
+    ensures room { (n : ℕ) → RecordsFit (length (filter (T.passes test.now) pairs.now) + n) records.old → RecordsFit n records.new }
 {
     for pair in pairs {
         if test.passes(pair) {
-            keep(removed, RemovedPair::of(pair, test.removal(pair)));
+            records.push(RemovedPair::of(pair, test.removal(pair)));
         }
     }
 }
 
 /// Lists the pair with the number if it passes the test.
-fn keep_if<T: PairRemoval>(
-    removed: &mut VecDeque<RemovedPair>,
-    pairs: &[CandidatePair],
-    number: u64,
-    test: &T,
-)
+fn keep_if<T: PairRemoval>(records: &mut Records, pairs: &[CandidatePair], number: u64, test: &T)
     requires rising { rises pairs.now ≡ true }
-    requires few { deque_len removed.old ≤ REMOVED_LIMIT }
-    requires room { RemovedFit (deque_len removed.old) (deque_capacity removed.old) (length (filter (T.passes test.now)
-        (option_to_list (pair_numbered number pairs.now)))) }
-    ensures removed { removed.new.items ≡ removed_passing (T.passes test.now) (T.reason test.now) (option_to_list (pair_numbered number pairs.now))
-        removed.old.items }
-    ensures few { deque_len removed.new ≤ REMOVED_LIMIT }
-    ensures len { deque_len removed.new ≤ deque_len removed.old
-        + length (filter (T.passes test.now) (option_to_list (pair_numbered number pairs.now))) }
-    ensures capacity { deque_capacity removed.new ≡ deque_capacity removed.old }
+    requires room { RecordsFit (length (filter (T.passes test.now)
+        (option_to_list (pair_numbered number pairs.now)))) records.old }
+    ensures removed { records_of records.new ≡ removed_passing (T.passes test.now) (T.reason test.now) (option_to_list (pair_numbered number pairs.now))
+        (records_of records.old) }
+    ensures room { (n : ℕ) → RecordsFit (length (filter (T.passes test.now) (option_to_list (pair_numbered number pairs.now))) + n) records.old → RecordsFit n records.new }
 {
     if let Some(pair) = listed::get(pairs, number) {
         if test.passes(pair) {
-            keep(removed, RemovedPair::of(pair, test.removal(pair)));
+            records.push(RemovedPair::of(pair, test.removal(pair)));
         }
     }
 }
 
 /// Lists the pairs that pass the test, in the order by priority, the least first.
 fn keep_ranked<T: PairRemoval>(
-    removed: &mut VecDeque<RemovedPair>,
+    records: &mut Records,
     pairs: &[CandidatePair],
     ranks: &[Rank],
     test: &T,
 )
     requires rising { rises pairs.now ≡ true }
-    requires few { deque_len removed.old ≤ REMOVED_LIMIT }
-    requires room { RemovedFit (deque_len removed.old) (deque_capacity removed.old) (length (filter (T.passes test.now) (pairs_of (reverse ranks.now) pairs.now))) }
-    ensures removed { removed.new.items ≡ removed_passing (T.passes test.now) (T.reason test.now) (pairs_of (reverse ranks.now) pairs.now) removed.old.items }
-    ensures few { deque_len removed.new ≤ REMOVED_LIMIT }
-    ensures len { deque_len removed.new ≤ deque_len removed.old + length (filter (T.passes test.now) (pairs_of (reverse ranks.now) pairs.now)) }
-    ensures capacity { deque_capacity removed.new ≡ deque_capacity removed.old }
+    requires room { RecordsFit (length (filter (T.passes test.now) (pairs_of (reverse ranks.now) pairs.now))) records.old }
+    ensures removed { records_of records.new ≡ removed_passing (T.passes test.now) (T.reason test.now) (pairs_of (reverse ranks.now) pairs.now) (records_of records.old) }
+    ensures room { (n : ℕ) → RecordsFit (length (filter (T.passes test.now) (pairs_of (reverse ranks.now) pairs.now)) + n) records.old → RecordsFit n records.new }
 {
     for place in 0..ranks.len() {
         if let Some(rank) = ranks::at(ranks, place) {
-            keep_if(removed, pairs, rank.number, test);
+            keep_if(records, pairs, rank.number, test);
         }
     }
 }
 
 /// Lists the pairs that pass the test, by priority or by number.
 pub(super) fn keep_passing<T: PairRemoval>(
-    removed: &mut VecDeque<RemovedPair>,
+    records: &mut Records,
     pairs: &[CandidatePair],
     ranks: &[Rank],
     test: &T,
     by_priority: bool,
 )
     requires rising { rises pairs.now ≡ true }
-    requires few { deque_len removed.old ≤ REMOVED_LIMIT }
-    requires room { RemovedFit (deque_len removed.old) (deque_capacity removed.old) (length pairs.now) }
+    requires room { RecordsFit (length pairs.now) records.old }
     requires ranked { length (filter (T.passes test.now) (pairs_of (reverse ranks.now) pairs.now)) ≤ length pairs.now }
-    ensures removed { removed.new.items
-        ≡ removed_passing (T.passes test.now) (T.reason test.now) (listed_by by_priority ranks.now pairs.now) removed.old.items }
-    ensures few { deque_len removed.new ≤ REMOVED_LIMIT }
-    ensures len { deque_len removed.new ≤ deque_len removed.old + length (filter (T.passes test.now) (listed_by by_priority ranks.now pairs.now)) }
-    ensures capacity { deque_capacity removed.new ≡ deque_capacity removed.old }
+    ensures removed { records_of records.new
+        ≡ removed_passing (T.passes test.now) (T.reason test.now) (listed_by by_priority ranks.now pairs.now) (records_of records.old) }
+    ensures room { (n : ℕ) → RecordsFit (length (filter (T.passes test.now) (listed_by by_priority ranks.now pairs.now)) + n) records.old → RecordsFit n records.new }
 {
     if by_priority {
-        keep_ranked(removed, pairs, ranks, test);
+        keep_ranked(records, pairs, ranks, test);
     } else {
-        keep_by_number(removed, pairs, test);
+        keep_by_number(records, pairs, test);
     }
 }
 
 impl Checklist {
     /// Returns the removed pair with this index, the one that was removed first before the others. The last 32 are kept.
-    pub fn removed(&self, index: usize) -> Option<&RemovedPair>
-        ensures { option_copied result ≡ slice_get (removed_of self.now) index }
+    pub fn removed(&self, index: usize) -> Option<RemovedPair>
+        ensures { result ≡ slice_get (removed_of self.now) index }
     {
         self.removed.get(index)
     }
@@ -266,6 +216,6 @@ impl Checklist {
         ensures check_room { (n : ℕ) → HasCheckRoom n self.old → HasCheckRoom n self.new }
         ensures removed { removed_of self.new ≡ filter (λ r. not (r.remote == remote)) (removed_of self.old) }
     {
-        self.removed.retain(|pair| pair.remote != remote);
+        self.removed.drop_of_remote(remote);
     }
 }

@@ -2,7 +2,7 @@ use Rattle.std.proofs.Common.{rules, ◌≡◌, ◌∙◌, ℕ, Bool, Some, Opti
 use Rattle.is_c.specs.declared.held.HeldAgent.{HeldAgent}
 use Rattle.is_c.specs.Slots.{held_record}
 use Rattle.is_c_calls.specs.Following.{Follows, Followed, if_served}
-use Rattle.is_c_calls.specs.Held.{HeldRecord, At}
+use Rattle.is_c_calls.specs.Held.{At}
 use Rattle.is_c_calls.specs.Uses.{Use, HandleTimeout, Does}
 use Rattle.is_c.proofs.packets.is_ice_handle_timeout.Goals as goal
 

@@ -1,4 +1,4 @@
-use Rattle.std.proofs.Common.{◌||◌, is_some, not, subst, length, arith}
+use Rattle.std.proofs.Common.{◌||◌, is_some, not, subst, arith}
 use Rattle.std.specs.List.{list_any}
 use Rattle.is_pair.specs.Checklists.{multiset_of}
 use Rattle.is_rules.specs.Due.{falls_due, may_nominate}

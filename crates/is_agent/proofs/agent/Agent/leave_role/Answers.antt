@@ -1,4 +1,4 @@
-use Rattle.std.proofs.Common.{◌≡◌, ℕ, List, Option, IfSome, subst}
+use Rattle.std.proofs.Common.{ℕ, List, IfSome, subst}
 use Rattle.is_stun.specs.MessageView.{message_view}
 use Rattle.is_pair.specs.Multiset.{pair_numbered}
 use Rattle.is_pair.specs.Pairs.{PairRecord}

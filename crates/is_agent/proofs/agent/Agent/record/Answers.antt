@@ -1,7 +1,7 @@
 use Rattle.is_pair.specs.Checklists.{multiset_of}
 use Rattle.is_rules.proofs.PairLists.PairsInLists.{longer}
 use Rattle.is_agent.proofs.AgentParts.PairsInLists.{joined-longer, placed-answered}
-use Rattle.std.proofs.Common.{◌+◌, ◌≤◌, length, arith, ap}
+use Rattle.std.proofs.Common.{◌+◌, ◌≤◌, length, arith}
 use Rattle.is_agent.specs.Live.{live_count}
 use Rattle.is_agent.proofs.AgentParts.LiveCandidates.{live-joined}
 use Rattle.is_agent.proofs.AgentParts.PairCounts.{as-many-answered}

@@ -1,9 +1,6 @@
-use Rattle.std.proofs.Common.{ap}
 use Rattle.is_pair.specs.Checklists.{multiset_of}
 use Rattle.is_rules.proofs.PairLists.PairsInLists.{in-lists}
 use Rattle.is_agent.proofs.AgentParts.DuePairsAfterRemoval.{selected-has}
-use Rattle.is_agent.specs.Media.{selected_path}
-use Rattle.is_agent.specs.View.{record_of}
 use Rattle.is_agent.proofs.agent.Agent.selected_path.Goals as goal
 
 pub path_of-requires-clause-local : goal.path_of-requires-clause-local

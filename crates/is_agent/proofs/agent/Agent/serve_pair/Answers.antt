@@ -1,4 +1,4 @@
-use Rattle.std.proofs.Common.{◌≡◌, ℕ, Bool, Option, ap, ◌∙◌, length, arith}
+use Rattle.std.proofs.Common.{◌≡◌, ℕ, Bool, ap, ◌∙◌, length, arith}
 use Rattle.is_stun.specs.Timing.{is_modern}
 use Rattle.is_pair.specs.Due.{triggered}
 use Rattle.is_pair.specs.Multiset.{change_pair}

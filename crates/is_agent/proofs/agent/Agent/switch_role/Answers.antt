@@ -1,7 +1,5 @@
-use Rattle.std.proofs.Common.{length, ap, arith, map, ◌∙◌}
+use Rattle.std.proofs.Common.{length, ap, arith, ◌∙◌}
 use Rattle.std.proofs.lemmas.List.{length-map}
-use Rattle.is_pair.specs.Checklists.{multiset_of}
-use Rattle.is_rules.specs.Roles.{with_priority_in}
 use Rattle.is_agent.proofs.agent.Agent.switch_role.Goals as goal
 
 pub returns-clause-room : goal.returns-clause-room

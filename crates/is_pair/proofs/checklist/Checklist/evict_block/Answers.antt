@@ -1,11 +1,21 @@
 use Rattle.std.proofs.lemmas.List.Sorted.{IsPermutation-reverse}
-use Rattle.is_pair.proofs.Common.{◌+◌, ◌∙◌, ◌≡◌, ◌≤◌, ap, arith, count_by, EvictsInTurn, filter, is_low, length, length-filter, List}
+use Rattle.is_pair.proofs.Common.{◌+◌, ◌∙◌, ◌≡◌, ◌≤◌, ap, arith, count_by, EvictsInTurn, filter, is_low, length, length-filter, List, multiset_of}
 use Rattle.is_pair.proofs.Common.{PairRecord, pairs_of, reverse, subst}
 use Rattle.is_pair.proofs.EvictedBlock.{low-ones, ranked-go}
 use Rattle.is_pair.proofs.PriorityOrder.OrderedPairs.{ranking-reversed, rising-reversed}
 use Rattle.is_pair.proofs.PriorityOrder.RankedPairs.{agree, have-ranks}
 use Rattle.is_pair.proofs.PriorityOrder.SingleEntries.{single-permuted}
+use Rattle.is_pair.proofs.RemovedPairs.{none-evicted}
 use Rattle.is_pair.proofs.checklist.Checklist.evict_block.Goals as goal
+
+pub returns-then-excess-lt-FEW-clause-evicted : goal.returns-then-excess-lt-FEW-clause-evicted
+returns-then-excess-lt-FEW-clause-evicted c = none-evicted c.args.limit (multiset_of c.args.self.now) c.args.self.now.removed
+
+pub returns-in_default-clause-evicted : goal.returns-in_default-clause-evicted
+returns-in_default-clause-evicted c = none-evicted c.args.limit (multiset_of c.args.self.now) c.args.self.now.removed
+
+pub returns-then-count-excess-clause-evicted : goal.returns-then-count-excess-clause-evicted
+returns-then-count-excess-clause-evicted c = none-evicted c.args.limit (multiset_of c.args.self.now) c.args.self.now.removed
 
 pub returns-clause-evicted : goal.returns-clause-evicted
 returns-clause-evicted c =

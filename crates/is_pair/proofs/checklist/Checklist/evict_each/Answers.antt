@@ -1,12 +1,12 @@
 use Rattle.is_pair.proofs.Common.{[], ◌++◌, ◌∙◌, ◌∷◌, ap, append-nil, append_assoc, arith, Evicted, EvictsInTurn, IsLeast, length, List}
-use Rattle.is_pair.proofs.Common.{multiset_of, PairRecord, refl, removed_after, removed_of, rules, subst, sym}
+use Rattle.is_pair.proofs.Common.{multiset_of, PairRecord, refl, removed_after, removed_of, subst, sym}
 use Rattle.is_pair.proofs.PriorityOrder.LeastPair.{shrinks}
-use Rattle.is_pair.proofs.RemovedPairs.{after-none, after-some, filter-only}
+use Rattle.is_pair.proofs.RemovedPairs.{after-some, filter-only, none-evicted}
 use Rattle.is_pair.proofs.checklist.Checklist.evict_each.Goals as goal
 
 pub loop-self-init : goal.loop-self-init
 loop-self-init c = record {
-  evicted = ([], λ rest new h. h, after-none (λ p. Evicted) (removed_of c.args.self.now) (search rules));
+  evicted = none-evicted c.args.limit (multiset_of c.args.self.now) c.args.self.now.removed;
   room = λ n h. h;
   check_room = λ limit h. h;
   below = λ n h. h;

@@ -1,12 +1,12 @@
-use Rattle.is_pair.proofs.Common.{◌+◌, ◌==◌, ◌∙◌, ◌≡◌, ◌≤◌, ap, are_below, are_fewer, are_ordered, are_single, arith, Bool, deque_capacity}
-use Rattle.is_pair.proofs.Common.{deque_len, filter, ids_rise, is_numbered, keep_fewer, Kept, length, List, nat_lt, not, PairRecord, Rank}
-use Rattle.is_pair.proofs.Common.{rises, vec_len, ℕ}
+use Rattle.is_pair.proofs.Common.{◌+◌, ◌==◌, ◌∙◌, ap, are_below, are_fewer, are_ordered, are_single, arith}
+use Rattle.is_pair.proofs.Common.{filter, ids_rise, is_numbered, keep_fewer, Kept, length, List, nat_lt, not, PairRecord, Rank}
+use Rattle.is_pair.proofs.Common.{rises, vec_len}
 use Rattle.is_pair.proofs.ChecklistIndex.SortedById.{rising-filter}
 use Rattle.is_pair.proofs.PairEntries.ChangedEntry.{all-filter, rises-filter}
 use Rattle.is_pair.proofs.PairEntries.RemovedPair.{index-without, ranking-without}
 use Rattle.is_pair.proofs.PriorityOrder.OrderedPairs.{ordered-filter}
 use Rattle.is_pair.proofs.PriorityOrder.SingleEntries.{single-filter}
-use Rattle.is_pair.proofs.RemovedPairs.{fit-after, fit-more-after, split-lengths}
+use Rattle.is_pair.proofs.RemovedPairs.{fits-fewer, gone-left}
 use Rattle.is_pair.proofs.checklist.Checklist.remove.Goals as goal
 
 pub invariant_of-self-clause-rising : goal.invariant_of-self-clause-rising
@@ -44,36 +44,25 @@ pub invariant_of-self-clause-single : goal.invariant_of-self-clause-single
 invariant_of-self-clause-single c =
     ap are_single c.drop_number-2.ensures.items ∙ single-filter (λ (r : Rank). not (r.number == c.args.number)) c.args.self.now.ranks.items c.args.self.now.single
 
--- as many are listed as go
-listed-few : (t : PairRecord → Bool) (ps seen left : List PairRecord) (old new before after : ℕ) → seen ≡ ps → new ≤ old + length (filter t seen)
-    → left ≡ filter (λ (p : PairRecord). not (t p)) ps → before ≡ length ps → after ≡ length left
-    → (new ≤ old + length (filter t ps)) × (length (filter t ps) + after ≡ before)
-listed-few t ps seen left old new before after same few is first last =
-    let all = ap (λ (qs : List PairRecord). length (filter t qs)) same in
-    let parts = split-lengths t ps in
-    (omega (arith, few, all), omega (arith, parts, ap length is, first, last))
-
 pub invariant_of-self-clause-fit : goal.invariant_of-self-clause-fit
 invariant_of-self-clause-fit c =
     let list = c.args.self.now in
     let test = is_numbered c.args.number in
-    let few = listed-few test list.pairs.items c.deref.result.now c.take_out.new.pairs.items
-    (deque_len list.removed) (deque_len c.keep_numbered.new.removed) (vec_len list.pairs) (vec_len c.take_out.new.pairs)
-    c.deref.ensures.value c.keep_numbered.ensures.len c.take_out.ensures.left c.len_is.ensures c.len_is-2.ensures in
-    let fit = fit-after (deque_len list.removed) (deque_len c.keep_numbered.new.removed) (deque_capacity list.removed) (length (filter test list.pairs.items))
-    (vec_len c.take_out.new.pairs) (vec_len list.pairs) list.fit few.0 few.1 in
-    omega (arith, fit, c.keep_numbered.ensures.capacity)
+    let gone = length (filter test c.deref.result.now) in
+    let left = vec_len c.take_out.new.pairs in
+    let all = gone-left test list.pairs.items c.take_out.new.pairs.items gone (vec_len list.pairs) left
+    (ap (λ (ps : List PairRecord). length (filter test ps)) c.deref.ensures.value) c.take_out.ensures.left c.len_is.ensures c.len_is-2.ensures in
+    c.keep_numbered.ensures.room left (fits-fewer (gone + left) (vec_len list.pairs) list.removed (omega (arith, all)) list.fit)
 
 pub returns-clause-room : goal.returns-clause-room
 returns-clause-room c = λ n h.
     let list = c.args.self.now in
     let test = is_numbered c.args.number in
-    let few = listed-few test list.pairs.items c.deref.result.now c.take_out.new.pairs.items
-    (deque_len list.removed) (deque_len c.keep_numbered.new.removed) (vec_len list.pairs) (vec_len c.take_out.new.pairs)
-    c.deref.ensures.value c.keep_numbered.ensures.len c.take_out.ensures.left c.len_is.ensures c.len_is-2.ensures in
-    let fit = fit-more-after (deque_len list.removed) (deque_len c.keep_numbered.new.removed) (deque_capacity list.removed) (length (filter test list.pairs.items))
-    (vec_len c.take_out.new.pairs) (vec_len list.pairs) n h.2 few.0 few.1 in (
+    let gone = length (filter test c.deref.result.now) in
+    let left = vec_len c.take_out.new.pairs in
+    let all = gone-left test list.pairs.items c.take_out.new.pairs.items gone (vec_len list.pairs) left
+    (ap (λ (ps : List PairRecord). length (filter test ps)) c.deref.ensures.value) c.take_out.ensures.left c.len_is.ensures c.len_is-2.ensures in (
       omega (arith, h.0, c.take_out.ensures.within, c.take_out.ensures.capacity),
       omega (arith, h.1, c.drop_number-2.ensures.within, c.drop_number-2.ensures.capacity),
-      omega (arith, fit, c.keep_numbered.ensures.capacity),
+      c.keep_numbered.ensures.room (left + n) (fits-fewer (gone + (left + n)) (vec_len list.pairs + n) list.removed (omega (arith, all)) h.2),
     )

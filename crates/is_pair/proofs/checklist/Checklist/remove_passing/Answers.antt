@@ -1,6 +1,6 @@
 use Rattle.std.proofs.lemmas.List.Sorted.{IsPermutation-reverse}
-use Rattle.is_pair.proofs.Common.{◌+◌, ◌∙◌, ◌≡◌, ◌≤◌, ap, are_below, are_fewer, are_ordered, are_single, arith, Bool, deque_capacity}
-use Rattle.is_pair.proofs.Common.{deque_len, filter, has_number, ids_rise, keep_fewer, Kept, length, List, listed_by, nat_lt, not}
+use Rattle.is_pair.proofs.Common.{◌+◌, ◌∙◌, ◌≡◌, ◌≤◌, ap, are_below, are_fewer, are_ordered, are_single, arith, Bool}
+use Rattle.is_pair.proofs.Common.{filter, has_number, ids_rise, keep_fewer, Kept, length, List, listed_by, nat_lt, not}
 use Rattle.is_pair.proofs.Common.{IsRanking, PairRecord, pairs_of, Rank, reverse, rises, subst, sym, true, vec_len, ℕ}
 use Rattle.is_pair.proofs.ChecklistIndex.SortedById.{rising-filter}
 use Rattle.is_pair.proofs.PairEntries.ChangedEntry.{all-filter, rises-filter}
@@ -8,7 +8,7 @@ use Rattle.is_pair.proofs.PairEntries.AddedAndRemovedPairs.{index-left, ranking-
 use Rattle.is_pair.proofs.PriorityOrder.OrderedPairs.{ordered-filter, ranking-reversed}
 use Rattle.is_pair.proofs.PriorityOrder.SingleEntries.{single-filter, single-permuted}
 use Rattle.is_pair.proofs.PriorityOrder.RankedPairs.{count-ranked, have-ranks}
-use Rattle.is_pair.proofs.RemovedPairs.{few-pass, fit-after, fit-more-after, listed-counts, split-lengths}
+use Rattle.is_pair.proofs.RemovedPairs.{few-pass, fits-fewer, gone-left, listed-counts}
 use Rattle.is_pair.proofs.checklist.Checklist.remove_passing.Goals as goal
 
 pub invariant_of-self-clause-rising : goal.invariant_of-self-clause-rising
@@ -68,15 +68,14 @@ all-listed t rs ps rising single ranked =
     (have-ranks ps (reverse rs) rising (ranking-reversed rs ps ranked) t)
 
 -- as many are listed as go
-listed-few : (by_priority : Bool) (t : PairRecord → Bool) (rs given : List Rank) (ps seen left : List PairRecord) (old new before after : ℕ) → given ≡ rs → seen ≡ ps
-    → length (filter t (pairs_of (reverse rs) ps)) ≡ length (filter t ps) → new ≤ old + length (filter t (listed_by by_priority given seen))
+listed-few : (by_priority : Bool) (t : PairRecord → Bool) (rs given : List Rank) (ps seen left : List PairRecord) (before after : ℕ) → given ≡ rs → seen ≡ ps
+    → length (filter t (pairs_of (reverse rs) ps)) ≡ length (filter t ps)
     → left ≡ filter (λ (p : PairRecord). not (t p)) ps → before ≡ length ps → after ≡ length left
-    → (new ≤ old + length (filter t ps)) × (length (filter t ps) + after ≡ before)
-listed-few by_priority t rs given ps seen left old new before after one two counts few is first last =
+    → length (filter t (listed_by by_priority given seen)) + after ≡ before
+listed-few by_priority t rs given ps seen left before after one two counts is first last =
     let all = ap (λ (qs : List PairRecord). length (filter t (listed_by by_priority given qs))) two
     ∙ ap (λ (xs : List Rank). length (filter t (listed_by by_priority xs ps))) one ∙ listed-counts by_priority t rs ps counts in
-    let parts = split-lengths t ps in
-    (omega (arith, few, all), omega (arith, parts, ap length is, first, last))
+    gone-left t ps left (length (filter t (listed_by by_priority given seen))) before after all is first last
 
 pub keep_passing-requires-clause-ranked : goal.keep_passing-requires-clause-ranked
 keep_passing-requires-clause-ranked g c =
@@ -93,24 +92,22 @@ invariant_of-self-clause-fit g c =
     let list = c.args.self.now in
     let test = g.T.PairTest.passes c.args.test.now in
     let counts = all-listed test list.ranks.items list.pairs.items list.rising list.single list.ranked in
-    let few = listed-few c.args.by_priority test list.ranks.items c.deref-2.result.now list.pairs.items c.deref.result.now c.drop_passing.new.pairs.items
-    (deque_len list.removed) (deque_len c.keep_passing.new.removed) (vec_len list.pairs) (vec_len c.drop_passing.new.pairs)
-    c.deref-2.ensures.value c.deref.ensures.value counts c.keep_passing.ensures.len c.drop_passing.ensures.left c.len_is.ensures c.len_is-2.ensures in
-    let fit = fit-after (deque_len list.removed) (deque_len c.keep_passing.new.removed) (deque_capacity list.removed) (length (filter test list.pairs.items))
-    (vec_len c.drop_passing.new.pairs) (vec_len list.pairs) list.fit few.0 few.1 in
-    omega (arith, fit, c.keep_passing.ensures.capacity)
+    let gone = length (filter test (listed_by c.args.by_priority c.deref-2.result.now c.deref.result.now)) in
+    let left = vec_len c.drop_passing.new.pairs in
+    let all = listed-few c.args.by_priority test list.ranks.items c.deref-2.result.now list.pairs.items c.deref.result.now c.drop_passing.new.pairs.items
+    (vec_len list.pairs) left c.deref-2.ensures.value c.deref.ensures.value counts c.drop_passing.ensures.left c.len_is.ensures c.len_is-2.ensures in
+    c.keep_passing.ensures.room left (fits-fewer (gone + left) (vec_len list.pairs) list.removed (omega (arith, all)) list.fit)
 
 pub returns-clause-room : goal.returns-clause-room
 returns-clause-room g c = λ n h.
     let list = c.args.self.now in
     let test = g.T.PairTest.passes c.args.test.now in
     let counts = all-listed test list.ranks.items list.pairs.items list.rising list.single list.ranked in
-    let few = listed-few c.args.by_priority test list.ranks.items c.deref-2.result.now list.pairs.items c.deref.result.now c.drop_passing.new.pairs.items
-    (deque_len list.removed) (deque_len c.keep_passing.new.removed) (vec_len list.pairs) (vec_len c.drop_passing.new.pairs)
-    c.deref-2.ensures.value c.deref.ensures.value counts c.keep_passing.ensures.len c.drop_passing.ensures.left c.len_is.ensures c.len_is-2.ensures in
-    let fit = fit-more-after (deque_len list.removed) (deque_len c.keep_passing.new.removed) (deque_capacity list.removed) (length (filter test list.pairs.items))
-    (vec_len c.drop_passing.new.pairs) (vec_len list.pairs) n h.2 few.0 few.1 in (
+    let gone = length (filter test (listed_by c.args.by_priority c.deref-2.result.now c.deref.result.now)) in
+    let left = vec_len c.drop_passing.new.pairs in
+    let all = listed-few c.args.by_priority test list.ranks.items c.deref-2.result.now list.pairs.items c.deref.result.now c.drop_passing.new.pairs.items
+    (vec_len list.pairs) left c.deref-2.ensures.value c.deref.ensures.value counts c.drop_passing.ensures.left c.len_is.ensures c.len_is-2.ensures in (
       omega (arith, h.0, c.drop_passing.ensures.within, c.drop_passing.ensures.capacity),
       omega (arith, h.1, c.keep_known-2.ensures.within, c.keep_known-2.ensures.capacity),
-      omega (arith, fit, c.keep_passing.ensures.capacity),
+      c.keep_passing.ensures.room (left + n) (fits-fewer (gone + (left + n)) (vec_len list.pairs + n) list.removed (omega (arith, all)) h.2),
     )

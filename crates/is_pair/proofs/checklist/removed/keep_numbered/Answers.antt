@@ -1,30 +1,34 @@
-use Rattle.is_pair.proofs.Common.{[], ◌++◌, ◌∙◌, ◌∷◌, ◌≡◌, ap, arith, filter, is_numbered, last_removed, length, List, option_to_list}
-use Rattle.is_pair.proofs.Common.{pair_numbered, PairRecord, removed_after, RemovedPair, rules, sym}
-use Rattle.is_pair.proofs.RemovedPairs.{after-none, few-pass, filter-one}
+use Rattle.is_pair.proofs.Common.{[], ◌++◌, ◌+◌, ◌∙◌, ◌∷◌, ◌≡◌, ap, arith, filter, is_numbered, last_removed, length, List, option_to_list}
+use Rattle.is_pair.proofs.Common.{pair_numbered, PairRecord, records_of, removed_after, RemovedPair, sym}
+use Rattle.is_pair.proofs.RemovedPairs.{after-none, few-pass, few-records, filter-one, fits-fewer}
 use Rattle.is_pair.proofs.checklist.removed.keep_numbered.Goals as goal
 
-pub keep-requires : goal.keep-requires
-keep-requires c =
+pub push-requires : goal.push-requires
+push-requires c =
     let one : filter (is_numbered c.args.number) c.args.pairs.now ≡ c.in-Some.pair.now ∷ [] =
     filter-one c.args.number c.args.pairs.now c.requires.rising ∙ ap option_to_list (sym c.in-Some.ensures.found) in
     let many = few-pass (is_numbered c.args.number) c.args.pairs.now in
-    record { few = c.requires.few; room = omega (arith, many, ap length one) }
+    record { room = fits-fewer 1 (length c.args.pairs.now) c.args.records.now (omega (arith, many, ap length one)) c.requires.room }
 
 pub returns-in-Some : goal.returns-in-Some
 returns-in-Some c =
     let one : filter (is_numbered c.args.number) c.args.pairs.now ≡ c.in-Some.pair.now ∷ [] =
     filter-one c.args.number c.args.pairs.now c.requires.rising ∙ ap option_to_list (sym c.in-Some.ensures.found) in
+    let old = records_of c.args.records.now in
     record {
-      removed = c.keep.ensures.kept ∙ ap (λ (r : RemovedPair). last_removed (c.args.removed.now.items ++ r ∷ [])) c.of.ensures
-          ∙ ap (λ (ps : List PairRecord). removed_after (λ p. c.args.why) ps c.args.removed.now.items) (sym one);
-      few = c.keep.ensures.few;
-      len = omega (arith, ap length one, c.keep.ensures.len);
-      capacity = c.keep.ensures.capacity;
+      removed = c.push.ensures.pushed ∙ ap (λ (r : RemovedPair). last_removed (old ++ r ∷ [])) c.of.ensures
+          ∙ ap (λ (ps : List PairRecord). removed_after (λ p. c.args.why) ps old) (sym one);
+      room = λ n h. c.push.ensures.room n
+          (fits-fewer (n + 1) (length (filter (is_numbered c.args.number) c.args.pairs.now) + n) c.args.records.now (omega (arith, ap length one)) h);
     }
 
-pub returns-in-None-clause-removed : goal.returns-in-None-clause-removed
-returns-in-None-clause-removed c =
+pub returns-in-None : goal.returns-in-None
+returns-in-None c =
     let none : option_to_list (pair_numbered c.args.number c.args.pairs.now) ≡ [] = ap option_to_list (sym c.in-None.ensures.found) in
-    after-none (λ p. c.args.why) c.args.removed.now.items (search rules)
-    ∙ ap (λ (ps : List PairRecord). removed_after (λ p. c.args.why) ps c.args.removed.now.items)
-    (sym (filter-one c.args.number c.args.pairs.now c.requires.rising ∙ none))
+    let old = records_of c.args.records.now in
+    record {
+      removed = after-none (λ p. c.args.why) old (few-records c.args.records.now)
+          ∙ ap (λ (ps : List PairRecord). removed_after (λ p. c.args.why) ps old)
+          (sym (filter-one c.args.number c.args.pairs.now c.requires.rising ∙ none));
+      room = λ n h. fits-fewer n (length (filter (is_numbered c.args.number) c.args.pairs.now) + n) c.args.records.now (omega arith) h;
+    }
