@@ -28,6 +28,8 @@ LATENESS = 30 * MILLISECOND
 HUSHED_TIME = 4500 * MILLISECOND
 SHORT_INTERVAL = 70 * MILLISECOND
 HUSHED_INTERVAL = 500 * MILLISECOND
+# A nominated pair comes before others while fewer checks than that have no response.
+URGENT_CHECKS = 8
 
 # How long a silent pair is kept at least, after the longest RTO since its last answered check, and how much longer if many checks were lost
 # before.
@@ -193,8 +195,15 @@ class Pair:
 
     @property
     def is_urgent(self) -> bool:
-        """Whether it may be checked before pairs that are due earlier: the peer waits for it to become valid, or it is nominating."""
-        return (self.requests > 0 and not self.is_valid) or self.is_nominating
+        """Whether it may be checked before pairs that are due earlier: the peer waits for it to become valid, or it is nominating, and few
+        checks have no response."""
+        is_few = self.nomination == "nominated" or unanswered(self.checks) < URGENT_CHECKS
+        return (self.requests > 0 and not self.is_valid) or (self.is_nominating and is_few)
+
+    @property
+    def last_sent(self) -> int:
+        """When its last check was sent, or 0."""
+        return self.checks[-1].sent if self.checks else 0
 
     # ---- when it is due
 

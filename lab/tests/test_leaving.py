@@ -22,6 +22,12 @@ LITE_SERVER = ("b.lite=true", 'b.interface=[{ name = "eth0", ip = "198.51.100.20
 TWO_WIRES = ('[{ name = "eth0", ip = "192.0.2.10", up = "home", down = "home" }, '
              '{ name = "eth1", ip = "192.0.2.11", up = "home", down = "home" }, '
              '{ name = "lte", ip = "10.64.0.10", network = "mobile", up = "mobile", down = "mobile" }]')
+# Both use IPv4 and IPv6, and A has a mobile link with IPv4, too.
+WIRE = 'up = "home", down = "home"'
+DUAL_STACK = (f'a.interface=[{{ name = "eth6", ip = "2001:db8:a::1", {WIRE} }}, {{ name = "eth4", ip = "192.0.2.10", {WIRE} }}, '
+              '{ name = "lte", ip = "10.64.0.10", network = "mobile", up = "mobile", down = "mobile" }]',
+              f'b.interface=[{{ name = "eth6", ip = "2001:db8:b::1", {WIRE} }}, {{ name = "eth4", ip = "198.51.100.40", {WIRE} }}]',
+              'nat=[{ name = "mobile carrier", inner = "mobile", outside = "203.0.113.3" }]')
 # The other path is the quicker one.
 QUICKER = ("link.home.delay_ms=60", "link.mobile.delay_ms=8")
 
@@ -154,6 +160,15 @@ class Leaving(unittest.TestCase):
             at = Random(seed).uniform(0, 3)
             last = play(seed, changes, both_unplugged(10))["a"][-1]
             self.assertTrue(10 < last - at < 14, (seed, last - at))
+
+    def test_two_paths_that_fail_at_once_are_left_in_5_s(self) -> None:
+        """The second one is selected, though it is dead, and asks the third one along."""
+        for controlling in (True, False):
+            roles = (f"a.controlling={controlling}".lower(), f"b.controlling={not controlling}".lower())
+            for seed in range(40):
+                at = Random(seed).uniform(0, 3)
+                for side, times in play(seed, (*MODERN, *NOTHING_FAILS, *DUAL_STACK, *roles), both_unplugged(60)).items():
+                    self.assertLess(times[-1] - at, 5.1, (controlling, seed, side))
 
     def test_a_path_to_a_lite_peer_comes_back(self) -> None:
         """A lite peer sends no requests, so its responses have to suffice."""

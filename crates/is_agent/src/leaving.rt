@@ -113,7 +113,7 @@ impl<H: Sha1HmacProvider + Drop, P: LocalPreference> Agent<H, P> {
 
     /// How many pairs `form_again` forms at most.
     pub(crate) fn formed_again_count(&self) -> usize
-        ensures { IfSome self.now.left (λ _. result ≡ 1) }
+        ensures { result ≡ option_map_or (λ at. 1) self.now.left 0 }
     {
         usize::from(self.left.is_some())
     }

@@ -116,7 +116,7 @@ impl<H: Sha1HmacProvider + Drop, P: LocalPreference> Agent<H, P> {
             number: pair.id().0,
             silence,
         };
-        asked_next(&self.pairs, &along, now, &self.timing)
+        asked_next(&self.pairs, &along)
     }
 
     /// The pair that is checked ahead of those that are due earlier: the one that is asked along with the selected one, if any.

@@ -24,7 +24,7 @@ use Rattle.is_c_theorems.proofs.Common.{GivesEvent, HandlePacket, HandlesDatagra
 use Rattle.is_c_theorems.proofs.Common.{IceAgentEvent, IceCreds, IceError, inl, inr, Invalidate, InvalidateLocal, is_done, is_modern, is_ok}
 use Rattle.is_c_theorems.proofs.Common.{is_over_tcp, IsBased, IsNone, IsOf, keeps_role, length, List, Logged, mac_of, Made, Makes}
 use Rattle.is_c_theorems.proofs.Common.{MakesCandidate, MatchBool, MatchOption, Monitor, nat_lt, next_silence, NextTimeout, None, NOT_UTF8}
-use Rattle.is_c_theorems.proofs.Common.{NotesFailure, numbers_skipped, OK, Ok, Option, packet_path, Path, Polled, PollEvent, PollTimeout}
+use Rattle.is_c_theorems.proofs.Common.{NotesFailure, numbers_skipped, Ok, Option, packet_path, Path, Polled, PollEvent, PollTimeout}
 use Rattle.is_c_theorems.proofs.Common.{PollTransmit, Preference, Protocol, protocol_of, quiet, ReadsBytes, RecreatePairs, refl, Rejects}
 use Rattle.is_c_theorems.proofs.Common.{Restart, Result, ReturnsFirst, role_of, route_for, SendFailed, SetControlling, SetInitialRto}
 use Rattle.is_c_theorems.proofs.Common.{SetLite, SetLiteTimeout, SetLocalCredentials, SetMaxCandidates, SetMaxDiscovered, SetMaxPairs}

@@ -6,11 +6,11 @@ use Rattle.is_proto.specs.Lists.{Has, NonePass}
 use Rattle.is_proto.specs.Times.{MAX, MILLISECOND, SECOND, later}
 use Rattle.is_stun.specs.declared.timing.StunTiming.{StunTiming}
 use Rattle.is_stun.specs.declared.timing.Consent.{Consent}
-use Rattle.is_stun.specs.Timing.{consent_of, early_delay, is_modern, EARLY_INTERVAL, resend_delay, last_resend_delay, timeout_of}
+use Rattle.is_stun.specs.Timing.{consent_of, early_delay, is_modern, resend_delay, last_resend_delay, timeout_of}
 use Rattle.is_pair.specs.declared.pair.states.NominationState.{NominationState}
 use Rattle.is_pair.specs.declared.pair.states.NominationState.TheVariants.{None as Unnominated, Nominated, Attempt, Success}
 use Rattle.is_pair.specs.Checks.{Check, last_check, last_round_trip, unanswered_count, first_unanswered}
-use Rattle.is_pair.specs.States.{is_nominating}
+use Rattle.is_pair.specs.States.{is_nominating, nominates_first}
 use Rattle.is_pair.specs.Pairs.{PairRecord, is_nominated, is_valid, is_lite_alive}
 
 -- ---- when it is due
@@ -152,10 +152,17 @@ moved_up at p = record p { due = option_map (min at) p.due }
 abbrev pub triggered : Bool → ℕ → PairRecord → PairRecord
 triggered modern at p = if modern && is_triggered p then moved_up at p else p
 
--- The pair may be checked before pairs that are due earlier: a request arrived, and the pair is not valid yet, or it is nominated, and
--- no response arrived to a check that nominates it.
+-- A nominated pair comes before others while fewer checks than that have no response.
+abbrev pub URGENT_CHECKS : ℕ
+URGENT_CHECKS = 8
+
+abbrev pub has_few_unanswered : PairRecord → Bool
+has_few_unanswered p = nat_lt (unanswered_count p.checks) URGENT_CHECKS
+
+-- The pair may be checked before pairs that are due earlier: a request arrived, and the pair is not valid yet, or it is nominated, no
+-- response arrived to a check that nominates it, and few checks have none.
 abbrev pub is_urgent : PairRecord → Bool
-is_urgent p = (nat_lt 0 p.requests && not (is_valid p)) || is_nominating p.nomination
+is_urgent p = (nat_lt 0 p.requests && not (is_valid p)) || nominates_first p.nomination (has_few_unanswered p)
 
 -- It is urgent, and its due time, computed now if it is not fixed, is at most `by`.
 abbrev pub is_urgent_by : ℕ → ℕ → StunTiming → PairRecord → Bool

@@ -6,7 +6,7 @@ use Rattle.std.specs.Option.{option_and_then, option_map_or}
 use Rattle.is_proto.specs.Times.{MILLISECOND, later}
 use Rattle.is_stun.specs.declared.timing.StunTiming.{StunTiming}
 use Rattle.is_pair.specs.declared.pair.silence.Span.{Span}
-use Rattle.is_pair.specs.Checks.{Check, first_unanswered, unanswered_count}
+use Rattle.is_pair.specs.Checks.{Check, first_unanswered, last_check, unanswered_count}
 use Rattle.is_pair.specs.Due.{is_within}
 use Rattle.is_pair.specs.Pairs.{PairRecord}
 
@@ -28,6 +28,10 @@ span_from first last = option_and_then (λ a. option_map (span_between a) last) 
 -- from the first check without a response to the first of the last four
 abbrev pub silence_of : List Check → Option Span
 silence_of checks = span_from (first_unanswered checks) (first_of_last FOLLOWING checks)
+
+-- when the last check was sent, or 0 if there was none
+abbrev pub last_sent : List Check → ℕ
+last_sent checks = option_map_or (λ (c : Check). c.sent) (last_check checks) 0
 
 -- how many of the last four checks have no response, from the last one back
 abbrev pub late_count : List Check → ℕ

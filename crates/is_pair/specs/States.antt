@@ -24,6 +24,13 @@ is_nominating Nominated = true
 is_nominating Attempt = true
 is_nominating Success = false
 
+-- A nominated pair comes before others with its first check that nominates it, and with the next ones while few checks have no response.
+abbrev pub nominates_first : NominationState → Bool → Bool
+nominates_first Unnominated few = false
+nominates_first Nominated few = true
+nominates_first Attempt few = few
+nominates_first Success few = false
+
 -- after a check was sent
 
 abbrev pub state_once_sent : CheckState → CheckState

@@ -33,6 +33,7 @@ pub use Rattle.is_pair.specs.Multiset.{is_named_by, is_numbered, is_valid_at, Is
 pub use Rattle.is_pair.specs.Multiset.{keeps_check, KeepsKeys, pair_numbered, rises, without}
 pub use Rattle.is_pair.specs.Pairs.{checked, is_nominated, is_valid, nominated, numbered, PairRecord, renominated, taking_over, validated}
 pub use Rattle.is_pair.specs.Pairs.{with_request}
+pub use Rattle.is_pair.specs.Silence.{last_sent}
 pub use Rattle.is_rules.specs.Agent.{AgentRecord}
 pub use Rattle.is_rules.specs.Checking.{all_scheduled, check_sent, ChecksTop, is_selected_number, IsNextToCheck, MayCheck}
 pub use Rattle.is_rules.specs.Credentials.{ice_char, ice_text}

@@ -1,5 +1,5 @@
 -- With the profile `Modern` a selected path that falls silent is left for another one that works, long before its consent ends.
-use Rattle.std.specs.Prelude.{◌≡◌, ℕ, ◌+◌, ◌-◌, ◌*◌, ◌&&◌, Bool, true, false, not, nat_le, nat_lt, List, find, map, Option, Some, None, MatchOption}
+use Rattle.std.specs.Prelude.{◌≡◌, ℕ, ◌≤◌, ◌+◌, ◌-◌, ◌*◌, ◌&&◌, Bool, true, false, not, nat_le, nat_lt, List, find, map, Option, Some, None, MatchOption}
 use Rattle.std.specs.Prelude.{option_map, if◌then◌else◌}
 use Rattle.std.specs.List.{list_any}
 use Rattle.std.specs.Option.{option_map_or, option_or}
@@ -9,10 +9,10 @@ use Rattle.is_stun.specs.declared.timing.StunTiming.{StunTiming}
 use Rattle.is_stun.specs.Timing.{is_modern}
 use Rattle.is_pair.specs.declared.pair.silence.Span.{Span}
 use Rattle.is_pair.specs.Checks.{unanswered_count}
-use Rattle.is_pair.specs.Due.{is_due, is_pair_expired, moved_up, GoesBefore}
+use Rattle.is_pair.specs.Due.{is_due, is_pair_expired, moved_up}
 use Rattle.is_pair.specs.Multiset.{is_named_by, is_numbered, without}
 use Rattle.is_pair.specs.Pairs.{PairRecord, is_valid}
-use Rattle.is_pair.specs.Silence.{is_long_silent, outlives, silence_of, silence_until}
+use Rattle.is_pair.specs.Silence.{is_long_silent, last_sent, outlives, silence_of, silence_until}
 use Rattle.is_rules.specs.Again.{candidates_of}
 use Rattle.is_rules.specs.Agent.{AgentRecord}
 use Rattle.is_rules.specs.Connecting.{is_connected}
@@ -26,12 +26,12 @@ use Rattle.is_rules.specs.Nominating.{is_eligible, pair_selected}
 abbrev pub is_asked_along : ℕ → Span → PairRecord → Bool
 is_asked_along number silence p = not (is_numbered number p) && is_valid p && not (outlives silence p)
 
--- Of these pairs, the one that is due first.
-abbrev pub IsAskedNext : ℕ → Span → ℕ → StunTiming → List PairRecord → Option PairRecord → Type 0
-IsAskedNext number silence now t pairs None = NonePass (is_asked_along number silence) pairs
-IsAskedNext number silence now t pairs (Some p) =
+-- Of these pairs, the one whose last check was sent first.
+abbrev pub IsAskedNext : ℕ → Span → List PairRecord → Option PairRecord → Type 0
+IsAskedNext number silence pairs None = NonePass (is_asked_along number silence) pairs
+IsAskedNext number silence pairs (Some p) =
     Has pairs p × (is_asked_along number silence p ≡ true)
-    × ((q : PairRecord) → Has pairs q → is_asked_along number silence q ≡ true → GoesBefore now t p q)
+    × ((q : PairRecord) → Has pairs q → is_asked_along number silence q ≡ true → last_sent p.checks ≤ last_sent q.checks)
 
 -- ---- the silent pair is left
 
@@ -64,7 +64,7 @@ module _ {H P : Type 0} where
   abbrev pub IsAskedAlong : ℕ → AgentRecord H P → Option PairRecord → Type 0
   IsAskedAlong now a next =
       MatchOption (pair_selected a.selected_pair a.pairs) (next ≡ None) (λ p. MatchOption (late_since now a p) (next ≡ None)
-      (λ silence. IsAskedNext p.number silence now a.timing a.pairs next))
+      (λ silence. IsAskedNext p.number silence a.pairs next))
 
   -- Another pair than the one with this number: it may be selected, did not expire, and had a response meanwhile.
   abbrev pub may_replace : ℕ → AgentRecord H P → ℕ → Span → PairRecord → Bool

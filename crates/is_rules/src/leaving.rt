@@ -1,10 +1,11 @@
 //! Leaving a selected path that falls silent, with the profile `Modern`: other valid pairs are asked along, and its pair gives way once one
 //! of them, which may be selected, had a response meanwhile; the agent's part: `is_agent::leaving`.
 
-ghost use Rattle.std.specs.Prelude.{◌≡◌, ◌∷◌, List};
+ghost use Rattle.std.specs.Prelude.{◌≡◌, ◌∷◌, List, nat_le};
 ghost use Rattle.std.specs.Option.{option_copied};
 ghost use Rattle.is_pair.specs.Checklists.{multiset_of};
 ghost use Rattle.is_pair.specs.Pairs.{PairRecord};
+ghost use Rattle.is_pair.specs.Silence.{last_sent};
 ghost use Rattle.is_rules.specs.Again.{may_form_between};
 ghost use Rattle.is_rules.specs.Leaving.{is_lossy, is_silent_enough, IsAskedNext};
 
@@ -14,9 +15,9 @@ use crate::nomination::is_eligible;
 use crate::pairs::has_pair_between;
 use crate::timeout::awaits_nomination;
 use is_candidate::Candidate;
-use is_pair::checklist::{Checklist, Expired, PairChange, PairTest, goes_before};
+use is_pair::checklist::{Checklist, Expired, PairChange, PairTest};
 use is_pair::pair::{CandidatePair, CheckState, Span};
-use is_pair::{is_long_silent, lost_checks, move_next, outlives};
+use is_pair::{is_long_silent, last_sent, lost_checks, move_next, outlives};
 use is_proto::{Duration, Instant};
 use is_stun::stun::StunTiming;
 
@@ -94,38 +95,38 @@ impl PairTest for AskedAlong {
     }
 }
 
-/// Returns the first so far, or one more pair if it is asked along and due before.
+/// Whether the last check of the first pair was sent no later than that of the second.
+fn is_asked_before(p: &CandidatePair, q: &CandidatePair) -> bool
+    ensures { result ≡ nat_le (last_sent p.now.checks) (last_sent q.now.checks) }
+{
+    last_sent(p).0 <= last_sent(q).0
+}
+
+/// Returns the first so far, or one more pair if it is asked along and its last check was sent before.
 fn earlier<'a>(
     first: Option<&'a CandidatePair>,
     pair: &'a CandidatePair,
     along: &AskedAlong,
-    now: Instant,
-    timing: &StunTiming,
 ) -> Option<&'a CandidatePair>
-    ensures { (done : List PairRecord) → IsAskedNext along.now.number along.now.silence now.0 timing.now done (option_copied first.entry)
-        → IsAskedNext along.now.number along.now.silence now.0 timing.now (pair.now ∷ done) (option_copied result) }
+    ensures { (done : List PairRecord) → IsAskedNext along.now.number along.now.silence done (option_copied first.entry)
+        → IsAskedNext along.now.number along.now.silence (pair.now ∷ done) (option_copied result) }
 {
     if !along.passes(pair) {
         return first;
     }
     match first {
-        Some(first) if goes_before(first, pair, now, timing) => Some(first),
+        Some(first) if is_asked_before(first, pair) => Some(first),
         _ => Some(pair),
     }
 }
 
-/// Returns the pair that is asked along next: of those with no response meanwhile the one that is due first.
-pub fn asked_next<'a>(
-    pairs: &'a Checklist,
-    along: &AskedAlong,
-    now: Instant,
-    timing: &StunTiming,
-) -> Option<&'a CandidatePair>
-    ensures { IsAskedNext along.now.number along.now.silence now.0 timing.now (multiset_of pairs.now) (option_copied result) }
+/// Returns the pair that is asked along next: of those with no response meanwhile the one whose last check was sent first.
+pub fn asked_next<'a>(pairs: &'a Checklist, along: &AskedAlong) -> Option<&'a CandidatePair>
+    ensures { IsAskedNext along.now.number along.now.silence (multiset_of pairs.now) (option_copied result) }
 {
     let mut first = None;
     for pair in pairs.as_slice() {
-        first = earlier(first, pair, along, now, timing);
+        first = earlier(first, pair, along);
     }
     first
 }

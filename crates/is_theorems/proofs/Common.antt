@@ -63,7 +63,7 @@ pub use Rattle.is_pair.proofs.DueTimes.ChecksLeft.{unanswered-most}
 pub use Rattle.is_pair.specs.Checks.{answered_at, Check, first_unanswered, has_id, is_answered, is_kept, IsCheckAt, last_check, last_checks}
 pub use Rattle.is_pair.specs.Checks.{last_round_trip, unanswered_count}
 pub use Rattle.is_pair.specs.Due.{scheduled, ASKED_TIME, call_time_of, call_time_with, computed_due_time, consent_end, delay_of, due_time_of}
-pub use Rattle.is_pair.specs.Due.{early_span, early_time, GoesBefore, has_checks_left, has_consent, heard_until, hushed_delay}
+pub use Rattle.is_pair.specs.Due.{early_span, early_time, GoesBefore, has_checks_left, has_consent, has_few_unanswered, heard_until, hushed_delay}
 pub use Rattle.is_pair.specs.Due.{HUSHED_INTERVAL, HUSHED_TIME, is_answered_lately, is_asked_first, is_due, is_early_on, is_heard}
 pub use Rattle.is_pair.specs.Due.{is_hushed, is_pair_expired, is_possible, is_repeated_early, is_silent, is_triggered, is_urgent, is_within}
 pub use Rattle.is_pair.specs.Due.{IsNextDue, LATENESS, moved_up, next_due_time, possible_until, repeated_delay, request_end, response_end}
@@ -74,9 +74,9 @@ pub use Rattle.is_pair.specs.Pairs.{answered, check_of, checked, heard, heard_at
 pub use Rattle.is_pair.specs.Pairs.{new_pair, nominated, numbered, PairRecord, renominated, TakesAnswer, taking_over, undue, validated}
 pub use Rattle.is_pair.specs.Pairs.{with_error, with_request}
 pub use Rattle.is_pair.specs.Priorities.{pair_priority}
-pub use Rattle.is_pair.specs.Silence.{first_of_last, FOLLOWING, is_answered_by, is_answered_within, outlives, silence_of, silence_until}
+pub use Rattle.is_pair.specs.Silence.{first_of_last, FOLLOWING, is_answered_by, is_answered_within, last_sent, outlives, silence_of, silence_until}
 pub use Rattle.is_pair.specs.Silence.{span_between, span_from}
-pub use Rattle.is_pair.specs.States.{is_nominated_state, is_nominating, is_valid_state, nomination_again, nomination_from}
+pub use Rattle.is_pair.specs.States.{is_nominated_state, is_nominating, nominates_first, is_valid_state, nomination_again, nomination_from}
 pub use Rattle.is_pair.specs.States.{nomination_once_answered, nomination_once_sent, state_from, state_once_answered, state_once_sent}
 pub use Rattle.is_pair.specs.Turns.{due_by, is_due_by, IsPaced}
 pub use Rattle.is_pair.specs.declared.pair.silence.Span.{Span}

@@ -123,7 +123,8 @@ pub(crate) fn make_room_within(
     keep_last(attempts, limit - 1);
 }
 
-/// Gives the spare queue capacity for more than `most` checks, for `new_attempt_reserved`.
+/// Gives the spare queue capacity for more than `most` checks, for `new_attempt_reserved`. If it has more than four times as much, the rest is
+/// given back.
 pub(crate) fn reserve_beyond(
     spare: &mut VecDeque<BindingAttempt>,
     most: usize,
@@ -132,7 +133,12 @@ pub(crate) fn reserve_beyond(
 {
     spare.clear();
     match most.checked_add(1) {
-        Some(len) => spare.reserve_exact(len),
+        Some(len) => {
+            if spare.capacity() / 4 > len {
+                spare.shrink_to(len);
+            }
+            spare.reserve_exact(len)
+        }
         None => Err(AllocError),
     }
 }

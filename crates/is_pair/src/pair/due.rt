@@ -47,6 +47,10 @@ const HUSHED_INTERVAL: Duration = Duration(500_000_000);
 /// check. The next one is then repeated so much before its response is due.
 const LATENESS: Duration = Duration(30_000_000);
 
+/// A nominated pair with fewer checks without a response may be checked before others: more are rarely lost by chance, and others are to be
+/// heard if it fell silent.
+const URGENT_CHECKS: usize = 8;
+
 /// Whether less than the span has passed since a time, if there is one.
 pub(super) fn is_within(span: Duration, now: Instant, since: Option<Instant>) -> bool
     ensures { result ≡ is_within span.0 now.0 (option_map (λ at. at.0) since) }
@@ -465,9 +469,16 @@ pub fn move_next(pair: &mut CandidatePair, now: Instant)
 }
 
 /// Whether the pair may be checked before pairs that are due earlier: a request arrived, and the pair is not valid yet, or it is
-/// nominated, and no response arrived to a check that nominates it.
+/// nominated, no response arrived to a check that nominates it, and few checks have none.
 pub fn is_urgent(pair: &CandidatePair) -> bool
     ensures { result ≡ is_urgent pair.now }
 {
-    (pair.remote_binding_requests > 0 && !pair.is_valid()) || pair.nomination_state.is_nominating()
+    if pair.remote_binding_requests > 0 && !pair.is_valid() {
+        return true;
+    }
+    match pair.nomination_state {
+        NominationState::Nominated => true,
+        NominationState::Attempt => { attempts::unanswered(&pair.binding_attempts) < URGENT_CHECKS }
+        NominationState::None | NominationState::Success => false,
+    }
 }

@@ -3,7 +3,7 @@
 
 ghost use Rattle.std.specs.Prelude.{◌≡◌, nat_le};
 ghost use Rattle.is_pair.specs.Checks.{unanswered_count};
-ghost use Rattle.is_pair.specs.Silence.{is_answered_by, is_answered_within, is_long_silent, outlives, silence_of, silence_until, span_from};
+ghost use Rattle.is_pair.specs.Silence.{is_answered_by, is_answered_within, is_long_silent, last_sent, outlives, silence_of, silence_until, span_from};
 
 use super::attempt::BindingAttempt;
 use super::due::is_within;
@@ -85,6 +85,16 @@ pub fn lost_checks(pair: &CandidatePair) -> u32
     ensures { result ≡ pair.now.lost }
 {
     pair.lost_checks
+}
+
+/// Returns when the last check was sent, or 0 if there was none.
+pub fn last_sent(pair: &CandidatePair) -> Instant
+    ensures { result.0 ≡ last_sent pair.now.checks }
+{
+    match attempts::last(&pair.binding_attempts) {
+        Some(check) => check.request_sent,
+        None => Instant(0),
+    }
 }
 
 /// Returns the time from the first check without a response to the first of the last four.

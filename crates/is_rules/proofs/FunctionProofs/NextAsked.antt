@@ -1,28 +1,25 @@
--- The pair that is asked along, found by a loop over all pairs: of those that pass, the one that is due first.
+-- The pair that is asked along, found by a loop over all pairs: of those that pass, the one whose last check was sent first.
 use Rattle.is_pair.specs.declared.pair.silence.Span.{Span}
-use Rattle.is_rules.proofs.Common.{[], ◌∙◌, ◌∷◌, ◌≡◌, ◌⊎◌, arith, Bool, GoesBefore, Has, inl, inr, is_asked_along, IsAskedNext, List, None}
-use Rattle.is_rules.proofs.Common.{Option, PairRecord, refl, Some, StunTiming, subst, sym, true, ℕ}
+use Rattle.is_rules.proofs.Common.{[], ◌∷◌, ◌≡◌, ◌⊎◌, ◌≤◌, arith, Bool, Has, inl, inr, is_asked_along, IsAskedNext, last_sent, List, None}
+use Rattle.is_rules.proofs.Common.{Option, PairRecord, refl, Some, subst, sym, true, ℕ}
 use Rattle.is_rules.proofs.FunctionProofs.NextAhead.{none-when}
 use Rattle.is_rules.proofs.PairLists.ChosenPair.{none_pass}
 
-module _ (number : ℕ) (silence : Span) (now : ℕ) (t : StunTiming) where
+module _ (number : ℕ) (silence : Span) where
   abbrev Before : PairRecord → PairRecord → Type 0
-  Before p q = GoesBefore now t p q
+  Before p q = last_sent p.checks ≤ last_sent q.checks
 
   abbrev IsNext : List PairRecord → Option PairRecord → Type 0
-  IsNext done first = IsAskedNext number silence now t done first
+  IsNext done first = IsAskedNext number silence done first
 
   abbrev test : PairRecord → Bool
   test p = is_asked_along number silence p
 
-  before-through : (p q r : PairRecord) → GoesBefore now t p q → GoesBefore now t q r → GoesBefore now t p r
-  before-through p q r (inl a) (inl b) = inl (omega (arith, a, b))
-  before-through p q r (inl a) (inr b) = let same = b.0 in inl (omega (arith, a, same))
-  before-through p q r (inr a) (inl b) = let same = a.0 in inl (omega (arith, same, b))
-  before-through p q r (inr a) (inr b) = let low = a.1 in let lower = b.1 in inr (a.0 ∙ b.0, omega (arith, low, lower))
+  before-through : (p q r : PairRecord) → Before p q → Before q r → Before p r
+  before-through p q r a b = omega (arith, a, b)
 
   before-itself : (p : PairRecord) → Before p p
-  before-itself p = inr (refl, omega arith)
+  before-itself p = omega arith
 
   -- ---- one more pair
 

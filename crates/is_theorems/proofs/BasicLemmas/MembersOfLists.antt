@@ -1,5 +1,5 @@
 -- The elements of a list with one more at its end, and of one in which none passes a test.
-use Rattle.is_theorems.proofs.Common.{[], ◌++◌, ◌∷◌, ◌≡◌, Bool, false, filter, Has, if◌then◌else◌, inl, inr, List, NonePass, PairRecord}
+use Rattle.is_theorems.proofs.Common.{[], ◌++◌, ◌∷◌, ◌≡◌, Bool, false, filter, Has, if◌then◌else◌, inl, inr, List, NonePass}
 use Rattle.is_theorems.proofs.Common.{refl, true}
 
 pub has-front : {X : Type 0} (xs : List X) (x y : X) → Has xs y → Has (xs ++ x ∷ []) y

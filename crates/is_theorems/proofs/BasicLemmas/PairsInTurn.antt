@@ -57,7 +57,7 @@ module _ {H P : Type 0} (now : ℕ) (a : AgentRecord H P) where
   pub asked-why : (p : PairRecord) → IsAskedAlong now a (Some p) → AskedAlong p
   asked-why p h = by-selected (pair_selected a.selected_pair a.pairs) refl h where
     Since : PairRecord → Option Span → Type 0
-    Since q o = MatchOption o (Some p ≡ None) (λ silence. IsAskedNext q.number silence now a.timing a.pairs (Some p))
+    Since q o = MatchOption o (Some p ≡ None) (λ silence. IsAskedNext q.number silence a.pairs (Some p))
 
     by-silence : (q : PairRecord) → pair_selected a.selected_pair a.pairs ≡ Some q → (o : Option Span) → late_since now a q ≡ o → Since q o → AskedAlong p
     by-silence q chosen None is none = absurd (cc)
@@ -74,7 +74,7 @@ module _ {H P : Type 0} (now : ℕ) (a : AgentRecord H P) where
         }
 
     by-selected : (o : Option PairRecord) → pair_selected a.selected_pair a.pairs ≡ o
-        → MatchOption o (Some p ≡ None) (λ q. MatchOption (late_since now a q) (Some p ≡ None) (λ silence. IsAskedNext q.number silence now a.timing a.pairs (Some p))) → AskedAlong p
+        → MatchOption o (Some p ≡ None) (λ q. MatchOption (late_since now a q) (Some p ≡ None) (λ silence. IsAskedNext q.number silence a.pairs (Some p))) → AskedAlong p
     by-selected None is none = absurd (cc)
     by-selected (Some q) is k = by-silence q is (late_since now a q) refl k
 

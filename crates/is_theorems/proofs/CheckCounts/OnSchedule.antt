@@ -5,7 +5,7 @@ use Rattle.is_theorems.proofs.Common.{eqb-true, false, hushed_delay, if◌then�
 use Rattle.is_theorems.proofs.Common.{first_unanswered, is_hushed, is_modern, is_nominated, is_nominating, max, option_map, possible_until}
 use Rattle.is_theorems.proofs.Common.{is_possible, is_repeated_early, is_silent, is_valid, is_within, request_end, response_end, series_end, series_start}
 use Rattle.is_theorems.proofs.Common.{last_check, last_resend_delay, later, least_delay, length, List, MAX, min, nat_lt}
-use Rattle.is_theorems.proofs.Common.{nomination_once_sent, None, not, Option, option_map_or, PairRecord, refl, repeated_delay}
+use Rattle.is_theorems.proofs.Common.{nomination_once_sent, None, Option, option_map_or, PairRecord, refl, repeated_delay}
 use Rattle.is_theorems.proofs.Common.{resend_delay, rto_after, SECOND, silent_count, Some, StunTiming, subst, suc, sym, timeout_of, true}
 use Rattle.is_theorems.proofs.Common.{unanswered_count, unwrap_or, usual_delay, ℕ}
 use Rattle.is_theorems.proofs.CheckCounts.PastTimes.{IsPast}

@@ -10,7 +10,7 @@ use Rattle.is_theorems.proofs.Common.{CountsAndServes, delay_of, Drops, due_by, 
 use Rattle.is_theorems.proofs.Common.{filter, FindsOrAddsPair, Flag, formed, Full, HandlesFailure, HandlesPacket, Has, HUSHED_INTERVAL}
 use Rattle.is_theorems.proofs.Common.{HUSHED_TIME, IceCreds, if◌then◌else◌, in_turn, inl, inr, is_due_by, is_early_on, is_for_other_peer}
 use Rattle.is_theorems.proofs.Common.{is_misled, is_modern, is_nominated_state, is_nominating, is_numbered, is_some, is_triggered, is_valid}
-use Rattle.is_theorems.proofs.Common.{is_valid_at, is_within, IsSenderPlace, IsSuccess, Known, last_check, last_round_trip, LATENESS, later}
+use Rattle.is_theorems.proofs.Common.{is_valid_at, is_within, IsSenderPlace, IsSuccess, Known, last_check, later}
 use Rattle.is_theorems.proofs.Common.{length, List, list_any, local_place, map, MatchOption, MAX, max, Message, min, moved_up, nat_lt}
 use Rattle.is_theorems.proofs.Common.{new_pair, next_due_time, no-more, Nominated, NominatesWhere, NominationState, None, not, not-by}
 use Rattle.is_theorems.proofs.Common.{numbers, Ok, Option, option_map, option_map_or, pair_served, PairRecord, passes_at, Path}

@@ -1,5 +1,5 @@
 -- How many kinds have their turn before one: fewer after each check of another kind, and at most all others.
-use Rattle.is_theorems.proofs.Common.{[], ◌&&◌, ◌+◌, ◌<◌, ◌==◌, ◌∷◌, ◌≡◌, ◌≤◌, ◌⊎◌, arith, Bool, CandidateKind, CandidateRecord}
+use Rattle.is_theorems.proofs.Common.{[], ◌&&◌, ◌+◌, ◌<◌, ◌∷◌, ◌≡◌, ◌≤◌, ◌⊎◌, arith, Bool, CandidateKind, CandidateRecord}
 use Rattle.is_theorems.proofs.Common.{counted_kind, false, Has, Host, if◌then◌else◌, inl, INNER, inr, is_inner, is_v4, kind_between, kind_rank, KINDS}
 use Rattle.is_theorems.proofs.Common.{length, List, nat_le, nat_lt, nat_tests, one_if, PeerReflexive, reach_of, refl, Relayed, remote_rank}
 use Rattle.is_theorems.proofs.Common.{ServerReflexive, SocketAddr, subst, sym, true, turn_of, version_rank, ℕ}

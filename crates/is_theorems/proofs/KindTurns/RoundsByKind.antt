@@ -3,10 +3,10 @@
 use Rattle.is_stun.specs.declared.header.Class.TheVariants as class
 use Rattle.is_theorems.proofs.Common.{[], ◌&&◌, ◌++◌, ◌+◌, ◌-◌, ◌<◌, ◌||◌, ◌∙◌, ◌∷◌, ◌≡◌, ◌≤◌, ◌⊎◌, AgentRecord, all_scheduled, ap, arith}
 use Rattle.is_theorems.proofs.Common.{AtTimeoutsIn, began_at, Bool, Call, CandidateRecord, ChecksIn, ChecksOn, due_time_of, entries_of}
-use Rattle.is_theorems.proofs.Common.{Entry, false, GivesBased, goes_first, GoesBefore, HandleTimeout, Has, inl, inr, is_modern}
-use Rattle.is_theorems.proofs.Common.{is_named_by, is_nominating, is_valid, IsAnsweredIn, IsDelayed, IsDelayedIn, IsEndedIn, IsFresh}
+use Rattle.is_theorems.proofs.Common.{Entry, false, GivesBased, goes_first, GoesBefore, HandleTimeout, Has, has_few_unanswered, inl, inr, is_modern}
+use Rattle.is_theorems.proofs.Common.{is_named_by, is_valid, IsAnsweredIn, IsDelayed, IsDelayedIn, IsEndedIn, IsFresh}
 use Rattle.is_theorems.proofs.Common.{IsHeldUp, IsPassing, IsSound, issued_as, kind_in, KINDS, KindsAreReachedInTurn, length, List, Logged}
-use Rattle.is_theorems.proofs.Common.{LoggedRound, MaintainsPairs, MAX, nat_lt, Nominated, nominates_at_once, None, not, OfTimeoutsIn}
+use Rattle.is_theorems.proofs.Common.{LoggedRound, MaintainsPairs, MAX, nat_lt, Nominated, nominates_at_once, nominates_first, None, not, OfTimeoutsIn}
 use Rattle.is_theorems.proofs.Common.{PairRecord, Part, Path, path_of, Precedence, precedence, refl, Run, RunsOn, Some, Step, Stream, subst}
 use Rattle.is_theorems.proofs.Common.{suc, sym, TakesTurns, timeout_begun, true, turn_of, unwrap_or, WaitsInRounds, ℕ}
 use Rattle.is_theorems.proofs.CallEffects.PathAndTradeEffects.{path_theorem}
@@ -41,7 +41,7 @@ counted-one own lo lm ll fs fo fm fl ls before less same following = omega (arit
 
 -- a pair that does not go first does not wait for its nominating check
 not-nominating : (pre : Precedence) (o : PairRecord) → pre.urgent ≡ true → goes_first pre o ≡ false → o.nomination ≡ Nominated → ⊥
-not-nominating pre o rule off is = by (is_named_by pre.selected o) pre.urgent (nat_lt 0 o.requests && not (is_valid o)) (is_nominating o.nomination) off rule (ap is_nominating is) where
+not-nominating pre o rule off is = by (is_named_by pre.selected o) pre.urgent (nat_lt 0 o.requests && not (is_valid o)) (nominates_first o.nomination (has_few_unanswered o)) off rule (ap (λ n. nominates_first n (has_few_unanswered o)) is) where
   by : (a b c d : Bool) → (a || (b && (c || d))) ≡ false → b ≡ true → d ≡ true → ⊥
   by true b c d off rule on = (let no : true ≡ false = off in cc)
   by false false c d off rule on = (let no : false ≡ true = rule in cc)

@@ -1,9 +1,9 @@
 -- A pair on which a request was served is urgent in rounds until its path is answered: so it is checked like any urgent pair.
 use Rattle.is_theorems.proofs.Common.{[], ◌&&◌, ◌++◌, ◌||◌, ◌∙◌, ◌∷◌, ◌≡◌, ◌⊎◌, AgentRecord, ap, arith, began_at, Bool, Call}
-use Rattle.is_theorems.proofs.Common.{CandidateRecord, Ends, entries_of, false, gives_way, GivesBased, HandleTimeout, Has, inl, inr}
-use Rattle.is_theorems.proofs.Common.{is_expired, is_in_round, is_modern, is_nominating, is_urgent, is_valid, IsAnsweredIn, IsEndedIn}
+use Rattle.is_theorems.proofs.Common.{CandidateRecord, Ends, entries_of, false, gives_way, GivesBased, HandleTimeout, Has, has_few_unanswered, inl, inr}
+use Rattle.is_theorems.proofs.Common.{is_expired, is_in_round, is_modern, is_urgent, is_valid, IsAnsweredIn, IsEndedIn}
 use Rattle.is_theorems.proofs.Common.{IsFresh, IsPassing, IsServed, IsSound, IsValidOn, length, List, lite_set_by, Logged, LoggedRound}
-use Rattle.is_theorems.proofs.Common.{nat_lt, not, PairRecord, Path, path_of, PutsUrgentFirst, PutUrgentFirstIn, refl, rising-each, Run}
+use Rattle.is_theorems.proofs.Common.{nat_lt, nominates_first, not, PairRecord, Path, path_of, PutsUrgentFirst, PutUrgentFirstIn, refl, rising-each, Run}
 use Rattle.is_theorems.proofs.Common.{RunsOn, selects, ServedAreCheckedSoon, Some, Stays, Step, Stream, subst, sym, true, WaitsInRounds, ℕ}
 use Rattle.is_theorems.proofs.CallEffects.PathAndTradeEffects.{path_theorem}
 use Rattle.is_theorems.proofs.DuePairs.AfterNominationAndRemoval.{answered_at, lasts-young}
@@ -21,7 +21,7 @@ use Rattle.is_theorems.proofs.UrgentPairs.RoundsOfUrgentPairs.{urgent-pairs-are-
 -- ---- one pair
 
 is-urgent : (p : PairRecord) → nat_lt 0 p.requests ≡ true → is_valid p ≡ false → is_urgent p ≡ true
-is-urgent p asked off = by (nat_lt 0 p.requests) (is_valid p) (is_nominating p.nomination) asked off where
+is-urgent p asked off = by (nat_lt 0 p.requests) (is_valid p) (nominates_first p.nomination (has_few_unanswered p)) asked off where
   by : (a b c : Bool) → a ≡ true → b ≡ false → ((a && not b) || c) ≡ true
   by true false c asked off = refl
   by true true c asked off = absurd (let no : true ≡ false = off in cc)

@@ -1,8 +1,8 @@
 -- Checks that go ahead, in a worked example: two pairs are due. Whose turn it is decides which one is checked; but an urgent pair comes
 -- before all turns. While the selected pair is silent, the other one is asked along.
-use Rattle.is_theorems.proofs.Common.{[], ◌<◌, ◌∷◌, ◌≡◌, AgentRecord, all_scheduled, arith, scheduled, CandidateRecord, check_sent, codes}
+use Rattle.is_theorems.proofs.Common.{[], ◌<◌, ◌≤◌, ◌∷◌, ◌≡◌, AgentRecord, all_scheduled, arith, scheduled, CandidateRecord, check_sent, codes}
 use Rattle.is_theorems.proofs.Common.{Connected, default_timing, Disconnected, false, GoesBefore, Has, inl, inr, is_asked_along}
-use Rattle.is_theorems.proofs.Common.{IsNextToCheck, kind_of, List, Modern, new_pair, None, PairRecord, Precedence, refl, ServerReflexive}
+use Rattle.is_theorems.proofs.Common.{IsNextToCheck, kind_of, last_sent, List, Modern, new_pair, None, PairRecord, Precedence, refl, ServerReflexive}
 use Rattle.is_theorems.proofs.Common.{signalled_candidate, SocketAddr, Some, Span, StunTiming, subst, Succeeded, Success, sym, true, TurnsBefore, Udp}
 use Rattle.is_theorems.proofs.Common.{V4, ℕ}
 use Rattle.is_theorems.proofs.WorkedExamples.ExampleAgents.{creds_2, host_2, own_1, with_host}
@@ -105,9 +105,9 @@ late_pairs = scheduled 100 modern_timing late_pair ∷ scheduled 100 modern_timi
 abbrev silence : Span
 silence = record { from = record { 0 = 0 }; to = record { 0 = 100 } }
 
-valid_first : (q : PairRecord) → Has late_pairs q → is_asked_along 0 silence q ≡ true → GoesBefore 100 modern_timing (scheduled 100 modern_timing valid_pair) q
+valid_first : (q : PairRecord) → Has late_pairs q → is_asked_along 0 silence q ≡ true → last_sent (scheduled 100 modern_timing valid_pair).checks ≤ last_sent q.checks
 valid_first q (inl same) along = absurd (let no : false ≡ true = subst (λ x. is_asked_along 0 silence x ≡ true) (sym same) along in cc)
-valid_first q (inr (inl same)) along = subst (λ x. GoesBefore 100 modern_timing (scheduled 100 modern_timing valid_pair) x) same (inr (refl, omega arith))
+valid_first q (inr (inl same)) along = subst (λ (x : PairRecord). last_sent (scheduled 100 modern_timing valid_pair).checks ≤ last_sent x.checks) same (omega arith)
 valid_first q (inr (inr none)) along = absurd none
 
 late_first : (q : PairRecord) → Has late_pairs q → GoesBefore 100 modern_timing (scheduled 100 modern_timing late_pair) q

@@ -111,6 +111,17 @@ fn a_nominated_pair_is_urgent_until_a_nominating_check_is_answered(rt: HostRunti
     );
 }
 
+/// It fell silent: other pairs are to be heard.
+#[test]
+fn a_nominated_pair_is_urgent_until_eight_checks_have_no_response(rt: HostRuntime) {
+    let mut path = Path::new(rt.alloc());
+    assert!(rt; path.is_answered(0, 50) && path.is_nominated_now(false));
+    for n in 1..8 {
+        assert!(rt; path.checks(at(100 * n)) && is_urgent(&path.pair));
+    }
+    assert!(rt; path.checks(at(800)) && !is_urgent(&path.pair));
+}
+
 /// A nomination that succeeds at once sends no check.
 #[test]
 fn a_forced_nomination_is_not_urgent(rt: HostRuntime) {
