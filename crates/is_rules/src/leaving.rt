@@ -111,12 +111,11 @@ fn earlier<'a>(
     ensures { (done : List PairRecord) → IsAskedNext along.now.number along.now.silence done (option_copied first.entry)
         → IsAskedNext along.now.number along.now.silence (pair.now ∷ done) (option_copied result) }
 {
-    if !along.passes(pair) {
-        return first;
-    }
+    // two times are compared sooner than the pair's checks are looked at
     match first {
         Some(first) if is_asked_before(first, pair) => Some(first),
-        _ => Some(pair),
+        _ if along.passes(pair) => Some(pair),
+        _ => first,
     }
 }
 

@@ -71,6 +71,7 @@ impl Texts {
     }
 
     /// Copies the texts. Fails if an allocation fails.
+    #[inline(never)]
     pub(super) fn copy_of(
         alloc: Global,
         foundation: Option<&str>,
@@ -88,6 +89,7 @@ impl Texts {
         Texts::long(alloc, foundation, ufrag)
     }
 
+    #[inline(never)]
     fn short(foundation: Option<&str>, ufrag: Option<&str>) -> Texts
         requires { length (text_or_empty (option_copied foundation)) + length (text_or_empty (option_copied ufrag)) ≤ ROOM }
         ensures { result ≡ record { foundation = option_copied foundation.entry; ufrag = option_copied ufrag.entry } }
@@ -138,6 +140,7 @@ impl Texts {
     }
 
     /// Returns the foundation.
+    #[inline(never)]
     pub(super) fn foundation(&self) -> Option<&str>
         ensures { option_copied result ≡ self.now.foundation }
     {
@@ -157,6 +160,7 @@ impl Texts {
     }
 
     /// Returns the username fragment.
+    #[inline(never)]
     pub(super) fn ufrag(&self) -> Option<&str>
         ensures { option_copied result ≡ self.now.ufrag }
     {
@@ -176,6 +180,7 @@ impl Texts {
     }
 
     /// Removes the username fragment. It never allocates, and frees the block if the foundation has room in place.
+    #[inline(never)]
     pub(super) fn without_ufrag(self) -> Texts
         ensures { result ≡ record self { ufrag = None } }
     {
@@ -311,6 +316,7 @@ impl Hash for Texts {
 
 /// A call, so that the proof of a function that drops a candidate has no case for each form of its texts.
 impl Drop for Texts {
+    #[inline(never)]
     fn drop(self) {
         let Texts { stored: _stored } = self;
     }

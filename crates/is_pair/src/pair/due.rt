@@ -123,9 +123,10 @@ impl CandidatePair {
         requires { 0 < timing_config.now.max_retransmits }
         ensures { result ≡ is_possible now.0 timing_config.now self.now }
     {
-        // a recent check is found sooner than the deadline, and keeps the pair at the last `Instant` too, which no deadline exceeds
-        self.has_checks_left(timing_config)
-            || self.is_heard(now)
+        // the peer's last check is one time, the checks are counted, and the deadline takes longest; a recent check keeps the pair at the
+        // last `Instant` too, which no deadline exceeds
+        self.is_heard(now)
+            || self.has_checks_left(timing_config)
             || now < self.possible_until(timing_config)
     }
 
