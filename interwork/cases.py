@@ -176,7 +176,6 @@ def lite_with_server(name):
 
 # ---- NATs
 
-KEEP_PORTS = ("none", "cone", "port")
 UNREACHABLE = {("port", "symmetric"), ("symmetric", "port"), ("symmetric", "symmetric")}
 QUICK_NATS = {("port", "port"), ("none", "symmetric"), ("symmetric", "symmetric")}
 

@@ -3,7 +3,6 @@
 from __future__ import annotations
 
 import asyncio
-import base64
 import json
 import os
 from typing import Any
@@ -60,11 +59,3 @@ class Chromium(Browser):
         if "exceptionDetails" in told:
             raise BrowserError(json.dumps(told["exceptionDetails"]))
         return told["result"].get("value")
-
-    async def screenshot(self, width: int, height: int) -> bytes:
-        """Returns a picture of the page, as PNG."""
-        size = {"width": width, "height": height, "deviceScaleFactor": 1, "mobile": False}
-        await self._command_result("Emulation.setDeviceMetricsOverride", size, sessionId=self._session)
-        await asyncio.sleep(0.5)  # the page is laid out and painted again
-        told = await self._command_result("Page.captureScreenshot", {"format": "png"}, sessionId=self._session)
-        return base64.b64decode(told["data"])

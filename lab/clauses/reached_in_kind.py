@@ -7,14 +7,10 @@ from collections.abc import Iterator
 from dataclasses import replace
 
 from ..scenario import SIDES
-from .connections import succeeds_in
 from .execution import Execution, Lacks, Round, is_in_round, lacks
-from .fair import is_new_agent
 from .opening import most_rounds, pair_of
-from .progress import is_in_line, is_lasting
-from .reached_in_turn import MOST_CALLS, MOST_DELAYS, Choice, has_path, kind_in, kinds_at, kinds_of, reached_by, takes_turns
-from .single import is_passing
-from .staying import may_end_in_rounds
+from .reached_in_turn import (
+    MOST_CALLS, MOST_DELAYS, Choice, has_path, in_rounds, kind_in, kinds_at, kinds_of, reached_by, takes_turns, unless_reached)
 from .verdict import Verdict, first_of_all, over
 
 # While a side has more pairs, no choices are proposed: the search would take too long.
@@ -37,18 +33,13 @@ def goes_among(x: Execution, side: str, kind: int, number: int, r: Round) -> Lac
 
 
 def lacking(x: Execution, c: Choice) -> Lacks:
-    """Returns the preconditions that do not hold. Without a check there may be a reason: a success response, or a pair that may be gone."""
+    """Returns the preconditions that do not hold."""
     rounds, agent = c.rounds(x), x.state(c.first, c.side)
-    own, now = pair_of(agent, c.pair), x.now(c.first)
-    by, path = min(own.due_at(now, agent.timing), now), agent.path(own)
-    passing: Lacks = next((missing for r in rounds if (missing := is_passing(x, c.side, by, r))), [])
-    turns: Lacks = next((missing for r in rounds if (missing := goes_among(x, c.side, kind_in(agent, own), c.pair, r))), [])
-    is_reached = reached_at(x, c) is not None
-    return lacks(IsFresh=is_new_agent(x.state(0, c.side)), line=is_in_line(now, by, agent, own), IsPassing=passing,
-                 lasting=all(is_lasting(r.now, agent, own) for r in rounds), TakesTurnsAmong=turns,
+    kind = kind_in(agent, pair_of(agent, c.pair))
+    turns: Lacks = next((missing for r in rounds if (missing := goes_among(x, c.side, kind, c.pair, r))), [])
+    return lacks(**in_rounds(x, c), TakesTurnsAmong=turns,
                  enough=2 * len(kinds_of(x, c.side, rounds)) * (len(others_in(x, c, rounds)) + c.delays) <= len(rounds),
-                 IsAnsweredIn=is_reached or not succeeds_in(x, c.side, path, rounds),
-                 IsEndedIn=is_reached or not may_end_in_rounds(x, c.side, path, rounds))
+                 **unless_reached(x, c, reached_at(x, c)))
 
 
 # ---- the conclusion

@@ -60,19 +60,32 @@ def kinds_of(x: Execution, side: str, rounds: list[Round]) -> set[int]:
     return {kind for r in rounds for kind in kinds_at(x, side, r.moment)}
 
 
-def lacking(x: Execution, c: Choice) -> Lacks:
-    """Returns the preconditions that do not hold. Without a check there may be a reason: a success response, or a pair that may be gone."""
+def in_rounds(x: Execution, c: Choice) -> dict[str, bool | Lacks]:
+    """Returns what each theorem requires of the agent, of the pair and of the rounds."""
     rounds, agent = c.rounds(x), x.state(c.first, c.side)
     own, now = pair_of(agent, c.pair), x.now(c.first)
-    by, path = min(own.due_at(now, agent.timing), now), agent.path(own)
-    passing: Lacks = next((missing for r in rounds if (missing := is_passing(x, c.side, by, r))), [])
-    turns: Lacks = next((missing for r in rounds if (missing := takes_turns(x, c.side, kind_in(agent, own), c.pair, r))), [])
-    is_reached = reached_at(x, c) is not None
-    return lacks(IsFresh=is_new_agent(x.state(0, c.side)), line=is_in_line(now, by, agent, own), IsPassing=passing,
-                 lasting=all(is_lasting(r.now, agent, own) for r in rounds), TakesTurns=turns,
-                 enough=2 * len(kinds_of(x, c.side, rounds)) * c.delays <= len(rounds),
-                 IsAnsweredIn=is_reached or not succeeds_in(x, c.side, path, rounds),
-                 IsEndedIn=is_reached or not may_end_in_rounds(x, c.side, path, rounds))
+    by = min(own.due_at(now, agent.timing), now)
+    return {"IsFresh": is_new_agent(x.state(0, c.side)), "line": is_in_line(now, by, agent, own),
+            "IsPassing": next((missing for r in rounds if (missing := is_passing(x, c.side, by, r))), []),
+            "lasting": all(is_lasting(r.now, agent, own) for r in rounds)}
+
+
+def unless_reached(x: Execution, c: Choice, at: int | None) -> dict[str, bool | Lacks]:
+    """Returns what each theorem requires of rounds that do not reach the pair. There may be a reason: a success response, or a pair that
+    may be gone."""
+    rounds, agent = c.rounds(x), x.state(c.first, c.side)
+    path = agent.path(pair_of(agent, c.pair))
+    return {"IsAnsweredIn": at is not None or not succeeds_in(x, c.side, path, rounds),
+            "IsEndedIn": at is not None or not may_end_in_rounds(x, c.side, path, rounds)}
+
+
+def lacking(x: Execution, c: Choice) -> Lacks:
+    """Returns the preconditions that do not hold."""
+    rounds, agent = c.rounds(x), x.state(c.first, c.side)
+    kind = kind_in(agent, pair_of(agent, c.pair))
+    turns: Lacks = next((missing for r in rounds if (missing := takes_turns(x, c.side, kind, c.pair, r))), [])
+    return lacks(**in_rounds(x, c), TakesTurns=turns, enough=2 * len(kinds_of(x, c.side, rounds)) * c.delays <= len(rounds),
+                 **unless_reached(x, c, reached_at(x, c)))
 
 
 # ---- the conclusion

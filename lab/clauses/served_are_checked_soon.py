@@ -6,15 +6,10 @@ from __future__ import annotations
 from collections.abc import Iterator
 
 from ..scenario import SIDES
-from .connections import succeeds_in
 from .execution import Execution, Lacks, Round, is_in_round, lacks
-from .fair import is_new_agent
 from .opening import most_rounds, pair_of
-from .progress import is_in_line, is_lasting
-from .reached_in_turn import MOST_DELAYS, Choice
+from .reached_in_turn import MOST_DELAYS, Choice, in_rounds, unless_reached
 from .served import is_served
-from .single import is_passing
-from .staying import may_end_in_rounds
 from .urgent_are_reached import reached_at
 from .verdict import Verdict, first_of_all, over
 
@@ -29,21 +24,13 @@ def select_none(x: Execution, rounds: list[Round]) -> bool:
 def waiting(x: Execution, c: Choice) -> dict[str, bool | Lacks]:
     """Returns what is required of the pair and of the rounds, whatever is answered (`IsServedInRounds`)."""
     rounds, agent = c.rounds(x), x.state(c.first, c.side)
-    own, now = pair_of(agent, c.pair), x.now(c.first)
-    by = min(own.due_at(now, agent.timing), now)
-    passing: Lacks = next((missing for r in rounds if (missing := is_passing(x, c.side, by, r))), [])
-    return {"IsFresh": is_new_agent(x.state(0, c.side)), "line": is_in_line(now, by, agent, own), "IsPassing": passing,
-            "lasting": all(is_lasting(r.now, agent, own) for r in rounds), "IsServed": is_served(agent, own),
-            "quiet": select_none(x, rounds), "enough": 2 * c.delays <= len(rounds)}
+    return {**in_rounds(x, c), "IsServed": is_served(agent, pair_of(agent, c.pair)), "quiet": select_none(x, rounds),
+            "enough": 2 * c.delays <= len(rounds)}
 
 
 def lacking(x: Execution, c: Choice) -> Lacks:
-    """Returns the preconditions that do not hold. Without a check there may be a reason: a success response, or a pair that may be gone."""
-    rounds, agent = c.rounds(x), x.state(c.first, c.side)
-    path = agent.path(pair_of(agent, c.pair))
-    is_reached = reached_at(x, c) is not None
-    return lacks(**waiting(x, c), IsAnsweredIn=is_reached or not succeeds_in(x, c.side, path, rounds),
-                 IsEndedIn=is_reached or not may_end_in_rounds(x, c.side, path, rounds))
+    """Returns the preconditions that do not hold."""
+    return lacks(**waiting(x, c), **unless_reached(x, c, reached_at(x, c)))
 
 
 # ---- the search

@@ -8,13 +8,9 @@ from collections.abc import Iterator
 from ..scenario import SIDES
 from .connections import succeeds_in
 from .execution import Execution, Lacks, Round, is_in_round, lacks
-from .fair import is_new_agent
 from .opening import most_rounds, pair_of
-from .progress import is_in_line, is_lasting
-from .reached_in_turn import MOST_DELAYS, Choice, reached_by
+from .reached_in_turn import MOST_DELAYS, Choice, in_rounds, reached_by, unless_reached
 from .served import is_overtaken
-from .single import is_passing
-from .staying import may_end_in_rounds
 from .verdict import Verdict, first_of_all, over
 
 
@@ -28,18 +24,12 @@ def puts_urgent_first(x: Execution, side: str, number: int, r: Round) -> Lacks:
 
 
 def lacking(x: Execution, c: Choice) -> Lacks:
-    """Returns the preconditions that do not hold. Without a check there may be a reason: a success response, or a pair that may be gone."""
+    """Returns the preconditions that do not hold."""
     rounds, agent = c.rounds(x), x.state(c.first, c.side)
-    own, now = pair_of(agent, c.pair), x.now(c.first)
-    by, path = min(own.due_at(now, agent.timing), now), agent.path(own)
-    passing: Lacks = next((missing for r in rounds if (missing := is_passing(x, c.side, by, r))), [])
+    path = agent.path(pair_of(agent, c.pair))
     unanswered = [r for place, r in enumerate(rounds) if not succeeds_in(x, c.side, path, rounds[:place])]
     urgent: Lacks = next((missing for r in unanswered if (missing := puts_urgent_first(x, c.side, c.pair, r))), [])
-    is_reached = reached_at(x, c) is not None
-    return lacks(IsFresh=is_new_agent(x.state(0, c.side)), line=is_in_line(now, by, agent, own), IsPassing=passing,
-                 lasting=all(is_lasting(r.now, agent, own) for r in rounds), PutsUrgentFirst=urgent, enough=2 * c.delays <= len(rounds),
-                 IsAnsweredIn=is_reached or not succeeds_in(x, c.side, path, rounds),
-                 IsEndedIn=is_reached or not may_end_in_rounds(x, c.side, path, rounds))
+    return lacks(**in_rounds(x, c), PutsUrgentFirst=urgent, enough=2 * c.delays <= len(rounds), **unless_reached(x, c, reached_at(x, c)))
 
 
 # ---- the conclusion

@@ -18,7 +18,6 @@ from lab.tests.altered import Altered, Change, seen
 from lab.view import Called, ShownPair
 from lab.witness import Record, WitnessLog, accepted, play
 
-Find = Callable[[Record], Found]
 SOCKET, PEER = SocketAddress("10.0.0.1", 1), SocketAddress("10.0.0.2", 2)
 
 

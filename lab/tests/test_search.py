@@ -187,6 +187,12 @@ class Searches(unittest.TestCase):
 
         self.compare(clause, lambda n: find(n.x), found)
 
+    def selections(self, n: Network) -> Iterator[executions_select_in_time.Choice]:
+        """Each row of rounds up to each `handle_timeout` call or success response from then on."""
+        return (executions_select_in_time.Choice(side, pair, first, count, last + 1)
+                for side in SIDES for first, pair, count in self.openings(n, side)
+                for last in sorted(n.x.timeouts[side] + n.x.successes(side)) if last >= first)
+
     def test_selection_in_time(self) -> None:
         self.compare_selection_in_time(executions_select_in_time.find, executions_select_in_time.lacking)
         self.compare_selection_in_time(run_selects_in_time.find, run_selects_in_time.lacking, True)
@@ -197,10 +203,7 @@ class Searches(unittest.TestCase):
         held = 0
         for seed in self.SEEDS:
             n = random_story(seed).network()
-            every = (executions_select_in_time.Choice(side, pair, first, count, last + 1)
-                     for side in SIDES for first, pair, count in self.openings(n, side)
-                     for last in sorted(n.x.timeouts[side] + n.x.successes(side)) if last >= first)
-            good = [c for c in every if not lacking(n.x, c)]
+            good = [c for c in self.selections(n) if not lacking(n.x, c)]
             limits = []
             for c in good:
                 limit, selected = executions_select_in_time.limit(n.x, c), executions_select_in_time.selected_at(n.x, c)
@@ -231,10 +234,7 @@ class Searches(unittest.TestCase):
         held = 0
         for seed in self.SEEDS:
             n = random_story(seed).network()
-            every = (executions_select_in_time.Choice(side, pair, first, count, last + 1)
-                     for side in SIDES for first, pair, count in self.openings(n, side)
-                     for last in sorted(n.x.timeouts[side] + n.x.successes(side)) if last >= first)
-            good = [c for c in every if not selects_in_time.lacking(n, c)]
+            good = [c for c in self.selections(n) if not selects_in_time.lacking(n, c)]
             for c in good:
                 limit, selected = selects_in_time.limit(n, c), selects_in_time.selected_at(n.x, c)
                 assert limit is not None and selected is not None

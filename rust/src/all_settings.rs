@@ -51,40 +51,8 @@ pub struct Settings {
 pub enum Profile {
     /// That of the Rust crate `is` 0.12.0.
     Original,
-    /// That of this library: agents connect sooner, and consent ends in time.
-    ///
-    /// - Until a path is selected, every second check goes to the next kind of pairs, and the others to the pair that is due first (RFC
-    ///   8445, section 6.1.4.2). So a path through NATs is found soon, however many host candidates there are. The kind of a pair is the
-    ///   kind of its remote candidate, its IP version, and whether packets of its local candidate reach the outside. They do if the
-    ///   candidate is relayed, or if its base has a server-reflexive candidate or a public address. As long as no base of its IP version
-    ///   has either, this is not known: then the pairs whose addresses share 24 bits of IPv4 or 48 of IPv6 are of a kind. A host candidate
-    ///   with a public address counts as server-reflexive. While there are more pairs than
-    ///   [`IceAgent::set_max_candidate_pairs`] allows, the lowest pair of the kind that has the most is removed.
-    /// - The first request on a pair makes its next check due at once, unless the pair is valid (RFC 8445, section 7.3.1.4). Every second
-    ///   check may go to such a pair, to one whose nomination has no response yet, or to the selected pair, before pairs that are due
-    ///   earlier.
-    /// - As long as no response arrived on a pair, its first two retransmissions come 100 ms apart, and each later delay is twice the one
-    ///   before, up to 350 ms. This goes on for 2.5 s after the pair's first check, 1.2 s if a request came before it; then the RTO counts.
-    ///   The checks that nominate a pair which had a response come so, too. The number of checks ends no pair sooner, unless a request
-    ///   came before its first check.
-    /// - A controlled agent selects a pair in the [`IceAgent::handle_packet`] call of the request that nominates it, if the pair was valid
-    ///   before (RFC 8445, section 7.3.1.5).
-    /// - A pair is removed at the end of its [`Consent`], however many pairs there are.
-    /// - A selected pair that has had no response for about 4 s is removed if another one has: the agent leaves a path that died.
-    /// - Until the agent has a path, and if it is controlling has sent the check that nominates it, the pacing interval Ta is at most 25 ms
-    ///   for half a second after the first check of the newest pair, and 10 ms after a pause: at most 49 checks come in a second. A shorter
-    ///   [`IceAgent::set_timing_advance`] stays.
-    /// - [`IceAgent::poll_timeout`] returns a time after each [`IceAgent::handle_timeout`] call.
-    /// - A lite agent keeps its role, since only full agents repair roles (RFC 8445, sections 6.1.1 and 7.3.1.1). It sends a 487 to each
-    ///   sender that claims the same role, and a 487 that it receives has no effect. [`IceAgent::set_controlling`] does not make it
-    ///   controlling.
-    /// - With [`IceAgent::set_renomination`], nominations have numbers by the attribute NOMINATION (0xC001) of
-    ///   draft-thatcher-ice-renomination, which browsers call `renomination`. A controlling agent numbers the paths that it selects, and
-    ///   nominates each in the next [`IceAgent::handle_timeout`] call. A controlled or lite agent selects the valid pair with the greatest
-    ///   number. USE-CANDIDATE without a number counts as 1, once a number came since the last restart.
-    /// - An authentic request that is dropped without a response reports no source.
-    /// - The state is evaluated after nomination in each call, so that it says whether a path is selected.
-    /// - [`IceAgent::invalidate_candidate`] passes over candidates that were invalidated before.
+    /// That of this library: agents connect sooner, consent ends in time, and a path that dies is left for one that works. "What `Modern`
+    /// does" of docs/GUIDE.md lists its rules. What they change of a call or a setting is said there.
     Modern,
 }
 

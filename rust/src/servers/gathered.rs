@@ -24,7 +24,7 @@ pub enum Received<'a> {
 pub enum GatherEvent {
     /// A client found a candidate, and the agent has it: signal it to the peer.
     LocalCandidate(Candidate),
-    /// What a client reported, for a log: as that a server refuses the password.
+    /// What a client reported, for a log: as that a server rejects the password.
     Server(ServerEvent),
     /// No server is waited for any more: signal the end of candidates. Another one follows if sockets or servers are added.
     GatheringComplete,

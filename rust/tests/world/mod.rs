@@ -123,7 +123,7 @@ impl World {
         world
     }
 
-    /// The same, with one host candidate each, which was signaled to the other.
+    /// Two such agents with one host candidate each, which was signaled to the other.
     pub fn hosts() -> World {
         let mut world = World::new();
         world.add(0, host(LEFT));
