@@ -71,15 +71,15 @@ cond_cases false x y z e = inr (refl, e)
 pub record EndsBy (limit : ℕ) (c : Tlv) : Type 0 where
   pub ends : c.place + 4 + length c.value ≤ limit
 
-first_integrity-ends_behind : (skip place : ℕ) (bytes : List ℕ) (c : Tlv) (limit : ℕ) → place + length bytes ≤ limit → first_integrity (tlvs_after skip place bytes) ≡ Some c → EndsBy limit c
+first_integrity-ends_after : (skip place : ℕ) (bytes : List ℕ) (c : Tlv) (limit : ℕ) → place + length bytes ≤ limit → first_integrity (tlvs_after skip place bytes) ≡ Some c → EndsBy limit c
 unfolding tlvs_after first_integrity
-first_integrity-ends_behind (suc skip) place [] c limit h e = absurd (cc)
-first_integrity-ends_behind (suc skip) place (b ∷ bytes) c limit h e = first_integrity-ends_behind skip (suc place) bytes c limit (omega arith) e
-first_integrity-ends_behind zero place [] c limit h e = absurd (cc)
-first_integrity-ends_behind zero place (a0 ∷ []) c limit h e = absurd (cc)
-first_integrity-ends_behind zero place (a0 ∷ a1 ∷ []) c limit h e = absurd (cc)
-first_integrity-ends_behind zero place (a0 ∷ a1 ∷ a2 ∷ []) c limit h e = absurd (cc)
-first_integrity-ends_behind zero place (a0 ∷ a1 ∷ a2 ∷ a3 ∷ rest) c limit h e =
+first_integrity-ends_after (suc skip) place [] c limit h e = absurd (cc)
+first_integrity-ends_after (suc skip) place (b ∷ bytes) c limit h e = first_integrity-ends_after skip (suc place) bytes c limit (omega arith) e
+first_integrity-ends_after zero place [] c limit h e = absurd (cc)
+first_integrity-ends_after zero place (a0 ∷ []) c limit h e = absurd (cc)
+first_integrity-ends_after zero place (a0 ∷ a1 ∷ []) c limit h e = absurd (cc)
+first_integrity-ends_after zero place (a0 ∷ a1 ∷ a2 ∷ []) c limit h e = absurd (cc)
+first_integrity-ends_after zero place (a0 ∷ a1 ∷ a2 ∷ a3 ∷ rest) c limit h e =
     let first : Tlv = tlv_at place (u16_of a0 a1) (u16_of a2 a3) rest in
     let others : List Tlv = cond (ltb (length rest) (u16_of a2 a3)) [] (tlvs_after (padded_len (u16_of a2 a3)) (place + 4) rest) in
     elim (cond_cases (is_integrity first) (Some first) (first_integrity others) (Some c) e) [
@@ -89,10 +89,10 @@ first_integrity-ends_behind zero place (a0 ∷ a1 ∷ a2 ∷ a3 ∷ rest) c limi
       | inr past ↦
           elim (cond_cases (ltb (length rest) (u16_of a2 a3)) [] (tlvs_after (padded_len (u16_of a2 a3)) (place + 4) rest) others refl) [
             | inl none ↦ absurd (let nothing : first_integrity others ≡ None = ap first_integrity (sym none.1) in cc (past.1, nothing))
-            | inr some ↦ first_integrity-ends_behind (padded_len (u16_of a2 a3)) (place + 4) rest c limit (omega arith) (ap first_integrity some.1 ∙ past.1)
+            | inr some ↦ first_integrity-ends_after (padded_len (u16_of a2 a3)) (place + 4) rest c limit (omega arith) (ap first_integrity some.1 ∙ past.1)
           ]
     ]
 
 -- the first integrity is within the body
 pub first_integrity-ends : (body : List ℕ) (c : Tlv) → first_integrity (tlvs_of body) ≡ Some c → EndsBy (length body) c
-first_integrity-ends body c e = first_integrity-ends_behind 0 0 body c (length body) (omega arith) e
+first_integrity-ends body c e = first_integrity-ends_after 0 0 body c (length body) (omega arith) e

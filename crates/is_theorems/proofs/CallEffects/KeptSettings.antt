@@ -43,8 +43,8 @@ module _ {H P : Type 0} where
         (λ _ l. made-of old new l.1)
         (λ _ l. made-of _ new l.1)
 
-  gives-up-same : (now : ℕ) (old new : AgentRecord H P) (path : Option Path) → RemovesExpired now old path new → Same old new
-  gives-up-same now old new path h = either (list_any (is_expired now old) old.pairs) h
+  expires-same : (now : ℕ) (old new : AgentRecord H P) (path : Option Path) → RemovesExpired now old path new → Same old new
+  expires-same now old new path h = either (list_any (is_expired now old) old.pairs) h
       (λ _ k. made-of _ new k.2 ∙ nominates-same (expired_gone now old) k.0 path k.1)
       (λ _ k. made-of _ new k.1)
 
@@ -138,7 +138,7 @@ module _ {H P : Type 0} where
 
     pub maintains : (now : ℕ) (old new : AgentRecord H P) (s t : Stream) (emitted : Emitted) → MaintainsPairs mac now old s emitted new t → Same (at_timeout now old) new
     maintains now old new s t emitted (first, second, issued, named, kept, nominating, giving, checking, is) =
-        checks now kept.remote_creds kept new s t issued checking ∙ (gives-up-same now named kept second giving ∙ nominates-same (path_left now (at_timeout now old)) named first nominating)
+        checks now kept.remote_creds kept new s t issued checking ∙ (expires-same now named kept second giving ∙ nominates-same (path_left now (at_timeout now old)) named first nominating)
 
     times-out : (now : ℕ) (request : Option RequestRecord) (old new : AgentRecord H P) (s t : Stream) (emitted : Emitted)
         → MatchOption request (MaintainsPairs mac now old s emitted new t) (λ q. ServesQueued mac q (at_request now old) s emitted new t) → Same old new

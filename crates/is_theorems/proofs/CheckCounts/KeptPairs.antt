@@ -269,8 +269,8 @@ module _ (floor clock : ℕ) (Q : PairRecord → Type 0) where
       where-kept true old new path h k = nominates-kept old new path h k
       where-kept false old new path h k = made-kept old new h.1 k
 
-      pub gives-up-kept : (now : ℕ) (old new : AgentRecord H P) (path : Option Path) → RemovesExpired now old path new → Leads old new
-      gives-up-kept now old new path h k = either (list_any (is_expired now old) old.pairs) h
+      pub expires-kept : (now : ℕ) (old new : AgentRecord H P) (path : Option Path) → RemovesExpired now old path new → Leads old new
+      expires-kept now old new path h k = either (list_any (is_expired now old) old.pairs) h
           (λ _ j. made-kept (evaluated now j.0) new j.2
           (nominates-kept (expired_gone now old) j.0 path j.1 (kept-filter old.next_number (λ p. not (is_expired now old p)) old.pairs k)))
           (λ _ j. made-kept (state_updated true now old) new j.1 k)

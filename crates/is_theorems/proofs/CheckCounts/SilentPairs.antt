@@ -20,13 +20,13 @@ use Rattle.is_theorems.proofs.CallEffects.FailedCallsAndNewAgents.{enrolment_kep
 use Rattle.is_theorems.proofs.CallEffects.PathAndTradeEffects.{path_theorem}
 use Rattle.is_theorems.proofs.CheckCounts.IssuedChecks.{timeout-timed}
 use Rattle.is_theorems.proofs.CheckCounts.Bounds.{Bound, Ends, IsPastRequest}
-use Rattle.is_theorems.proofs.CheckCounts.KeptPairs.{IsKept, IsOfSilent, forms-kept, gives-up-kept, kept-filter, kept-map, nominates-kept}
+use Rattle.is_theorems.proofs.CheckCounts.KeptPairs.{IsKept, IsOfSilent, forms-kept, expires-kept, kept-filter, kept-map, nominates-kept}
 use Rattle.is_theorems.proofs.CheckCounts.KeptPairs.{received-kept, reselects-kept, serves-kept, unless-kept}
 use Rattle.is_theorems.proofs.CheckCounts.LastTimes.{last-stays}
 use Rattle.is_theorems.proofs.CheckCounts.FollowedPairs.{IsOnSchedule, scheduled-at, later-on, of-silent}
 use Rattle.is_theorems.proofs.CheckCounts.PastTimes.{Watch}
 use Rattle.is_theorems.proofs.PathSelection.SelectedPairIsNominated.{IsNamed, names-next}
-use Rattle.is_theorems.proofs.PunctualTimeouts.UnchangedPacing.{Pace, gives-up-same, maintains as maintains-same, nominates-same}
+use Rattle.is_theorems.proofs.PunctualTimeouts.UnchangedPacing.{Pace, expires-same, maintains as maintains-same, nominates-same}
 use Rattle.is_theorems.proofs.RuleEffects.UnchangedSettings.{either}
 use Rattle.is_theorems.proofs.CheckCounts.SilentTimeouts.{no-case, is_poll, latest, left-possible, checks-on}
 use Rattle.is_theorems.proofs.RuleEffects.HastenedPairs.{only-due, Hastens}
@@ -176,18 +176,18 @@ module _ {H P : Type 0} where
               (kept-filter floor now (On now now) old.next_number (λ p. not (gives_way now (at_timeout now old) p)) old.pairs k))
 
           left : kept.timing ≡ named.timing
-          left = ap (λ (p : Pace). p.clock.timing) (gives-up-same now named kept second giving)
+          left = ap (λ (p : Pace). p.clock.timing) (expires-same now named kept second giving)
 
           kept_timing : kept.timing ≡ t
           kept_timing = left ∙ (ap (λ (p : Pace). p.clock.timing) (nominates-same (path_left now (at_timeout now old)) named first nominating) ∙ timing)
 
           at_kept : IsKept floor now (IsOnSchedule kept.timing bound o now now) kept.next_number kept.pairs
           at_kept = subst (λ (x : StunTiming). IsKept floor now (IsOnSchedule x bound o now now) kept.next_number kept.pairs) (sym kept_timing)
-              (gives-up-kept floor now (On now now) (rule now now) now named kept second giving at_named)
+              (expires-kept floor now (On now now) (rule now now) now named kept second giving at_named)
 
           possible : kept.lite ≡ false → (p : PairRecord) → Has kept.pairs p → is_possible now kept.timing p ≡ true
           possible full p has =
-              let named_full : named.lite ≡ false = sym (ap (λ (p : Pace). p.clock.lite) (gives-up-same now named kept second giving)) ∙ full in
+              let named_full : named.lite ≡ false = sym (ap (λ (p : Pace). p.clock.lite) (expires-same now named kept second giving)) ∙ full in
               ap (λ x. is_possible now x p) left ∙ left-possible now named kept second named_full giving p has
 
     times-out : (now clock : ℕ) (old new : AgentRecord H P) (s u : Stream) (e : Entry) → old.timing ≡ t → 0 < t.max_retransmits → now < MAX → latest old ≤ clock → clock ≤ now

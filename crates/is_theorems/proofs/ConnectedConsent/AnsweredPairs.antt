@@ -157,8 +157,8 @@ module _ {H P : Type 0} where
   where-firm true old new path h f = nominates-firm old new path h f
   where-firm false old new path h f = made-firm old new h.1 f
 
-  gives-up-firm : (now : ℕ) (old new : AgentRecord H P) (path : Option Path) → RemovesExpired now old path new → Keeps old new
-  gives-up-firm now old new path h f = either (list_any (is_expired now old) old.pairs) h
+  expires-firm : (now : ℕ) (old new : AgentRecord H P) (path : Option Path) → RemovesExpired now old path new → Keeps old new
+  expires-firm now old new path h f = either (list_any (is_expired now old) old.pairs) h
       (λ _ k. made-firm (evaluated now k.0) new k.2
       (nominates-firm (expired_gone now old) k.0 path k.1 (f.0, answered-filter (λ p. not (is_expired now old p)) old.pairs f.1)))
       (λ _ k. made-firm (state_updated true now old) new k.1 f)
@@ -194,7 +194,7 @@ module _ {H P : Type 0} where
   maintains-firm : (mac : H → List ℕ → List ℕ → List ℕ) (now : ℕ) (old new : AgentRecord H P) (s t : Stream) (emitted : Emitted) → MaintainsPairs mac now old s emitted new t → Keeps old new
   maintains-firm mac now old new s t emitted (first, second, issued, named, kept, nominating, giving, checking, is) f =
       check-firm mac now kept.remote_creds kept new s t issued checking
-      (gives-up-firm now named kept second giving (nominates-firm (path_left now (at_timeout now old)) named first nominating (
+      (expires-firm now named kept second giving (nominates-firm (path_left now (at_timeout now old)) named first nominating (
         f.0,
         answered-map (hastened (Hastens now (at_timeout now old)) now) (silent_gone now (at_timeout now old)).pairs
             (λ p a. by-hastened (λ x. IsAnswered x) (Hastens now (at_timeout now old)) now p (λ at. a) a)

@@ -108,14 +108,14 @@ module _ {H P : Type 0} where
         (let o = b connected in let f = change_at top.number (nominated_by_self old.controlling old.lite) in
         (f o.0, Has-mapped f old.pairs o.0 o.1, stays-able top.number old.controlling old.lite o.0 o.2))))
 
-  gives-up-backs : (now : ℕ) (old new : AgentRecord H P) (path : Option Path) → RemovesExpired now old path new → Backs old new
-  gives-up-backs now old new path h b = either (list_any (is_expired now old) old.pairs) h
+  expires-backs : (now : ℕ) (old new : AgentRecord H P) (path : Option Path) → RemovesExpired now old path new → Backs old new
+  expires-backs now old new path h b = either (list_any (is_expired now old) old.pairs) h
       (λ _ k. subst (λ (a : AgentRecord H P). IsBacked a) (sym k.2) (evaluated-backed now k.0))
       (λ _ k. same-backs (state_updated true now old) new k.1 (updated-backs now old b))
 
   -- with `Modern` the state is evaluated in any case
-  gives-up-settled : (now : ℕ) (old new : AgentRecord H P) (path : Option Path) → updates_late old ≡ true → RemovesExpired now old path new → IsBacked new
-  gives-up-settled now old new path on h = either (list_any (is_expired now old) old.pairs) h
+  expires-settled : (now : ℕ) (old new : AgentRecord H P) (path : Option Path) → updates_late old ≡ true → RemovesExpired now old path new → IsBacked new
+  expires-settled now old new path on h = either (list_any (is_expired now old) old.pairs) h
       (λ _ k. subst (λ (a : AgentRecord H P). IsBacked a) (sym k.2) (evaluated-backed now k.0))
       (λ _ k. subst (λ (a : AgentRecord H P). IsBacked a) (sym k.1) (λ connected.
       evaluated-backed now old (subst (λ (b : Bool). is_connected (if b then state_at now old else old.state) ≡ true) on connected)))
@@ -159,8 +159,8 @@ module _ {H P : Type 0} where
           by : (b : Bool) → updates_late old ≡ b → IsBacked kept
           by true is =
               let on = ap (λ (state : IceConnectionState). is_modern old.timing && not (same_state state New)) (state-is true is) ∙ is in
-              gives-up-settled now named kept second (settles-named (path_left now base) named first nominating ∙ on) giving
-          by false is = gives-up-backs now named kept second giving (nominates-backs (path_left now base) named first nominating (backed (is_modern old.timing) refl)) where
+              expires-settled now named kept second (settles-named (path_left now base) named first nominating ∙ on) giving
+          by false is = expires-backs now named kept second giving (nominates-backs (path_left now base) named first nominating (backed (is_modern old.timing) refl)) where
             -- with `Modern` the session has not begun
             unbegun : (state : IceConnectionState) (selected possible lite : Bool) → not (same_state state New) ≡ false → is_connected (next_state state selected possible lite) ≡ true → IsBacked (path_left now base)
             unbegun New selected possible lite h connected = absurd (no-case connected)

@@ -328,8 +328,8 @@ module _ {H P : Type 0} where
               (λ p. alike-akin to p (change_at top.number (nominated_by_self old.controlling old.lite) p) (at-alike top.number old.controlling old.lite p)),
         ))
 
-  pub gives-up-thins : (to now : ℕ) (old new : AgentRecord H P) (path : Option Path) → RemovesExpired now old path new → Thins to old new
-  gives-up-thins to now old new path h = either (list_any (is_expired now old) old.pairs) h
+  pub expires-thins : (to now : ℕ) (old new : AgentRecord H P) (path : Option Path) → RemovesExpired now old path new → Thins to old new
+  expires-thins to now old new path h = either (list_any (is_expired now old) old.pairs) h
       (λ _ k. (
       let a : Thins to old (expired_gone now old) = (refl, thinned-filter to (λ p. not (is_expired now old p)) old.pairs) in
       let b : Thins to (expired_gone now old) k.0 = nominates-thins to (expired_gone now old) k.0 path k.1 in
@@ -379,9 +379,9 @@ module _ {H P : Type 0} where
           at-alike top.number old.controlling old.lite p,
         ))
 
-  pub gives-up-has : (now : ℕ) (old new : AgentRecord H P) (path : Option Path) → old.lite ≡ false → RemovesExpired now old path new → (p : PairRecord) → Has old.pairs p
+  pub expires-has : (now : ℕ) (old new : AgentRecord H P) (path : Option Path) → old.lite ≡ false → RemovesExpired now old path new → (p : PairRecord) → Has old.pairs p
       → due.stays_answered (consent_of old.timing) now p ≡ true → nat_lt (unanswered_count p.checks) old.timing.max_retransmits ≡ true → (q : PairRecord) × Has new.pairs q × Alike p q
-  gives-up-has now old new path full h p has answered young = either (list_any (is_expired now old) old.pairs) h
+  expires-has now old new path full h p has answered young = either (list_any (is_expired now old) old.pairs) h
       (λ _ k. (
       let there : Has (expired_gone now old).pairs p = Has-kept (λ q. not (is_expired now old q)) old.pairs p has (stays-young old.lite now old.timing p full answered young) in
       let n = nominates-has (expired_gone now old) k.0 path k.1 p there in

@@ -8,7 +8,7 @@ use Rattle.is_theorems.proofs.Common.{nominates_at_once, None, not, Option, opti
 use Rattle.is_theorems.proofs.Common.{Some, Stream, StunTiming, subst, sym, true, ℕ}
 use Rattle.is_theorems.proofs.RuleEffects.UnchangedSettings.{either}
 use Rattle.is_theorems.proofs.RuleEffects.ChangedPairs.{Has-map}
-use Rattle.is_theorems.proofs.DuePairs.AfterNominationAndRemoval.{Base, consent-same, gives-up-thins, nominates-thins, names-thins, passed}
+use Rattle.is_theorems.proofs.DuePairs.AfterNominationAndRemoval.{Base, consent-same, expires-thins, nominates-thins, names-thins, passed}
 use Rattle.is_theorems.proofs.DuePairs.FirstDuePair.{next-check}
 use Rattle.is_theorems.proofs.BasicLemmas.PairsInTurn.{by-begins, sent-pairs, sent_at}
 
@@ -75,9 +75,9 @@ leaves-all ps q has = (q, has, record { number = refl; consented = refl; heard =
 module _ {H P : Type 0} where
   -- ---- removed pairs
 
-  gives-up-consents : (now : ℕ) (old new : AgentRecord H P) (path : Option Path) → old.lite ≡ false → RemovesExpired now old path new
+  expires-consents : (now : ℕ) (old new : AgentRecord H P) (path : Option Path) → old.lite ≡ false → RemovesExpired now old path new
       → (q : PairRecord) → Has new.pairs q → has_consent (consent_of old.timing) now q ≡ true
-  gives-up-consents now old new path full h = either (list_any (is_expired now old) old.pairs) h
+  expires-consents now old new path full h = either (list_any (is_expired now old) old.pairs) h
       (λ _ k q has.
       (let there : Has k.0.pairs q = subst (λ (a : AgentRecord H P). Has a.pairs q) k.2 has in
       let o = (nominates-thins 0 (expired_gone now old) k.0 path k.1).1.back q there in
@@ -121,7 +121,7 @@ module _ {H P : Type 0} where
         → (new.timing ≡ old.timing) × Leaves old.pairs new.pairs × HaveConsent now new
     maintains-consents now old new s t emitted full (first, second, issued, named, kept, nominating, giving, checking, is) =
         let a = names-thins now (at_timeout now old) named first nominating in
-        let b = gives-up-thins 0 now named kept second giving in
+        let b = expires-thins 0 now named kept second giving in
         let named_full : named.lite ≡ false = ap (λ (x : Base). x.lite) a.0 ∙ full in
         let kept_full : kept.lite ≡ false = ap (λ (x : Base). x.lite) b.0 ∙ named_full in
         let c = check-leaves now kept.remote_creds kept new s t issued kept_full checking in
@@ -133,5 +133,5 @@ module _ {H P : Type 0} where
               c.1,
           λ q has. (let o = c.1 q has in
               consent-same (consent_of new.timing) now o.0 q o.2.consented o.2.heard
-              ∙ (ap (λ (z : StunTiming). has_consent (consent_of z) now o.0) timing ∙ gives-up-consents now named kept second named_full giving o.0 o.1)),
+              ∙ (ap (λ (z : StunTiming). has_consent (consent_of z) now o.0) timing ∙ expires-consents now named kept second named_full giving o.0 o.1)),
         )

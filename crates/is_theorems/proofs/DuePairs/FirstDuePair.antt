@@ -18,7 +18,7 @@ use Rattle.is_theorems.proofs.BasicLemmas.PairsInTurn.{by-begins, next-has, none
 use Rattle.is_theorems.proofs.BasicLemmas.PairsInTurn.{pairs-sent, sent_at}
 use Rattle.is_theorems.proofs.DuePairs.ChecksAhead.{Falls, falls-from, is-turn, no-more-due}
 use Rattle.is_theorems.proofs.DuePairs.AfterNominationAndRemoval.{Distinct, Akin, Thinned, is_fixed_by, Base, Thins, base_of as agent_base}
-use Rattle.is_theorems.proofs.DuePairs.AfterNominationAndRemoval.{turns-by, thins-on, names-thins, gives-up-thins}
+use Rattle.is_theorems.proofs.DuePairs.AfterNominationAndRemoval.{turns-by, thins-on, names-thins, expires-thins}
 
 -- ---- pairs
 
@@ -248,7 +248,7 @@ module _ {H P : Type 0} where
         → MaintainsPairs mac now old s emitted new t → (agent_base new ≡ record (agent_base old) { last_time = Some now; ahead_turn = new.ahead_turn }) × Follows old.pairs new.pairs
     timeout-follows now old new s t emitted known full (first, second, issued, named, kept, nominating, giving, checking, is) =
         let a = names-thins now (at_timeout now old) named first nominating in
-        let b = gives-up-thins (due_next now) now named kept second giving in
+        let b = expires-thins (due_next now) now named kept second giving in
         let c = thins-on (due_next now) (at_timeout now old) named kept a b in
         let known_kept : is_some kept.remote_creds ≡ true = ap (λ (x : Base). is_some x.remote_creds) c.0 ∙ known in
         let full_kept : kept.lite ≡ false = ap (λ (x : Base). x.lite) c.0 ∙ full in
@@ -267,7 +267,7 @@ module _ {H P : Type 0} where
         → MaintainsPairs mac now old s emitted new t → Moved now by old emitted new p
     timeout-moves now by old new s t emitted known full distinct all from p has due (first, second, issued, named, kept, nominating, giving, checking, is) =
         let a = names-thins now (at_timeout now old) named first nominating in
-        let b = gives-up-thins (due_next now) now named kept second giving in
+        let b = expires-thins (due_next now) now named kept second giving in
         let c = thins-on (due_next now) (at_timeout now old) named kept a b in
         let known_kept : is_some kept.remote_creds ≡ true = ap (λ (x : Base). is_some x.remote_creds) c.0 ∙ known in
         let full_kept : kept.lite ≡ false = ap (λ (x : Base). x.lite) c.0 ∙ full in

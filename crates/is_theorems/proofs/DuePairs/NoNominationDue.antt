@@ -165,9 +165,9 @@ module _ {H P : Type 0} where
         let able = chosen-able old.controlling (followed old) (selection_of old) top chosen in
         absurd (and-left (is_valid top) (old.controlling || is_nominated top) (none top able.0) able.1)
 
-  pub gives-up-calmer : (now : ℕ) (old new : AgentRecord H P) (path : Option Path) → NoneValid old.pairs → RemovesExpired now old path new
+  pub expires-calmer : (now : ℕ) (old new : AgentRecord H P) (path : Option Path) → NoneValid old.pairs → RemovesExpired now old path new
       → Calmer old new × ((p : PairRecord) → Has new.pairs p → Has old.pairs p)
-  gives-up-calmer now old new path none h = either (list_any (is_expired now old) old.pairs) h
+  expires-calmer now old new path none h = either (list_any (is_expired now old) old.pairs) h
       (λ _ k. (
       let kept : k.0 ≡ expired_gone now old = nominates-nothing (expired_gone now old) k.0 path (λ p has. none p (Has-filter (λ q. not (is_expired now old q)) old.pairs p has)) k.1 in
       subst (λ (a : AgentRecord H P). Calmer old a × ((p : PairRecord) → Has a.pairs p → Has old.pairs p)) (sym (k.2 ∙ ap (λ (a : AgentRecord H P). evaluated now a) kept))
@@ -295,7 +295,7 @@ module _ {H P : Type 0} where
     maintains now old new s t emitted none (first, second, issued, named, kept, nominating, giving, checking, is) =
         let one : named ≡ at_timeout now old = nominates-nothing (at_timeout now old) named first none
         (subst (λ (a : AgentRecord H P). Nominates a first named) (none-valid-left now (at_timeout now old) none) nominating) in
-        let two = gives-up-calmer now (at_timeout now old) kept second none (subst (λ (a : AgentRecord H P). RemovesExpired now a second kept) one giving) in
+        let two = expires-calmer now (at_timeout now old) kept second none (subst (λ (a : AgentRecord H P). RemovesExpired now a second kept) one giving) in
         let three = checks now kept.remote_creds kept new s t issued checking in
         calmer-on old kept new (two.0.0, two.0.1, two.0.2) three
 
@@ -304,7 +304,7 @@ module _ {H P : Type 0} where
     none-at-check now old none quiet first second named kept nominating giving =
         let one : named ≡ at_timeout now old = nominates-nothing (at_timeout now old) named first none
         (subst (λ (a : AgentRecord H P). Nominates a first named) (none-valid-left now (at_timeout now old) none) nominating) in
-        let two = gives-up-calmer now (at_timeout now old) kept second none (subst (λ (a : AgentRecord H P). RemovesExpired now a second kept) one giving) in
+        let two = expires-calmer now (at_timeout now old) kept second none (subst (λ (a : AgentRecord H P). RemovesExpired now a second kept) one giving) in
         none-is-due (all_scheduled now kept) (quiet-by old (all_scheduled now kept) (two.0.0, two.0.1, two.0.2)
         (λ n named gone p has. (let o = Has-map (scheduled now kept.timing) kept.pairs p has in λ same. gone o.0 (two.1 o.0 o.1) (ap (λ (x : PairRecord). x.number) o.2 ∙ same))) quiet)
 

@@ -21,7 +21,7 @@ use Rattle.is_theorems.proofs.Common.{Takes, timeout_begun, triggered_time, true
 use Rattle.is_theorems.proofs.BasicLemmas.PairsInTurn.{none-to-send}
 use Rattle.is_theorems.proofs.CallEffects.AddedCandidates.{by_adding_local, by_adding_remote, by_waking}
 use Rattle.is_theorems.proofs.CallEffects.FailedCallsAndNewAgents.{mtu_kept, local_kept, enrolment_kept, storing_kept}
-use Rattle.is_theorems.proofs.DuePairs.AfterNominationAndRemoval.{Base, gives-up-thins, names-thins, thins-on}
+use Rattle.is_theorems.proofs.DuePairs.AfterNominationAndRemoval.{Base, expires-thins, names-thins, thins-on}
 use Rattle.is_theorems.proofs.DuePairs.ChecksAhead.{one-at-most}
 use Rattle.is_theorems.proofs.DuePairs.FirstDuePair.{next-check}
 use Rattle.is_theorems.proofs.DuePairs.NoNominationDue.{not-numbered}
@@ -253,7 +253,7 @@ module _ {H P : Type 0} where
         → (h : MaintainsPairs mac now old s emitted new t) → nominates_at_once (all_scheduled now h.4) ≡ true
         → (new.nomination_due ≡ false) × (numbers old ≡ true) × ((old.nomination_due ≡ true) ⊎ (selected emitted ≡ true))
     at-once-ends now old new s t emitted known full (first, second, issued, named, kept, nominating, giving, checking, is) due =
-        let c = thins-on (due_next now) (at_timeout now old) named kept (names-thins now (at_timeout now old) named first nominating) (gives-up-thins (due_next now) now named kept second giving) in
+        let c = thins-on (due_next now) (at_timeout now old) named kept (names-thins now (at_timeout now old) named first nominating) (expires-thins (due_next now) now named kept second giving) in
         let k = next-check mac now kept.remote_creds kept new s t issued (ap (λ (x : Base). is_some x.remote_creds) c.0 ∙ known) (ap (λ (x : Base). x.lite) c.0 ∙ full) checking in
         (ends k.0 k.1 k.2 k.3, numbered (numbers old) refl, was (old.nomination_due) refl) where
           d : Dues (selected emitted) old kept

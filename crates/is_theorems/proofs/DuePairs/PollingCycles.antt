@@ -225,16 +225,16 @@ module _ {H P : Type 0} where
     abbrev Reached : List (ℕ × Emitted) → AgentRecord H P → AgentRecord H P → PairRecord → Type 0
     Reached turns first last p = ((x : ℕ × Emitted) × Has turns x × ChecksOn first x.1 p) ⊎ IsGone p.number last.pairs
 
-    starves-not : (turns : List (ℕ × Emitted)) (first last : AgentRecord H P) (p : PairRecord) (at by : ℕ) → Fits at first → ChecksInTurn first → IsPaced first.timing → Has first.pairs p
+    not-starved : (turns : List (ℕ × Emitted)) (first last : AgentRecord H P) (p : PairRecord) (at by : ℕ) → Fits at first → ChecksInTurn first → IsPaced first.timing → Has first.pairs p
         → due_time_of at first.timing p ≤ by → ((x : ℕ × Emitted) → Has turns x → (by ≤ x.0) × (x.0 < MAX)) → Turns mac turns first last
         → calls_left (is_modern first.timing) first.ahead_turn (length (due_by by at first.timing first.pairs)) ≤ length turns + 1 → Reached turns first last p
-    starves-not [] first last p at by f in_turn paced has due timeouts is enough =
+    not-starved [] first last p at by f in_turn paced has due timeouts is enough =
         let some : 0 < length (due_by by at first.timing first.pairs) = some-pass (is_due_by by at first.timing) first.pairs p has (le-is (due_time_of at first.timing p) by due) in
         absurd (none-left-over (calls_left (is_modern first.timing) first.ahead_turn (length (due_by by at first.timing first.pairs)))
         (calls-some (is_modern first.timing) first.ahead_turn (length (due_by by at first.timing first.pairs)) some) enough) where
           none-left-over : (n : ℕ) → 2 ≤ n → n ≤ 0 + 1 → ⊥
           none-left-over n some enough = omega (arith, some, enough)
-    starves-not (x ∷ rest) first last p at by f in_turn paced has due timeouts (mid, turn, more) enough =
+    not-starved (x ∷ rest) first last p at by f in_turn paced has due timeouts (mid, turn, more) enough =
         let k = turn-fits first mid at x.0 x.1 f turn in
         let times_of_call = timeouts x (inl refl) in
         elim (turn-moves first mid at x.0 by x.1 f times_of_call.0 p has due turn) [
@@ -243,7 +243,7 @@ module _ {H P : Type 0} where
               (let one : o ≡ p = f.distinct o p there has same in
               inl (x, inl refl, subst (λ (y : PairRecord). ChecksOn first x.1 y) one out))
           | inr (o, there, out, inr (q, q_there, matches, checks, q_due, fewer)) ↦
-              onward matches (starves-not rest mid last q x.0 by k.0 (k.8 in_turn) (subst (λ (t : StunTiming). IsPaced t) (sym k.2) paced) q_there q_due (λ y has_y. timeouts y (inr has_y)) more
+              onward matches (not-starved rest mid last q x.0 by k.0 (k.8 in_turn) (subst (λ (t : StunTiming). IsPaced t) (sym k.2) paced) q_there q_due (λ y has_y. timeouts y (inr has_y)) more
               (one-call (calls_left (is_modern mid.timing) mid.ahead_turn (length (due_by by x.0 mid.timing mid.pairs)))
               (calls_left (is_modern first.timing) first.ahead_turn (length (due_by by at first.timing first.pairs))) (length rest)
               (subst (λ (r : Bool). calls_left r mid.ahead_turn (length (due_by by x.0 mid.timing mid.pairs)) + 1
@@ -378,9 +378,9 @@ module _ {H P : Type 0} where
           by true presses = pressed none presses
           by false calm = idle none calm
 
-    pub no-pair-starves : NoPairIsStarved P mac
-    no-pair-starves first last turns p at by sound packets last_is calm in_turn waits timeouts turning enough =
-        starves-not turns first last p at by
+    pub no-pair-starved : NoPairIsStarved P mac
+    no-pair-starved first last turns p at by sound packets last_is calm in_turn waits timeouts turning enough =
+        not-starved turns first last p at by
         (record {
           distinct = distinct-sound first sound;
           checking = waits.checking;

@@ -8,7 +8,7 @@ use Rattle.is_theorems.proofs.Common.{MayCheck, named-by, Nominates, nominates_a
 use Rattle.is_theorems.proofs.Common.{option_map_or, pair_selected, PairRecord, Path, path_left, path_of, refl, remains, RemovesExpired}
 use Rattle.is_theorems.proofs.Common.{selected_in, selection_of, state_updated, silent_gone, Some, Stream, StunTiming, subst, sym, true, ℕ}
 use Rattle.is_theorems.proofs.DuePairs.AfterNominationAndRemoval.{Base, Distinct, Thins, base_of, hastened-akin, nominates-thins, passed}
-use Rattle.is_theorems.proofs.DuePairs.AfterNominationAndRemoval.{gives-up-thins}
+use Rattle.is_theorems.proofs.DuePairs.AfterNominationAndRemoval.{expires-thins}
 use Rattle.is_theorems.proofs.BasicLemmas.PairsInTurn.{next-has, none-to-send}
 use Rattle.is_theorems.proofs.DuePairs.FirstDuePair.{check-follows, gone-follows, next-check}
 use Rattle.is_theorems.proofs.RuleEffects.ChangedPairs.{Has-map}
@@ -168,7 +168,7 @@ module _ {H P : Type 0} where
       left-gone : (p : PairRecord) → Has old.pairs p → gives_way now old p ≡ true → OfUse
       left-gone p has gives_p =
           let a = nominates-thins 0 (path_left now (at_timeout now old)) named first names in
-          let b = gives-up-thins 0 now named kept second gives in
+          let b = expires-thins 0 now named kept second gives in
           let base : base_of kept ≡ base_of (at_timeout now old) = b.0 ∙ a.0 in
           let gone : IsGone p.number kept.pairs = (λ q q_has number.
           (let n = b.1.back q q_has in let o = a.1.back n.0 n.1 in

@@ -14,7 +14,7 @@ use Rattle.is_theorems.proofs.CallEffects.PathAndTradeEffects.{path_theorem}
 use Rattle.is_theorems.proofs.RuleEffects.UnchangedSettings.{either}
 use Rattle.is_theorems.proofs.RuleEffects.ChangedPairs.{Has-map}
 use Rattle.is_theorems.proofs.RuleEffects.EarlierAndNewPairs.{Has-filter}
-use Rattle.is_theorems.proofs.DuePairs.AfterNominationAndRemoval.{Distinct, Base, base_of as agent_base, gives-up-has, answered-if}
+use Rattle.is_theorems.proofs.DuePairs.AfterNominationAndRemoval.{Distinct, Base, base_of as agent_base, expires-has, answered-if}
 use Rattle.is_theorems.proofs.DuePairs.AfterNominationAndRemoval.{answered_at}
 use Rattle.is_theorems.proofs.DuePairs.ChecksAhead.{calls_left, Falls, falls-from, calls-kept, calls-go-on, calls-some}
 use Rattle.is_theorems.proofs.DuePairs.FirstDuePair.{Follows, le-from, le-is, same-path, WaitsOn, NoneAtCheck, NoneAtOnce, next-check}
@@ -44,9 +44,9 @@ record Sifted (xs ys : List PairRecord) : Type 0 where
 module _ {H P : Type 0} where
   -- ---- nothing is nominated
 
-  gives-up-sifts : (now : ℕ) (old new : AgentRecord H P) (path : Option Path) → NoneValid old.pairs → RemovesExpired now old path new
+  expires-sifts : (now : ℕ) (old new : AgentRecord H P) (path : Option Path) → NoneValid old.pairs → RemovesExpired now old path new
       → (agent_base new ≡ agent_base old) × Sifted old.pairs new.pairs
-  gives-up-sifts now old new path none h = either (list_any (is_expired now old) old.pairs) h
+  expires-sifts now old new path none h = either (list_any (is_expired now old) old.pairs) h
       (λ _ k. (
       let same : k.0 ≡ expired_gone now old = nominates-nothing (expired_gone now old) k.0 path (λ p has. none p (Has-filter (λ q. not (is_expired now old q)) old.pairs p has)) k.1 in
       subst (λ (a : AgentRecord H P). (agent_base a ≡ agent_base old) × Sifted old.pairs a.pairs) (sym (k.2 ∙ ap (λ (a : AgentRecord H P). evaluated now a) same)) (
@@ -121,8 +121,8 @@ module _ {H P : Type 0} where
         let same : named ≡ at_timeout now old = nominates-nothing (at_timeout now old) named first none
         (subst (λ (a : AgentRecord H P). Nominates a first named) (none-valid-left now (at_timeout now old) none) nominating) in
         let gives : RemovesExpired now (at_timeout now old) second kept = subst (λ (a : AgentRecord H P). RemovesExpired now a second kept) same giving in
-        let g = gives-up-sifts now (at_timeout now old) kept second none gives in
-        let k = gives-up-has now (at_timeout now old) kept second full gives p has answered young in
+        let g = expires-sifts now (at_timeout now old) kept second none gives in
+        let k = expires-has now (at_timeout now old) kept second full gives p has answered young in
         let one : k.0 ≡ p = distinct k.0 p (g.1.sub k.0 k.1) has k.2.number in
         let timing : kept.timing ≡ old.timing = ap (λ (x : Base). x.timing) g.0 in
         let known_kept : is_some kept.remote_creds ≡ true = ap (λ (x : Base). is_some x.remote_creds) g.0 ∙ known in

@@ -17,7 +17,7 @@ use Rattle.is_theorems.proofs.RuleEffects.NominatedPairs.{SelectsPath, selects_p
 use Rattle.is_theorems.proofs.CallEffects.ServedRequests.{Has-mapped}
 use Rattle.is_theorems.proofs.DuePairs.AfterNominationAndRemoval.{kept_of, alike-kept, answered-on, Distinct, Alike, Base}
 use Rattle.is_theorems.proofs.DuePairs.AfterNominationAndRemoval.{base_of as agent_base, Has-kept, stays-young, thinned-filter, keeps-young}
-use Rattle.is_theorems.proofs.DuePairs.AfterNominationAndRemoval.{names-thins, gives-up-thins, nominates-has, leaves-thins}
+use Rattle.is_theorems.proofs.DuePairs.AfterNominationAndRemoval.{names-thins, expires-thins, nominates-has, leaves-thins}
 use Rattle.is_theorems.proofs.EarlierChecks.LeavingPaths.{as-left, ready-left, there-left}
 
 le-is : (n m : ℕ) → n ≤ m → nat_le n m ≡ true
@@ -153,7 +153,7 @@ module _ (now by : ℕ) (begun : by ≤ now) where
       timeout-goes old new s u emitted known full distinct p has answered young ready (first, second, issued, named, kept, nominating, giving, checking, is) =
           let left = leaves-thins now (at_timeout now old) in
           let a = names-thins now (at_timeout now old) named first nominating in
-          let b = gives-up-thins 0 now named kept second giving in
+          let b = expires-thins 0 now named kept second giving in
           let p_left = as-left now (at_timeout now old) p in
           let x = named-ready old.timing (path_left now (at_timeout now old)) named first nominating (left.1.distinct distinct) p_left
           (there-left now (at_timeout now old) p has (keeps-young now (at_timeout now old) p young)) (ready-left now (at_timeout now old) by old.timing p ready) in

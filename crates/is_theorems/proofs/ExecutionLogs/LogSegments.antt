@@ -183,8 +183,8 @@ module _ {H P : Type 0} where
 
     -- ---- polling cycles
 
-    pub asked-for : (old new : AgentRecord H P) (s t : Stream) (e : Entry) (deadline : ℕ) → e.answer ≡ NextTimeout (Some deadline) → Step mac answers old s PollTimeout e new t → PollsTimeout old (Some deadline) new
-    asked-for old new s t e deadline timed_out (emitted, shown, polls, drawn) =
+    pub asked-to : (old new : AgentRecord H P) (s t : Stream) (e : Entry) (deadline : ℕ) → e.answer ≡ NextTimeout (Some deadline) → Step mac answers old s PollTimeout e new t → PollsTimeout old (Some deadline) new
+    asked-to old new s t e deadline timed_out (emitted, shown, polls, drawn) =
         subst (λ (o : Option ℕ). PollsTimeout old o new) (deadline-is emitted (Some deadline) (sym (ap (λ (x : Entry). x.answer) shown) ∙ timed_out)) polls
 
     pub passed : (old new : AgentRecord H P) (s t : Stream) (now : ℕ) (e : Entry) → e.answer ≡ Done → Step mac answers old s (HandleTimeout now) e new t → TimesOut mac now old s (Ok tt) e.emitted new t
@@ -227,7 +227,7 @@ module _ {H P : Type 0} where
 
           timed_out : (old mid : AgentRecord H P) (v u : Stream) → RunsOn mac answers before start part.at [] old v → Step mac answers old v asked.call asked.entry mid u → TimedOut start deadline mid
           timed_out old mid v u (same, drawn) step =
-              let polled = asked-for old mid v u asked.entry deadline turn.timed_out (subst (λ (c : Call P). Step mac answers old v c asked.entry mid u) turn.asks step) in
+              let polled = asked-to old mid v u asked.entry deadline turn.timed_out (subst (λ (c : Call P). Step mac answers old v c asked.entry mid u) turn.asks step) in
               (start.events, subst (λ (a : AgentRecord H P). PollsTimeout a (Some deadline) mid) same polled)
 
           of_use : RunsOn mac answers before start part.at (timeout ∷ (polls ++ asked ∷ [])) last part.following → IsOfUse start timeout.entry.emitted last

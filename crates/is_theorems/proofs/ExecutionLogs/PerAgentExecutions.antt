@@ -15,7 +15,7 @@ use Rattle.is_theorems.proofs.Common.{SetControlTieBreaker, SetIceLite, SetIniti
 use Rattle.is_theorems.proofs.Common.{SetLocalPreference, SetMaxCandidatePairs, SetMaxCandidates, SetMaxDiscovered, SetMaxStunRetransmits, SetMaxStunRto}
 use Rattle.is_theorems.proofs.Common.{SetMtu, SetProfile, SetRemoteCredentials, SetRenomination, SetTimingAdvance, SkipPairIds, Some, Step}
 use Rattle.is_theorems.proofs.Common.{Stream, subst, sym, timeout_begun, TimesOut, true, with_retransmits, ℕ}
-use Rattle.is_theorems.proofs.PollingRounds.AnsweredRoundsInLogs.{answered-rounds-announce}
+use Rattle.is_theorems.proofs.PollingRounds.AnsweredRoundsInLogs.{answered-rounds-select}
 use Rattle.is_theorems.proofs.RuleEffects.EarlierAndNewPairs.{Has-push}
 
 -- ---- a random source that returns these values, and continues as the other one
@@ -270,14 +270,14 @@ module _ {H P : Type 0} (mac : H → List ℕ → List ℕ → List ℕ) (answer
                   ((old, a.0, h.1.0, refl, tt, a.1), (role, h.1.1)) k.1,
             )
 
-  pub executions-announce : ExecutionsSelect mac answers
-  executions-announce first start last xs r rounds p by fresh execution role waits unanswered chain are enough =
+  pub executions-select : ExecutionsSelect mac answers
+  executions-select first start last xs r rounds p by fresh execution role waits unanswered chain are enough =
       let before : List (Logged P) = pushed [] xs in
       let all : List (LoggedRound P) = rounds_of before [] (r ∷ rounds) in
       let any : Stream = record { u32_after = λ cs. 0; u64_after = λ cs. 0; bytes_after = λ cs n. [] } in
       let held = holds_rounds (r ∷ rounds) before [] start start last (λ t. (t, ((refl, refl), role))) chain any in
       let led = leads_on first xs [] first start (λ t. (t, (refl, refl))) execution held.0 in
-      let said = answered-rounds-announce mac answers first led.0 (entries_of all ++ before) fresh before start last all p r.now by
+      let said = answered-rounds-select mac answers first led.0 (entries_of all ++ before) fresh before start last all p r.now by
       (record { rest = []; split = refl; at = held.0; led = led.1; following = any; run = held.1.0 })
       (begun before (round_of ([] ++ before) r) [] rounds) waits unanswered
       (are_rounds by (path_of start p) before [] (r ∷ rounds) (λ x none. absurd none) are) held.1.1

@@ -12,7 +12,7 @@ use Rattle.is_theorems.proofs.Common.{Option, pair_selected, PairRecord, Path, p
 use Rattle.is_theorems.proofs.Common.{RemovesExpired, selection_of, Some, Stream, StunTiming, subst, sym, true, turn_of, TurnsBefore, ℕ}
 use Rattle.is_theorems.proofs.BasicLemmas.PairsInTurn.{ahead-or-along, in-turn, next-has, none-is-due, pairs-sent, sent_at}
 use Rattle.is_theorems.proofs.CallEffects.ServedRequests.{Has-mapped}
-use Rattle.is_theorems.proofs.DuePairs.AfterNominationAndRemoval.{Base, Distinct, Has-kept, base_of as agent_base, gives-up-thins}
+use Rattle.is_theorems.proofs.DuePairs.AfterNominationAndRemoval.{Base, Distinct, Has-kept, base_of as agent_base, expires-thins}
 use Rattle.is_theorems.proofs.DuePairs.AfterNominationAndRemoval.{names-thins}
 use Rattle.is_theorems.proofs.DuePairs.FirstDuePair.{next-check}
 use Rattle.is_theorems.proofs.EarlierChecks.ChecksOfOtherPairs.{leads, Counts, Measure}
@@ -299,7 +299,7 @@ module _ {H P : Type 0} where
         → (nominates_at_once (all_scheduled now h.4) ≡ false) × (Checks old emitted.issued p ⊎ Turns by now old emitted.issued new p)
     timeout-takes old new s u emitted known full distinct some turns none p has due stays (first, second, issued, named, kept, nominating, giving, checking, is) =
         let a = names-thins now (at_timeout now old) named first nominating in
-        let b = gives-up-thins 0 now named kept second giving in
+        let b = expires-thins 0 now named kept second giving in
         let base : agent_base kept ≡ agent_base (at_timeout now old) = b.0 ∙ a.0 in
         let known_kept : is_some kept.remote_creds ≡ true = ap (λ (x : Base). is_some x.remote_creds) base ∙ known in
         let full_kept : kept.lite ≡ false = ap (λ (x : Base). x.lite) base ∙ full in

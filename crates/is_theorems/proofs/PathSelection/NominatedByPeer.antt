@@ -8,7 +8,7 @@ use Rattle.is_theorems.proofs.Common.{IsSound, Issued, issued_as, IsTopPath, kee
 use Rattle.is_theorems.proofs.Common.{PairRecord, Path, path_of, PathEffect, Point, ReceivePacket, refl, request_at, request_in}
 use Rattle.is_theorems.proofs.Common.{RequestRecord, Run, RunsOn, Stays, Step, Stream, subst, sym, true, UsesAddressesOf, ℕ}
 use Rattle.is_theorems.proofs.BasicLemmas.EqualAddresses.{both, same_address-sound}
-use Rattle.is_theorems.proofs.PathSelection.SelectedAfterResponse.{timeouts-announce}
+use Rattle.is_theorems.proofs.PathSelection.SelectedAfterResponse.{timeouts-select}
 use Rattle.is_theorems.proofs.CallEffects.PathAndTradeEffects.{path_theorem}
 use Rattle.is_theorems.proofs.ExecutionLogs.LogTheorems.{runs_sound}
 use Rattle.is_theorems.proofs.ExecutionLogs.LogSegments.{run-on}
@@ -133,7 +133,7 @@ module _ {H P : Type 0} where
                           | inr goes ↦ inr goes
                           | inl w ↦
                               (let one : w.0 ≡ n.0 = lone w.0 n.0 w.1 n.1 w.3 n.3 in
-                              inl (timeouts-announce mac answers first s log fresh (part ++ before) mid last timeout
+                              inl (timeouts-select mac answers first s log fresh (part ++ before) mid last timeout
                               (point first s log fresh path before start found.at found.led (timeout ∷ part) found.rest part mid last v found.following timeout found.split (inl refl) run number given step)
                               now comes is_done none n.0 n.1 (subst (λ (p : PairRecord). is_valid p ≡ true) one w.2) n.2))
                         ]

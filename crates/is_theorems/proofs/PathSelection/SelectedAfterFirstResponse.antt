@@ -7,7 +7,7 @@ use Rattle.is_theorems.proofs.CallEffects.PathAndTradeEffects.{path_theorem}
 use Rattle.is_theorems.proofs.ExecutionLogs.LogTheorems.{holds, runs_sound}
 use Rattle.is_theorems.proofs.PathSelection.SelectedPairIsNominated.{persists-with, was-named}
 use Rattle.is_theorems.proofs.DuePairs.AfterPackets.{NoneValid}
-use Rattle.is_theorems.proofs.PathSelection.SelectedAfterResponse.{eligible, point-of, answers-announce}
+use Rattle.is_theorems.proofs.PathSelection.SelectedAfterResponse.{eligible, point-of, answers-select}
 
 module _ {H P : Type 0} where
   -- if a pair is eligible, `selected_pair` names one
@@ -57,5 +57,5 @@ module _ {H P : Type 0} where
             within,
             (at, by, m, brings, success),
             named-now mid after x f sound none (named-valid before mid point.at point.led) (last_of x.entry.emitted.selected_paths) refl named.0 named.1 named.2,
-            answers-announce mac answers first s log fresh before mid after x point at by m brings success role,
+            answers-select mac answers first s log fresh before mid after x point at by m brings success role,
           )

@@ -23,8 +23,8 @@ module _ {H P : Type 0} where
   point-of old (ReceivePacket now path bytes) e at by m brings is = (at, by, m, brings, is)
   point-of old _ e at by m brings is = absurd brings
 
-  pub answers-announce : (mac : H → List ℕ → List ℕ → List ℕ) (answers : P → CandidateRecord → ℕ → ℕ → Type 0) → AnswersSelect mac answers
-  answers-announce mac answers first s log fresh before mid after x point at by m brings is controlling =
+  pub answers-select : (mac : H → List ℕ → List ℕ → List ℕ) (answers : P → CandidateRecord → ℕ → ℕ → Type 0) → AnswersSelect mac answers
+  answers-select mac answers first s log fresh before mid after x point at by m brings is controlling =
       let taken = takers_are_valid mac answers (path_theorem mac answers) first s log fresh before mid after x point at by m brings is in
       points_are_top mac answers (path_theorem mac answers) first s log fresh before mid after x point (point-of mid x.call x.entry at by m brings is) taken.0 taken.1
       (eligible after.controlling taken.0 controlling taken.3)
@@ -32,7 +32,7 @@ module _ {H P : Type 0} where
   pub timeout-point : (now : ℕ) (old : AgentRecord H P) (call : Call P) (e : Entry) → call ≡ HandleTimeout now → e.answer ≡ Done → request_at now old ≡ None → IsNominationPoint old call e
   timeout-point now old call e is done none = subst (λ (c : Call P). IsNominationPoint old c e) (sym is) (done, none)
 
-  pub timeouts-announce : (mac : H → List ℕ → List ℕ → List ℕ) (answers : P → CandidateRecord → ℕ → ℕ → Type 0) → TimeoutsSelect mac answers
-  timeouts-announce mac answers first s log fresh before mid after x point now is done none p has valid nominated =
+  pub timeouts-select : (mac : H → List ℕ → List ℕ → List ℕ) (answers : P → CandidateRecord → ℕ → ℕ → Type 0) → TimeoutsSelect mac answers
+  timeouts-select mac answers first s log fresh before mid after x point now is done none p has valid nominated =
       points_are_top mac answers (path_theorem mac answers) first s log fresh before mid after x point (timeout-point now mid x.call x.entry is done none) p has
       (nominated-eligible after.controlling p valid nominated)

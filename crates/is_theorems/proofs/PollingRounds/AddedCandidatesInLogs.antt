@@ -106,8 +106,8 @@ module _ {H P : Type 0} (mac : H → List ℕ → List ℕ → List ℕ) (answer
     quiet = due-none start (runs_sound mac answers (path_theorem mac answers) first start s u before fresh led) role waits.checking.full unanswered.calm;
   }
 
-  pub open-rounds-announce : AnsweredRoundsSelect {H = H} {P = P} mac answers → AnsweredOpenRoundsSelect mac answers
-  open-rounds-announce plain first s log fresh before start last rounds p at by part began waits unanswered passing answered role enough =
+  pub open-rounds-select : AnsweredRoundsSelect {H = H} {P = P} mac answers → AnsweredOpenRoundsSelect mac answers
+  open-rounds-select plain first s log fresh before start last rounds p at by part began waits unanswered passing answered role enough =
       elim enough [
         | inl (few, polls) ↦ inl (plain first s log fresh before start last rounds p at by part began waits unanswered
             (λ r has. (let k = passing r has in record {
@@ -146,8 +146,8 @@ module _ {H P : Type 0} (mac : H → List ℕ → List ℕ → List ℕ) (answer
 
   -- ---- from the first `handle_timeout` call on by which the pair is due
 
-  pub due-rounds-announce : AnsweredDueRoundsSelect mac answers
-  due-rounds-announce first s log fresh before start second last r later p by one others waits unanswered from comes done between passing answered role role_later enough =
+  pub due-rounds-select : AnsweredDueRoundsSelect mac answers
+  due-rounds-select first s log fresh before start second last r later p by one others waits unanswered from comes done between passing answered role role_later enough =
       elim (due-unless mac answers (Accepts mac answers) (IsQuiet mac answers) (no_agent mac answers) (no_call mac answers) (quiet-in-turn mac answers)
       (IsQuiet mac answers) (no_agent mac answers) (no_call mac answers) (quiet-in-turn mac answers) first s log fresh before start second last r later p by 0 one others
       (lined-unanswered r.now by start p waits unanswered)

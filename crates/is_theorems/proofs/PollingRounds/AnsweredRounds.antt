@@ -178,8 +178,8 @@ module _ {H P : Type 0} where
               (λ z has. timeouts z (inr has)) more (λ z id has out. echoes z id (inr has) out) (omega (arith, enough)))
         ]
 
-    pub answered-announce : AnsweredSelect mac answers
-    answered-announce first last r rounds p by sound role waits unanswered timeouts rounding echoes enough =
+    pub answered-select : AnsweredSelect mac answers
+    answered-select first last r rounds p by sound role waits unanswered timeouts rounding echoes enough =
         met-in by (calls_left (is_modern first.timing) first.ahead_turn (length (due_by by r.now first.timing first.pairs))) (path_of first p) 0 r rounds first last (begins mac answers r.now by first p sound role waits unanswered)
         (λ x has. (let late = (timeouts x has).0 in let early = (timeouts x has).1 in (omega (arith, late), omega (arith, early)))) rounding echoes
         (at-first (calls_left (is_modern first.timing) first.ahead_turn (length (due_by by r.now first.timing first.pairs))) (length (r ∷ rounds))

@@ -207,8 +207,8 @@ module _ {H P : Type 0} where
                         (run-on mac answers first start mid s u v before (r.timeout ∷ entries_of older) led (old, z, run_older, number, based, step)) back role_back)
                   ]
 
-    pub answered-rounds-announce : AnsweredRoundsSelect {H = H} {P = P} mac answers
-    answered-rounds-announce first s log fresh before start last rounds p at by part began waiting unanswered are role enough =
+    pub answered-rounds-select : AnsweredRoundsSelect {H = H} {P = P} mac answers
+    answered-rounds-select first s log fresh before start last rounds p at by part began waiting unanswered are role enough =
         let sound = runs_sound mac answers (path_theorem mac answers) first start s part.at before fresh part.led in
         let begin = begins mac answers at by start p sound
         (starts-controlling mac answers before start last part.at part.following (entries_of rounds) part.run role) waiting unanswered in

@@ -504,8 +504,8 @@ module _ {H P : Type 0} where
       ends,
     )
 
-    pub asked-rounds-announce : AskedRoundsSelect {H = H} {P = P} mac answers
-    asked-rounds-announce first s log fresh before start last rounds timeout now p by found f met asks comes done none only_pair =
+    pub asked-rounds-select : AskedRoundsSelect {H = H} {P = P} mac answers
+    asked-rounds-select first s log fresh before start last rounds timeout now p by found f met asks comes done none only_pair =
         elim (pairs-are-reached first s log fresh before start found.run.0 rounds p by part f) [
           | inl (r, id, has, out) ↦ selected_paths (in-entries (path_of start p) rounds r has (met r has id out))
           | inr (inl is) ↦ selected_paths is

@@ -13,7 +13,7 @@ use Rattle.is_theorems.proofs.Common.{SetLocalPreference, SetMaxCandidatePairs, 
 use Rattle.is_theorems.proofs.Common.{Some, Stream, subst, sym, true, ℕ}
 use Rattle.is_theorems.proofs.BasicLemmas.EqualAddresses.{both, same_address-sound, same_protocol-sound}
 use Rattle.is_theorems.proofs.ExecutionLogs.PerAgentExecutions.{entry_of, part_of, pushed, part_is, round_of, rounds_of, begun, as_many}
-use Rattle.is_theorems.proofs.ExecutionLogs.PerAgentExecutions.{either_has, recomputed, leads_on, executions-announce}
+use Rattle.is_theorems.proofs.ExecutionLogs.PerAgentExecutions.{either_has, recomputed, leads_on, executions-select}
 use Rattle.is_theorems.proofs.ExecutionLogs.LogSegments.{no-case}
 use Rattle.is_theorems.proofs.StoredPairs.TransactionsThatStay.{is-on}
 use Rattle.is_theorems.proofs.PollingRounds.CountedSelections.{selections-same}
@@ -245,7 +245,7 @@ module _ {H P : Type 0} (mac : H → List ℕ → List ℕ → List ℕ) (answer
       elim (some-check (path_of start p) (r ∷ rounds)) [
         | inl checks ↦ inl checks
         | inr none ↦
-            inr (executions-announce mac answers first start last xs r rounds p by fresh execution role waits unanswered chain
+            inr (executions-select mac answers first start last xs r rounds p by fresh execution role waits unanswered chain
             (λ x has. (let passed = are x has in
             record { done = passed.done; late = (let late = passed.late in omega (arith, late)); early = passed.early; between = passed.between; met = λ id out. absurd (none x id has out) })) (omega (arith, enough)))
       ]

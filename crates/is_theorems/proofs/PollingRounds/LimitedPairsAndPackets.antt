@@ -164,8 +164,8 @@ module _ {H P : Type 0} (mac : H → List ℕ → List ℕ → List ℕ) (answer
 
   -- ---- the theorem
 
-  pub none-starves : PairsAreReached {H = H} mac answers → NoneIsStarved {H = H} mac answers
-  none-starves reached first s log fresh most limit limited few before start last rounds p by part consents f =
+  pub none-starved : PairsAreReached {H = H} mac answers → NoneIsStarved {H = H} mac answers
+  none-starved reached first s log fresh most limit limited few before start last rounds p by part consents f =
       elim (reached first s log fresh before start last rounds p by part (record { at = f.at; began = f.began; line = f.line; passing = f.passing; lasting = f.lasting; enough = enough })) [
         | inl checks ↦ inl checks
         | inr (inl answered) ↦ inr answered

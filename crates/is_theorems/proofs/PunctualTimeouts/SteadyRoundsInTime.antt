@@ -326,8 +326,8 @@ module _ {H P : Type 0} (mac : H → List ℕ → List ℕ → List ℕ) (answer
       in-time (inl enough) = from-many (omega (arith, enough))
       in-time (inr (x, has, late)) = by-count (nat_lt (length k.later) many) refl (x, has, omega (arith, late))
 
-  pub none-starves-in-time : PairsAreReachedInTime {H = H} {P = P} mac answers → RoundsComeInTime {H = H} {P = P} mac answers → NoneIsStarvedInTime {H = H} {P = P} mac answers
-  none-starves-in-time reach come first s log fresh most limit limited few k p by pace delay many f =
+  pub none-starved-in-time : PairsAreReachedInTime {H = H} {P = P} mac answers → RoundsComeInTime {H = H} {P = P} mac answers → NoneIsStarvedInTime {H = H} {P = P} mac answers
+  none-starved-in-time reach come first s log fresh most limit limited few k p by pace delay many f =
       elim (in-time reach first s log fresh most limit limited few k p by pace delay many f come (elim f.long [
         | inl enough ↦ inl (omega (arith, enough))
         | inr (x, has, late) ↦ inr (x, has, omega (arith, late))

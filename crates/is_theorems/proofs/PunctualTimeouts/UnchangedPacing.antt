@@ -72,8 +72,8 @@ module _ {H P : Type 0} where
         (λ _ l. made-of old new l.1)
         (λ _ l. made-of _ new l.1)
 
-  pub gives-up-same : (now : ℕ) (old new : AgentRecord H P) (path : Option Path) → RemovesExpired now old path new → Same old new
-  gives-up-same now old new path h = either (list_any (is_expired now old) old.pairs) h
+  pub expires-same : (now : ℕ) (old new : AgentRecord H P) (path : Option Path) → RemovesExpired now old path new → Same old new
+  expires-same now old new path h = either (list_any (is_expired now old) old.pairs) h
       (λ _ k. made-of _ new k.2 ∙ nominates-same (expired_gone now old) k.0 path k.1)
       (λ _ k. made-of _ new k.1)
 
@@ -170,7 +170,7 @@ module _ {H P : Type 0} where
 
     pub maintains : (now : ℕ) (old new : AgentRecord H P) (s t : Stream) (emitted : Emitted) → MaintainsPairs mac now old s emitted new t → Same (charged now emitted.issued (at_timeout now old)) new
     maintains now old new s t emitted (first, second, issued, named, kept, nominating, giving, checking, is) =
-        let stays = gives-up-same now named kept second giving ∙ nominates-same (path_left now (at_timeout now old)) named first nominating in
+        let stays = expires-same now named kept second giving ∙ nominates-same (path_left now (at_timeout now old)) named first nominating in
         checks now kept.remote_creds kept new s t issued checking ∙ (ap (λ p. paid now issued p) stays
         ∙ issues now issued emitted.issued (at_timeout now old) (ap (λ (x : Emitted). x.issued) is))
 

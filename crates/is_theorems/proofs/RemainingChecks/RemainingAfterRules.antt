@@ -260,8 +260,8 @@ module _ {H P : Type 0} where
           rises-changed (hastened (Hastens now a) now) (λ p. by-hastened (λ x. x.number ≡ p.number) (Hastens now a) now p (λ at. refl) refl) (silent_gone now a).pairs
           ∙ rises-filter (λ p. not (gives_way now a p)) a.pairs rising
 
-      gives-up : (now : ℕ) (old new : AgentRecord H P) (path : Option Path) → old.lite ≡ false → old.timing.max_retransmits ≡ m → HaveConsent now old → RemovesExpired now old path new → Spends 0 old new × (rises old.pairs ≡ true → rises new.pairs ≡ true)
-      gives-up now old new path full same_most consents h = either (list_any (is_expired now old) old.pairs) h
+      expires-pairs : (now : ℕ) (old new : AgentRecord H P) (path : Option Path) → old.lite ≡ false → old.timing.max_retransmits ≡ m → HaveConsent now old → RemovesExpired now old path new → Spends 0 old new × (rises old.pairs ≡ true → rises new.pairs ≡ true)
+      expires-pairs now old new path full same_most consents h = either (list_any (is_expired now old) old.pairs) h
           (λ _ k. (
           let gone : unspents m old.pairs ≤ unspents m (expired_gone now old).pairs =
           unspents-filter m (λ p. not (is_expired now old p)) old.pairs
@@ -304,7 +304,7 @@ module _ {H P : Type 0} where
           (nominates-spends (path_left now (at_timeout now old)) named first nominating) in
           let named_full : named.lite ≡ false = ap (λ (x : Held). x.lite) a.0 ∙ full in
           let named_most : named.timing.max_retransmits ≡ m = ap (λ (x : Held). x.timing.max_retransmits) a.0 ∙ same_most in
-          let b = gives-up now named kept second named_full named_most (consents-named (names-thins now (at_timeout now old) named first nominating)) giving in
+          let b = expires-pairs now named kept second named_full named_most (consents-named (names-thins now (at_timeout now old) named first nominating)) giving in
           let kept_rising = b.1 (nominates-rises (path_left now (at_timeout now old)) named first nominating ∙ leaves-rises now (at_timeout now old) rising) in
           let c = check now kept.remote_creds kept new s t issued (ap (λ (x : Held). x.lite) b.0.0 ∙ named_full) kept_rising checking in
           let all = spends-on 0 1 (at_timeout now old) kept new (spends-on 0 0 (at_timeout now old) named kept a b.0) c in

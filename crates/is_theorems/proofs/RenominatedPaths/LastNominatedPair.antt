@@ -83,8 +83,8 @@ module _ {H P : Type 0} where
   where-last true old new path h = nominates-last old new path h
   where-last false old new path h = ap (λ (a : AgentRecord H P). a.last_nominated) h.1
 
-  gives-up-last : (now : ℕ) (old new : AgentRecord H P) (path : Option Path) → RemovesExpired now old path new → new.last_nominated ≡ old.last_nominated
-  gives-up-last now old new path h = either (list_any (is_expired now old) old.pairs) h
+  expires-last : (now : ℕ) (old new : AgentRecord H P) (path : Option Path) → RemovesExpired now old path new → new.last_nominated ≡ old.last_nominated
+  expires-last now old new path h = either (list_any (is_expired now old) old.pairs) h
       (λ _ k. ap (λ (a : AgentRecord H P). a.last_nominated) k.2 ∙ nominates-last (expired_gone now old) k.0 path k.1)
       (λ _ k. ap (λ (a : AgentRecord H P). a.last_nominated) k.1)
 
@@ -102,7 +102,7 @@ module _ {H P : Type 0} where
       → new.last_nominated ≡ old.last_nominated
   maintains-last mac now old new s t emitted (first, second, issued, named, kept, nominating, giving, checking, is) =
       check-last mac now kept.remote_creds kept new s t issued checking
-      ∙ (gives-up-last now named kept second giving ∙ nominates-last (path_left now (at_timeout now old)) named first nominating)
+      ∙ (expires-last now named kept second giving ∙ nominates-last (path_left now (at_timeout now old)) named first nominating)
 
   success-last : (now : ℕ) (old new : AgentRecord H P) (via : Path) (m : Message) (emitted : Emitted) → HandlesSuccess now old via m emitted new → new.last_nominated ≡ old.last_nominated
   success-last now old new via m emitted (recorded, (place, p, after, found, on, takes, made), (path, named, nominating, is, concluded)) =

@@ -175,9 +175,9 @@ module _ {H P : Type 0} where
   keep-reselects loses old new path h =
       by-reselecting (λ (a : AgentRecord H P). Keeps old.pairs a.pairs) loses old new path h (λ n asks k. k) (λ mid nominates. keep-nominates old mid path nominates)
 
-  gives-up-leaves : (now : ℕ) (old new : AgentRecord H P) (path : Option Path) → RemovesExpired now old path new → (p : PairRecord) → Has old.pairs p
+  expires-leaves : (now : ℕ) (old new : AgentRecord H P) (path : Option Path) → RemovesExpired now old path new → (p : PairRecord) → Has old.pairs p
       → Persists p.number (is_asked p) new.pairs ⊎ (is_expired now old p ≡ true)
-  gives-up-leaves now old new path h p has = either (list_any (is_expired now old) old.pairs) h
+  expires-leaves now old new path h p has = either (list_any (is_expired now old) old.pairs) h
       (λ _ k. by (is_expired now old p) refl k)
       (λ _ k. inl (keep-as old (state_updated true now old) new (λ n asks x. x) k.1 p.number (is_asked p) (p, has, refl, λ on. on))) where
         by : (b : Bool) → is_expired now old p ≡ b → (mid : AgentRecord H P) × Nominates (expired_gone now old) path mid × (new ≡ evaluated now mid)
@@ -224,7 +224,7 @@ module _ {H P : Type 0} where
       by false is_so =
           let q : PairRecord = hastened (Hastens now old) now p in
           let n = nominates-leaves now (path_left now (at_timeout now old)) named first nominating q (left-has now (at_timeout now old) p has is_so) in
-          elim (gives-up-leaves now named kept second giving n.0 n.1) [
+          elim (expires-leaves now named kept second giving n.0 n.1) [
             | inl k ↦ inl (keep-check now kept.remote_creds kept new s t issued checking p.number (is_asked p) (moved kept.pairs n.0 (follows-on p q n.0 (hastened-follows (Hastens now old) now p) n.2) k))
             | inr gone ↦
                 inr (ap (λ e. e || false) (sym (hastened-expires (Hastens now old) now p old.lite old.timing) ∙ sym n.3 ∙ (sym (ap (λ (b : Base). due.is_pair_expired b.lite now b.timing n.0) base) ∙ gone)))

@@ -23,7 +23,7 @@ use Rattle.is_theorems.proofs.RuleEffects.NominatedPairs.{SelectsPath, selects_p
 use Rattle.is_theorems.proofs.BasicLemmas.PairsInTurn.{next-has, sent-number, sent-pairs, sent_at}
 use Rattle.is_theorems.proofs.CallEffects.ServedRequests.{Has-mapped}
 use Rattle.is_theorems.proofs.RuleEffects.SelectedPaths.{some_is}
-use Rattle.is_theorems.proofs.DuePairs.AfterNominationAndRemoval.{Base, base_of as agent_base, Has-kept, names-thins, gives-up-thins}
+use Rattle.is_theorems.proofs.DuePairs.AfterNominationAndRemoval.{Base, base_of as agent_base, Has-kept, names-thins, expires-thins}
 use Rattle.is_theorems.proofs.StoredPairs.StoredChecks.{number_same}
 use Rattle.is_theorems.proofs.RuleEffects.Reselection.{by-reselecting}
 use Rattle.is_theorems.proofs.RuleEffects.TriggeredPairs.{triggered_by, by_trigger}
@@ -181,9 +181,9 @@ module _ {H P : Type 0} where
       by-reselecting (λ (a : AgentRecord H P). Keeps old.pairs a.pairs) loses old new path h (keeps-self old.pairs)
       (λ mid nominates. keep-nominates old mid path nominates)
 
-  gives-up-leaves : (now : ℕ) (old new : AgentRecord H P) (path : Option Path) → RemovesExpired now old path new → (p : PairRecord) → Has old.pairs p
+  expires-leaves : (now : ℕ) (old new : AgentRecord H P) (path : Option Path) → RemovesExpired now old path new → (p : PairRecord) → Has old.pairs p
       → Persists p new.pairs ⊎ (is_expired now old p ≡ true)
-  gives-up-leaves now old new path h p has = either (list_any (is_expired now old) old.pairs) h
+  expires-leaves now old new path h p has = either (list_any (is_expired now old) old.pairs) h
       (λ _ k. by (is_expired now old p) refl k)
       (λ _ k. inl (subst (λ (a : AgentRecord H P). Persists p a.pairs) (sym k.1) (keep-same old old refl p has))) where
         by : (b : Bool) → is_expired now old p ≡ b → (mid : AgentRecord H P) × Nominates (expired_gone now old) path mid × (new ≡ evaluated now mid)
@@ -287,7 +287,7 @@ module _ {H P : Type 0} where
       base = (names-thins now (at_timeout now old) named first nominating).0
 
       timing : kept.timing ≡ old.timing
-      timing = ap (λ (b : Base). b.timing) (gives-up-thins 0 now named kept second giving).0 ∙ ap (λ (b : Base). b.timing) base
+      timing = ap (λ (b : Base). b.timing) (expires-thins 0 now named kept second giving).0 ∙ ap (λ (b : Base). b.timing) base
 
       by : (b : Bool) → gives_way now old p ≡ b → Persists p new.pairs ⊎ (Sends old.timing.max_retransmits p emitted.issued new ⊎ ((is_expired now old p || b) ≡ true))
       by true is_so = inr (inr (or-true (is_expired now old p)))
@@ -295,7 +295,7 @@ module _ {H P : Type 0} where
           let q : PairRecord = hastened (Hastens now old) now p in
           let n = nominates-leaves now (path_left now (at_timeout now old)) named first nominating q (left-has now (at_timeout now old) p has is_so) in
           let through : Same p n.0 = same-on p q n.0 (hastened-same (Hastens now old) now p) n.2 in
-          elim (gives-up-leaves now named kept second giving n.0 n.1) [
+          elim (expires-leaves now named kept second giving n.0 n.1) [
             | inl k ↦
                 elim (checks now kept.remote_creds kept new s t issued checking k.0 k.1) [
                   | inl l ↦ inl (l.0, l.1, same-on p k.0 l.0 (same-on p n.0 k.0 through k.2) l.2)

@@ -1,5 +1,5 @@
-use Rattle.is_theorems.proofs.PollingRounds.AnsweredRounds.{answered-announce}
+use Rattle.is_theorems.proofs.PollingRounds.AnsweredRounds.{answered-select}
 use Rattle.is_theorems.proofs.rounds_to_select.answered_select.Goals as goal
 
 pub returns : goal.returns
-returns g c = answered-announce g.H.Sha1HmacProvider.mac g.P.LocalPreference.answers
+returns g c = answered-select g.H.Sha1HmacProvider.mac g.P.LocalPreference.answers
