@@ -9,6 +9,5 @@ pub mod SelectedAgain
 pub mod LiveCandidates
 pub mod PairCounts
 pub mod RequestsWithoutResponse
-pub mod SenderPlaces
 pub mod StepsOfServing
 pub mod TimesWithinCredit

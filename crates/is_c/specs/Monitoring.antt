@@ -1,5 +1,5 @@
 -- What C asks of the monitor: the path for media, silence, and packets that it could not send.
-use Rattle.std.specs.Prelude.{◌≡◌, ℕ, List, length, Option, Some, None, MatchOption, slice_get, ℤ}
+use Rattle.std.specs.Prelude.{◌≡◌, ℕ, length, Option, Some, None, MatchOption, slice_get, ℤ}
 use Rattle.is_rules.specs.declared.emitted.Path.{Path}
 use Rattle.is_monitor.specs.declared.failures.FailedSend.{FailedSend as Failure}
 use Rattle.is_monitor.specs.Media.{FindsMediaPath, takes_media_from}

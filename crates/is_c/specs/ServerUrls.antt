@@ -1,5 +1,5 @@
 -- The URLs of servers, as C reads them.
-use Rattle.std.specs.Prelude.{◌≡◌, ◌⊎◌, ℕ, Bool, true, false, List, length, Option, Some, None, if◌then◌else◌, ℤ}
+use Rattle.std.specs.Prelude.{◌≡◌, ◌⊎◌, ℕ, Bool, List, length, Option, Some, None, if◌then◌else◌, ℤ}
 use Rattle.std.specs.Str.{IsUtf8}
 use Rattle.is_servers.specs.declared.transport.Transport.{Transport}
 use Rattle.is_servers.specs.declared.transport.Transport.TheVariants.{Udp, Tcp}

@@ -1,12 +1,12 @@
 -- What the caller says to all clients of servers, the clock, and questions.
-use Rattle.std.specs.Prelude.{◌≡◌, ℕ, List, length, nat_lt, Option, Some, None, MatchBool, MatchOption, ℤ}
+use Rattle.std.specs.Prelude.{◌≡◌, ℕ, List, length, nat_lt, MatchBool, MatchOption, ℤ}
 use Rattle.std.specs.declared.net.socket_addr.SocketAddr.{SocketAddr}
 use Rattle.rand_core.specs.Stream.{Stream}
 use Rattle.rand_core.specs.Steps.{stream_of}
 use Rattle.is_servers.specs.declared.transport.Transport.{Transport}
 use Rattle.is_servers.specs.Calls.{TimesOut}
 use Rattle.is_servers.specs.Servers.{AsksPermissions, ProbesAll, ClosesAll, Loses, next_time, is_gathering}
-use Rattle.is_c.specs.ServersHeld.{Clients, Succeeds, Fails, With, at_time}
+use Rattle.is_c.specs.ServersHeld.{Clients, Succeeds, Fails, at_time}
 use Rattle.is_c_calls.specs.Codes.{OK, NOTHING, TOO_FEW_RANDOM_BYTES, found_code}
 use Rattle.is_c_calls.specs.Random.{given_steps}
 

@@ -1,5 +1,5 @@
 -- The line of an event of a client, for a log: what it says, and its text.
-use Rattle.std.specs.Prelude.{◌≡◌, ◌⊎◌, ℕ, ◌==◌, List, [], ◌++◌, codes, decimal, Option, Some, None, option_map, if◌then◌else◌, ℤ, pos, negsuc}
+use Rattle.std.specs.Prelude.{◌⊎◌, ℕ, ◌==◌, List, [], ◌++◌, codes, decimal, Option, Some, None, option_map, if◌then◌else◌, ℤ, pos, negsuc}
 use Rattle.std.specs.Option.{option_and_then}
 use Rattle.std.specs.declared.net.socket_addr.SocketAddr.{SocketAddr}
 use Rattle.std.specs.Net.Socket.{socket_ip}

@@ -3,7 +3,6 @@ use Rattle.std.specs.Prelude.{ℕ, ◌&&◌, Bool, true, false, not, nat_le, min
 use Rattle.std.specs.Option.{option_and_then, option_map_or}
 use Rattle.is_proto.specs.Times.{later}
 use Rattle.is_proto.specs.declared.Duration.{Duration}
-use Rattle.is_proto.specs.declared.Instant.{Instant}
 use Rattle.is_rules.specs.declared.emitted.Path.{Path}
 use Rattle.is_rules.specs.Agent.{AgentRecord}
 use Rattle.is_agent.specs.Media.{consent_time}

@@ -1,20 +1,11 @@
 //! How a `handle_timeout` call starts: the start event, early requests; the agent's part: `is_agent::timeout_start`.
 
-ghost use Rattle.std.specs.Prelude.{◌≡◌, ◌<◌, ◌≤◌, ◌+◌, slice_get};
+ghost use Rattle.std.specs.Prelude.{◌≡◌, ◌<◌, ◌≤◌, ◌+◌};
 ghost use Rattle.std.specs.VecDeque.{deque_len, deque_capacity};
-ghost use Rattle.std.specs.Option.{option_copied};
 ghost use Rattle.is_rules.specs.TimeoutStart.{with_start};
 
 use crate::event::IceAgentEvent;
-use crate::request::Waiting;
 use std::collections::VecDeque;
-
-/// The early request at an index of the queue.
-pub fn waiting_at(queue: &VecDeque<Waiting>, place: usize) -> Option<&Waiting>
-    ensures { option_copied result ≡ slice_get queue.now.items place }
-{
-    queue.get(place)
-}
 
 /// Emits the start event, if there is one.
 pub fn emit_start(events: &mut VecDeque<IceAgentEvent>, start: Option<IceAgentEvent>)

@@ -9,7 +9,7 @@ pub use Rattle.std.proofs.Math.Seq.{drop-append-add, get_or-append_seam, take-ap
 pub use Rattle.std.proofs.lemmas.Bool.{cases_lt, eq-eqb, eqb-true, lt-ltb, ltb-false, ltb-true}
 pub use Rattle.std.proofs.lemmas.Bool.Decides.{leb_tells, nat_tests}
 pub use Rattle.std.proofs.lemmas.List.{append-nil, drop-append-le, drop-map, get_or_append_left, length-append, length-drop, length-map}
-pub use Rattle.std.proofs.lemmas.List.{length-reverse, map-append, reverse-append, take-append-drop}
+pub use Rattle.std.proofs.lemmas.List.{map-append, reverse-append, take-append-drop}
 pub use Rattle.std.proofs.lemmas.List.Quantifiers.{position-Some}
 pub use Rattle.std.proofs.lemmas.List.Sums.{sum_by-append, sum_by-cons}
 pub use Rattle.std.proofs.lemmas.Option.{slice_get-get_or}
@@ -61,12 +61,12 @@ pub use Rattle.is_pair.proofs.DueTimes.CountOfDuePairs.{fewer-due, no-more, no-m
 pub use Rattle.is_pair.proofs.DueTimes.LaterAfterCheck.{checked-later}
 pub use Rattle.is_pair.proofs.DueTimes.ChecksLeft.{unanswered-most}
 pub use Rattle.is_pair.specs.Checks.{answered_at, Check, first_unanswered, has_id, is_answered, is_kept, IsCheckAt, last_check, last_checks}
-pub use Rattle.is_pair.specs.Checks.{last_round_trip, unanswered_count}
+pub use Rattle.is_pair.specs.Checks.{unanswered_count}
 pub use Rattle.is_pair.specs.Due.{scheduled, ASKED_TIME, call_time_of, call_time_with, computed_due_time, consent_end, delay_of, due_time_of}
-pub use Rattle.is_pair.specs.Due.{early_span, early_time, GoesBefore, has_checks_left, has_consent, has_few_unanswered, heard_until, hushed_delay}
+pub use Rattle.is_pair.specs.Due.{early_span, early_time, GoesBefore, has_consent, has_few_unanswered, heard_until, hushed_delay}
 pub use Rattle.is_pair.specs.Due.{HUSHED_INTERVAL, HUSHED_TIME, is_answered_lately, is_asked_first, is_due, is_early_on, is_heard}
 pub use Rattle.is_pair.specs.Due.{is_hushed, is_pair_expired, is_possible, is_repeated_early, is_silent, is_triggered, is_urgent, is_within}
-pub use Rattle.is_pair.specs.Due.{IsNextDue, LATENESS, moved_up, next_due_time, possible_until, repeated_delay, request_end, response_end}
+pub use Rattle.is_pair.specs.Due.{IsNextDue, moved_up, next_due_time, possible_until, repeated_delay, request_end, response_end}
 pub use Rattle.is_pair.specs.Due.{series_end, series_start, SHORT_INTERVAL, silent_count, stays_answered, triggered, usual_delay}
 pub use Rattle.is_pair.specs.Multiset.{change_at, change_pair, Evicts, EvictsInTurn, is_named_by, is_numbered, is_valid_at, IsGreatest}
 pub use Rattle.is_pair.specs.Multiset.{IsPairBetween, keeps_check, pair_numbered, passes_at, rises, without}
@@ -94,7 +94,7 @@ pub use Rattle.is_rules.proofs.PollsAndResponses.NextTimeout.{all-are-scheduled,
 pub use Rattle.is_rules.proofs.PollsAndResponses.NextTimeout.{timeouts-in-time}
 pub use Rattle.is_rules.proofs.ServedRequests.RulesInTurn.{AddsPairAndResponds, AddsUnknownSender, CountsAndServes, FindsOrAddsPair}
 pub use Rattle.is_rules.proofs.ServedRequests.RulesInTurn.{FindsSender, in_turn, RecordsAndResponds, resolved_in_turn, ResolvesRoleConflict}
-pub use Rattle.is_rules.proofs.PollsAndResponses.FormedAgain.{each-way, forgotten, MayForm}
+pub use Rattle.is_rules.proofs.PollsAndResponses.FormedAgain.{each-way, forgotten}
 pub use Rattle.is_rules.proofs.ServedRequests.RulesInTurn.{ResolvesRoleConflictBy}
 pub use Rattle.is_rules.specs.Accepting.{discovered_emitted, HandlesPacket, is_discovered, is_passed_over, IsAcceptedAs, IsAcceptedOn}
 pub use Rattle.is_rules.specs.Accepting.{IsAddressed, reports_none, Takes}

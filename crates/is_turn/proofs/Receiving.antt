@@ -380,9 +380,3 @@ pub responded_pin : (p : Option ℕ) (mac : List ℕ → List ℕ → List ℕ) 
     → IsRespondedBy p mac now m alternate s l c result new l_new c_new → KeepsPin c c_new
 responded_pin None mac now m alternate s l c result new l_new c_new step = keeps_pin mac now m alternate s c result new c_new step.0
 responded_pin (Some place) mac now m alternate s l c result new l_new c_new step = lease_pin mac now m place s l c result new l_new c_new step
-
--- ---- what is unchanged
-
-pub unchanged : (mac : List ℕ → List ℕ → List ℕ) (bytes : List ℕ) (s new : Session) (l : List Lease) (c : Option Credentials)
-    → new ≡ s → OnlyByGenuine mac bytes s l c new
-unchanged mac bytes s new l c h = λ some. inl (believes s s new (refl, refl, refl, refl) h)

@@ -4,7 +4,7 @@ use Rattle.std.specs.declared.net.socket_addr.SocketAddr.{SocketAddr}
 use Rattle.is_proto.specs.declared.proto.Instant.{Instant}
 use Rattle.is_turn.specs.declared.relay.Relay.{Relay}
 use Rattle.is_turn.specs.Leases.{same_address}
-use Rattle.is_turn.specs.OneRelay.{is_at, is_of, is_over, is_asking, has_packet, has_event, PermitsPeer, Probes, Closes, Loses}
+use Rattle.is_turn.specs.OneRelay.{is_at, is_of, is_over, is_asking, has_packet, PermitsPeer, Loses}
 use Rattle.is_turn.specs.Relays.{ChangesAt}
 
 -- ---- questions

@@ -40,10 +40,6 @@ pub Has-rear : {X : Type 0} (xs ys : List X) (x : X) → Has ys x → Has (xs ++
 Has-rear [] ys x h = h
 Has-rear (y ∷ xs) ys x h = inr (Has-rear xs ys x h)
 
-map-push : {X Y : Type 0} (f : X → Y) (xs : List X) (x : X) → map f (xs ++ x ∷ []) ≡ map f xs ++ f x ∷ []
-map-push f [] x = refl
-map-push f (y ∷ xs) x = ap (λ ys. f y ∷ ys) (map-push f xs x)
-
 passing : {X : Type 0} (test : X → Bool) (xs : List X) → list_any test xs ≡ true → (x : X) × Has xs x × (test x ≡ true)
 passing test [] h = absurd (let wrong : false ≡ true = h in cc)
 passing test (x ∷ xs) h = elim (test x) as (λ b. test x ≡ b → b || list_any test xs ≡ true → (y : _) × Has (x ∷ xs) y × (test y ≡ true)) [

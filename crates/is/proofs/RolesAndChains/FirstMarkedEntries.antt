@@ -4,8 +4,8 @@ use Rattle.is_rules.specs.declared.emitted.Issued as emitted
 use Rattle.is.specs.declared.traces.Mark.{Mark}
 use Rattle.is.specs.declared.traces.Mark.TheVariants.{Taken, Issued, Cleared}
 use Rattle.is.proofs.Common.{◌+◌, ◌<◌, ◌↔◌, ◌∙◌, ◌≡◌, ◌≤◌, ◌⊎◌, ap, arith, Bool, Class, false, HasAnswer, inl, inr, IsAt, IsFirst}
-use Rattle.is.proofs.Common.{IsFirstFrom, IsFirstTrace, IsMarked, Issues, IsTrace, IsTraceOf, IsTrue, length, List, None, NoneMarked}
-use Rattle.is.proofs.Common.{Option, option_map_or, other, Path, refl, SelectsPathAt, Side, slice_get, slice_get_within, Some, subst, suc}
+use Rattle.is.proofs.Common.{IsFirstFrom, IsFirstTrace, IsMarked, Issues, IsTrace, IsTraceOf, IsTrue, List, None, NoneMarked}
+use Rattle.is.proofs.Common.{Option, option_map_or, other, Path, refl, SelectsPathAt, Side, slice_get, Some, subst, suc}
 use Rattle.is.proofs.Common.{sym, Trace, TransId, true, WorldEntry, zero, ℕ}
 
 compared : (m n : ℕ) → (m < n) ⊎ ((m ≡ n) ⊎ (n < m))
@@ -48,9 +48,6 @@ none_more es mark from n e none found unmarked m low high at = elim (compared m 
     | inr more ↦ (let wrong : ⊥ = omega (arith, high, more) in wrong)
   ]
 ]
-
-pub past_end : (es : List WorldEntry) (n : ℕ) (Is : WorldEntry → Type 0) → length es ≤ n → ¬ IsAt es n Is
-past_end es n Is following at = (let within = slice_get_within es n at.0 at.1 in let wrong : ⊥ = omega (arith, following, within) in wrong)
 
 -- a marked entry is the first one, or follows it
 at_least : (es : List WorldEntry) (mark : Mark) (from first n : ℕ) → NoneMarked es mark from first → from ≤ n → IsAt es n (IsMarked mark) → first ≤ n

@@ -2,22 +2,18 @@
 use Rattle.std.proofs.Common.{if◌then◌else◌, ◌≡◌, ℕ, ◌+◌, ◌<◌, ◌++◌, ◌≤◌, nat_lt, Result, Ok, Err, IfOk, IfSome, arith, Bool, true, false, List, [], ◌∷◌, Option, Some, None, length, map, ap, refl, sym, subst, ◌∙◌}
 use Rattle.std.proofs.lemmas.List.{length-append}
 use Rattle.std.proofs.Math.ListN.{length-set}
-use Rattle.std.specs.Prelude.{slice_set, MatchBool}
-use Rattle.std.specs.List.{list_any, list_all}
+use Rattle.std.specs.Prelude.{slice_set}
+use Rattle.std.specs.List.{list_all}
 use Rattle.is_stun.specs.declared.timing.StunTiming.{StunTiming}
 use Rattle.is_candidate.specs.Candidates.{CandidateRecord}
 use Rattle.is_pair.specs.Multiset.{change_at, is_numbered, has_number, pair_numbered, put_pair, KeepsKeys, RecordsAnswer}
 use Rattle.is_pair.specs.Due.{scheduled, moved_up}
 use Rattle.is_pair.specs.Pairs.{PairRecord, checked, heard, heard_at, undue}
-use Rattle.is_rules.specs.declared.places.RemotePlace.TheVariants.{Known, Barred, Unknown, Vacant, Full}
 use Rattle.is_rules.specs.Answers.{joined_by}
 use Rattle.is_rules.specs.Due.{awaits_nomination}
 use Rattle.is_rules.specs.Leaving.{hastened}
 use Rattle.is_rules.specs.Remote.{stored, place_or_end}
 use Rattle.is_rules.specs.Kept.{is_placed, are_placed}
-use Rattle.is_rules.specs.Limit.{has_room, IsPlaceOf, IsVacancy}
-use Rattle.is_rules.specs.Places.{is_sender, place_by}
-use Rattle.is_rules.specs.Request.{RequestRecord}
 use Rattle.is_rules.proofs.PairLists.PairsInLists.{in-lists, in-is, placed-mapped, KeepsPlaces}
 use Rattle.is_agent.proofs.AgentParts.PairsByNumber.{both, find-Some, has-any}
 
@@ -119,16 +115,3 @@ placed-answered local remote n now id ps after (p, new, found, (place, c, at, is
           → p.remote < length remote → are_placed local remote (put_pair p ps) ≡ true
       placed-put local remote p ps all l r = all-kept (is_placed local remote) (change_at p.number (λ _. p))
           (λ x its. elim (is_numbered p.number x) as (λ b. is_placed local remote (if b then p else x) ≡ true) [ true ↦ in-is local remote p l r | false ↦ its ]) ps all
-
--- ---- the sender of a request
-
-pub known-within : (limit : Option ℕ) (remote : List CandidateRecord) (pairs : List PairRecord) (q : RequestRecord) (r : ℕ) → IsPlaceOf limit remote pairs q (Known r)
-    → r < length remote
-known-within limit remote pairs q r (Known k, (Some place, greatest, is), same) = let e : place ≡ r = cc in subst (λ n. n < length remote) e greatest.0
-known-within limit remote pairs q r (Known k, (None, none, is), same) =
-    (elim (list_any (is_sender q) remote) as (λ b. Known k ≡ place_by None b → r < length remote) [ true ↦ λ e. absurd (cc) | false ↦ λ e. absurd (cc) ]) is
-known-within limit remote pairs q r (Barred, is, same) = absurd (cc)
-known-within limit remote pairs q r (Unknown, is, room) =
-    (elim (has_room limit remote) as (λ b. MatchBool b (Known r ≡ Unknown) (IsVacancy remote pairs (Known r)) → r < length remote) [ true ↦ λ e. absurd (cc) | false ↦ λ none. absurd none ]) room
-known-within limit remote pairs q r (Vacant k, is, none) = absurd none
-known-within limit remote pairs q r (Full, is, none) = absurd none

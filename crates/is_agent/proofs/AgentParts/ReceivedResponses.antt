@@ -49,13 +49,7 @@ pub role-expired : {H P : Type 0} (old new : AgentRecord H P) (m : Message) (o :
 role-expired old new m None present keeps w is becomes = w
 role-expired old new m (Some p) present keeps w is becomes = role-left old new m p present keeps w is becomes
 
--- the code of an error response is kept, if there is one
-pub code-kept : {H P : Type 0} (old new : AgentRecord H P) (m : Message) (number code : ℕ) (reason : List ℕ) (pairs : List PairRecord) → Some (code, reason) ≡ m.attributes.error_code
-    → pairs ≡ change_pair number (with_error code) old.pairs → new ≡ record old { pairs = pairs } → new ≡ error_noted number m old
-code-kept old new m number code reason pairs is kept made =
-    made ∙ ap (λ (ps : List PairRecord). record old { pairs = ps })
-    (kept ∙ ap (λ (o : Option (ℕ × List ℕ)). change_pair number (λ (p : PairRecord). option_map_or (λ (e : ℕ × List ℕ). with_error e.0 p) o p) old.pairs) is)
-
+-- an error response without a code
 pub no-code-kept : {H P : Type 0} (old : AgentRecord H P) (m : Message) (number : ℕ) → None ≡ m.attributes.error_code → old ≡ error_noted number m old
 no-code-kept old m number is =
     ap (λ (ps : List PairRecord). record old { pairs = ps })

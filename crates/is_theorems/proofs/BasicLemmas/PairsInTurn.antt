@@ -88,9 +88,6 @@ module _ {H P : Type 0} (now : ℕ) (a : AgentRecord H P) where
   none-ahead (None, along, none) = none
   none-ahead (Some q, along, same) = absurd (let no : None ≡ Some q = same in cc)
 
-  abbrev Turn : Option PairRecord → Type 0
-  Turn next = IsNextInTurn now a next
-
   -- a controlled agent, and one without numbers, nominates no path at once
   pub none-at-once : (a.controlling && numbers a) ≡ false → nominates_at_once a ≡ false
   none-at-once h = both-facts a.controlling (not a.lite) (numbers a) a.nomination_due (is_some (pair_selected a.selected_pair a.pairs)) h

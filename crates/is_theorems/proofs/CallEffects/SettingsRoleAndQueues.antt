@@ -28,10 +28,6 @@ use Rattle.is_theorems.proofs.RuleEffects.UnchangedSettings.{Frame, either, fram
 use Rattle.is_theorems.proofs.RuleEffects.UnchangedSettings.{serves, serves_role, handles_success, removes_expired}
 use Rattle.is_theorems.proofs.CallEffects.AddedCandidates.{by_adding_local, by_adding_remote, by_waking}
 
-choose : (b : Bool) {X R : Type 0} (P : X → Type 0) (x y : X) → P (if b then x else y) → (P x → R) → (P y → R) → R
-choose true P x y h f g = f h
-choose false P x y h f g = g h
-
 pub left_after : (now : ℕ) (t : StunTiming) (remote : Option IceCreds) (queue : List RequestRecord)
     → (gone : List RequestRecord) × (queue ≡ gone ++ queue_left now t remote queue)
 left_after now t None queue = ([], refl)

@@ -248,10 +248,6 @@ module _ {H P : Type 0} (mac : H → List ℕ → List ℕ → List ℕ) (answer
             ((old, a.0, (refl, refl), refl, based, a.1), (along.0, role)) k.1,
       )
 
-  ends : (before : List (Logged P)) (part : List (Logged P)) (start last : AgentRecord H P) (s t : Stream) → Held before start s part last t → last.controlling ≡ true
-  ends before [] start last s t h = h.1
-  ends before (x ∷ part) start last s t h = h.1.0
-
   holds_rounds : (rounds : List (ExecutionRound P)) (before : List (Logged P)) (older : List (LoggedRound P)) (start old new : AgentRecord H P) → Holds before start (entries_of older) old
       → ExecutionRounds mac answers rounds old new → Holds before start (entries_of (rounds_of before older rounds)) new
   holds_rounds [] before older start old new held is = subst (λ (a : AgentRecord H P). Holds before start (entries_of older) a) (sym is) held
