@@ -7,11 +7,13 @@ Only the first address of a host reaches the other one: as it is, or through a N
 and is lost with the probability `loss`. The STUN server at 203.0.113.1:3478 is near: it responds at once.
 
 It reads lines `valid USERNAME`, and prints the time.monotonic() at which the first success response to a check with this USERNAME came
-back to its sender, or `never`. From then on that side has a valid pair, on which media may go (RFC 8445, section 12.1).
+back to its sender, or `never`. From then on that side has a valid pair, on which media may go (RFC 8445, section 12.1). A response after
+eleven later checks on the same path does not count: our agent has forgotten its check.
 
 With `trace` it writes a line to FILE for each packet that is sent, lost, filtered by a NAT, or delivered: time.monotonic(), the side that
 sent it, what became of it, the source, the destination, the kind of STUN message, and N if it nominates.
 """
+import collections
 import heapq
 import os
 import random
@@ -32,6 +34,7 @@ REQUEST, SUCCESS, USERNAME = 0x0001, 0x0101, 0x0006  # RFC 8489
 MESSAGES = {REQUEST: "request", SUCCESS: "response", 0x0111: "error", 0x0011: "indication"}
 USE_CANDIDATE = b"\x00\x25\x00\x00"  # RFC 8445: the attribute that nominates
 OUTER = ("198.51.100.2", "198.51.100.6")
+PENDING = 11  # checks of a pair that our agent remembers: max_retransmits of the modern settings
 
 
 # ---- packets: IPv4 and UDP
@@ -120,7 +123,8 @@ class Distance:
     def __init__(self, devices, nats, settings):
         self.devices, self.nats, self.settings = devices, nats, settings
         self.waiting, self.serial = [], 0
-        self.asked, self.valid = {}, {}  # USERNAME by transaction ID; when the first response to a check with it came
+        self.asked, self.valid = {}, {}  # USERNAME and path by transaction ID; when the first response to a check with this USERNAME came
+        self.pending = collections.defaultdict(lambda: collections.deque(maxlen=PENDING))  # the last transaction IDs by USERNAME and path
         self.trace = open(settings["trace"], "a", buffering=1) if "trace" in settings else None
 
     def note(self, side, what, source, destination, payload):
@@ -156,7 +160,8 @@ class Distance:
             return
         message = stun_message(payload)
         if message and message[0] == REQUEST and message[2]:
-            self.asked[message[1]] = message[2]
+            self.asked[message[1]] = message[2], source, destination
+            self.pending[self.asked[message[1]]].append(message[1])
         is_lost = random.random() < self.settings["loss"]
         self.note(side, "lost" if is_lost else "sent", source, destination, payload)
         if is_lost:
@@ -172,8 +177,8 @@ class Distance:
         if inside is None:
             return
         message = stun_message(payload)
-        if message and message[0] == SUCCESS and message[1] in self.asked:
-            self.valid.setdefault(self.asked[message[1]], time.monotonic())
+        if message and message[0] == SUCCESS and message[1] in self.pending[self.asked.get(message[1])]:
+            self.valid.setdefault(self.asked[message[1]][0], time.monotonic())
         self.put(side, source, inside, payload)
 
     def deliver(self):

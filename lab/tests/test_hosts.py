@@ -4,7 +4,7 @@ import unittest
 
 from lab import hosts, plot
 from lab.clock import MILLISECOND
-from lab.hosts import GATHERED_MS, Cell, Found, cells, curves, filled, table
+from lab.hosts import DELAYS, GATHERED_MS, HOSTS, Cell, Found, cells, curves, filled, table
 from lab.session import Outcome, Session, SideOutcome
 
 
@@ -20,12 +20,20 @@ class Sessions(unittest.TestCase):
 
     def test_ten_hosts_connect_soon(self) -> None:
         # The second check, after 10 ms, is that of the server-reflexive candidates. The response comes after 50 ms, and brings A's next
-        # timeout forward to 5 ms after the last one. There A nominates the pair. B receives that 20 ms later, and selects at once. With
-        # 100 pairs or more checks are 5 ms apart, so all this comes after 5, 45, 50 and 70 ms.
+        # timeout forward to 5 ms after the last one. There A nominates the pair. B receives that 20 ms later, and selects at once.
         for count in (5, 10, 20):
             time = self.time(count, "modern")
             assert time is not None
             self.assertTrue(70 <= time < 75, (count, time))
+
+    def test_no_cell_without_loss_takes_17_ms_more_than_three_packets(self) -> None:
+        """A check, its response, and the check that nominates: the limit in docs/SESSIONS.md."""
+        for has_nat in (True, False):
+            for delay in DELAYS:
+                for count in HOSTS:
+                    first = Session(Cell(has_nat, delay, 0, count, "modern").scenario(), 0).run().first
+                    assert first is not None
+                    self.assertLess(first / MILLISECOND - GATHERED_MS, 3 * delay + 17, (has_nat, delay, count))
 
     def test_a_peer_that_starts_later(self) -> None:
         # A's check of the server-reflexive candidate opens its NAT. B receives it 20 ms later, and checks its pair in the next two

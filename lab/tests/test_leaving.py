@@ -1,5 +1,6 @@
 """Tests that agents with `Modern` leave a selected path that dies, if another one works, and only then: not in an outage of the whole
-network, under loss, or after a sleep. In `path_dies` A's cable fails at 8 s, and its mobile link works."""
+network, under loss, or after a sleep; and when media goes on after a candidate was invalidated. In `path_dies` A's cable fails at 8 s, and
+its mobile link works."""
 
 import unittest
 from collections.abc import Callable
@@ -8,8 +9,9 @@ from typing import Any
 
 from is_ice import NominatedSend
 from lab import scenario
-from lab.clock import BEGINNING, SECOND, nanoseconds
+from lab.clock import BEGINNING, MILLISECOND, SECOND, nanoseconds
 from lab.session import Session, Trace
+from lab.stun import message_of
 
 FAILS_S = 8
 NOTHING_FAILS = ("event=[]", "settle_s=60")
@@ -28,6 +30,10 @@ DUAL_STACK = (f'a.interface=[{{ name = "eth6", ip = "2001:db8:a::1", {WIRE} }}, 
               '{ name = "lte", ip = "10.64.0.10", network = "mobile", up = "mobile", down = "mobile" }]',
               f'b.interface=[{{ name = "eth6", ip = "2001:db8:b::1", {WIRE} }}, {{ name = "eth4", ip = "198.51.100.40", {WIRE} }}]',
               'nat=[{ name = "mobile carrier", inner = "mobile", outside = "203.0.113.3" }]')
+# Packets are lost only on A's links.
+CLEAN_B = ('b.interface=[{ name = "wifi", ip = "192.168.1.20", network = "home B", up = "clean", down = "clean" }]',
+           "link.clean.delay_ms=8", "link.clean.jitter_ms=4")
+MOBILE, OUTSIDE = "10.64.0.10", "203.0.113.3"  # A's second address, and that of its NAT
 # The other path is the quicker one.
 QUICKER = ("link.home.delay_ms=60", "link.mobile.delay_ms=8")
 
@@ -43,6 +49,31 @@ def play(seed: int, changes: tuple[str, ...], happens: Callable[[Session, float]
     session.run()
     late = [(side, (at - BEGINNING) / SECOND - since) for at, side, event in trace.events if isinstance(event, NominatedSend)]
     return {side: [after for own, after in late if own == side and after > 0] for side in "ab"}
+
+
+def loses(part: float) -> tuple[str, ...]:
+    """This part of the packets is lost on each link."""
+    return f"link.home.loss={part}", f"link.mobile.loss={part}"
+
+
+def with_media(name: str, seed: int, changes: tuple[str, ...], since: float) -> dict[str, float]:
+    """Plays a session in which A moves to its second address at this time. Returns how much later, in seconds, each side sends media on a
+    path that leads there, and does so for the rest of 10 s."""
+    session = Session(scenario.load(name, (*MODERN, *changes, "settle_s=30", 'connects="sometimes"')), seed)
+    failed: dict[str, float] = {}
+
+    def look() -> None:
+        later = (session.clock.now - BEGINNING) / SECOND - since
+        for side, endpoint in session.endpoints.items():
+            path = endpoint.agent.media_addresses(session.clock.now)
+            if path is None or (path[0].ip != MOBILE if side == "a" else path[1].ip != OUTSIDE):
+                failed[side] = later
+        if later < 10:
+            session.clock.at(session.clock.now + 10 * MILLISECOND, look)
+
+    session.clock.at(BEGINNING + nanoseconds(since * 1000) + MILLISECOND, look)
+    session.run()
+    return {side: failed.get(side, 0) for side in "ab"}
 
 
 def outage(seconds: float) -> Callable[[Session, float], None]:
@@ -134,6 +165,42 @@ class Leaving(unittest.TestCase):
         """If more than a third of the checks were lost before, the path is kept 2.2 s longer."""
         self.assert_left((*MODERN, "link.home.loss=0.1", "link.mobile.loss=0.1"), "silent", 6.7)
 
+    def test_the_path_that_is_selected_then_is_nominated_at_once(self) -> None:
+        for seed in range(20):
+            at, trace = Random(seed).uniform(0, 3), Trace()
+            event = f'event=[{{ at_s = {FAILS_S + at}, side = "a", do = "silent", interface = "eth0" }}]'
+            Session(scenario.load("path_dies", (*MODERN, event, 'connects="sometimes"')), seed, trace).run()
+            left = next(time for time, side, told in trace.events
+                        if side == "a" and isinstance(told, NominatedSend) and told.source.ip == MOBILE)
+            sent = next(d.time for d in trace.datagrams if d.side == "a" and d.time >= left and d.source.ip == MOBILE
+                        and message_of(d.contents).use_candidate)
+            self.assertLess(sent - left, 50 * MILLISECOND, seed)
+
+    def test_media_goes_on_if_the_candidate_of_the_path_is_invalidated(self) -> None:
+        """A sends on the other path at once. B follows as if it had not been told, but with renomination within a second."""
+        numbered = ("a.renomination=true", "b.renomination=true")
+        for controlling in (True, False):
+            roles = (f"a.controlling={controlling}".lower(), f"b.controlling={not controlling}".lower())
+            for changes in ((), numbered):
+                for seed in range(5):
+                    at = FAILS_S + Random(seed).uniform(0, 3)
+                    event = f'event=[{{ at_s = {at}, side = "a", do = "off", interface = "eth0" }}]'
+                    later = with_media("path_dies", seed, (*roles, *changes, event), at)
+                    self.assertLess(later["a"], 1, (controlling, changes, seed))
+                    self.assertLess(later["b"], 1 if controlling and changes else 4, (controlling, changes, seed))
+
+    def test_so_it_does_on_a_new_address_without_a_restart(self) -> None:
+        """A's only interface goes away, and another one comes. Its candidates are trickled."""
+        for controlling in (True, False):
+            roles = (f"a.controlling={controlling}".lower(), f"b.controlling={not controlling}".lower())
+            for seed in range(5):
+                at = FAILS_S + Random(seed).uniform(0, 3)
+                events = ", ".join(f'{{ at_s = {at}, side = "a", do = "{do}", interface = "{name}" }}'
+                                   for do, name in (("off", "wifi"), ("on", "lte")))
+                later = with_media("change_of_network", seed, (*roles, f"event=[{events}]"), at)
+                self.assertLess(later["a"], 1, (controlling, seed))
+                self.assertLess(later["b"], 4, (controlling, seed))
+
     def test_in_the_first_seconds_too(self) -> None:
         """The checks of the present silence are not lost ones, nor are those that no NAT let through yet."""
         for seed in range(5):
@@ -189,8 +256,24 @@ class Leaving(unittest.TestCase):
                     self.assertEqual(play(seed, NOTHING_FAILS, outage(seconds)), {"a": [], "b": []})
 
     def test_nor_does_loss(self) -> None:
-        for seed in range(5):
-            self.assertEqual(play(seed, (*NOTHING_FAILS, "link.home.loss=0.1", "link.mobile.loss=0.1")), {"a": [], "b": []}, seed)
+        for seed in range(200):
+            self.assertEqual(play(seed, (*MODERN, *NOTHING_FAILS, "settle_s=20", *loses(0.1))), {"a": [], "b": []}, seed)
+
+    def test_heavy_loss_changes_a_path_in_one_of_20_sessions_at_most(self) -> None:
+        changes = sum(len(play(seed, (*MODERN, *NOTHING_FAILS, *CLEAN_B, *loses(0.3)))["a"]) for seed in range(40))
+        self.assertLessEqual(changes, 0.05 * 40)
+
+    def test_nor_do_a_hundred_paths_that_work(self) -> None:
+        """Ten addresses a side, all of which reach each other, for two minutes."""
+        sides: dict[str, Any] = {
+            name: {"controlling": name == "a", "max_rto_ms": 2900.0, "retransmits": 11,
+                   "interface": [{"name": f"eth{n}", "ip": f"{ip}.{n}", "up": "link", "down": "link"} for n in range(10)]}
+            for name, ip in (("a", "192.0.2"), ("b", "198.51.101"))}
+        for link in ({"delay_ms": 10.0, "jitter_ms": 2.0}, {"delay_ms": 200.0, "jitter_ms": 150.0}):
+            trace = Trace()
+            Session(scenario.scenario_of("hundred", {"seconds": 125, "settle_s": 124, "link": {"link": link}, **sides}), 1, trace).run()
+            late = [at for at, _, event in trace.events if isinstance(event, NominatedSend) and at > BEGINNING + 5 * SECOND]
+            self.assertEqual(late, [], link)
 
     def test_nor_a_sleep(self) -> None:
         for side in "ab":

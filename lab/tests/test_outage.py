@@ -1,6 +1,6 @@
-"""Tests what docs/GUIDE.md says of an ICE restart after an outage or sleep of a minute: both agents are Disconnected and stay so, and a
-restart that is signaled brings a path to both within 2 s. Only with `Original`, an agent that slept keeps its path, and its checks bring
-the peer's back."""
+"""Tests what docs/GUIDE.md says of an ICE restart after an outage or sleep of a minute, of one side or both: both agents are Disconnected
+and stay so, and a restart that is signaled brings a path to both within 2 s, or pairs that one side forms again. Only with `Original`, an
+agent that slept keeps its path, and its checks bring the peer's back."""
 
 import unittest
 from collections.abc import Callable
@@ -27,9 +27,9 @@ def outage(session: Session) -> None:
     session.clock.at(BEGINNING + TO_S * SECOND, turn, True)
 
 
-def sleep(session: Session) -> None:
-    """A's program does not run for a minute. When it wakes up it makes the `handle_timeout` call that is due."""
-    endpoint: Any = session.endpoints["a"]
+def sleep(session: Session, side: str = "a") -> None:
+    """A side's program does not run for a minute. When it wakes up it makes the `handle_timeout` call that is due."""
+    endpoint: Any = session.endpoints[side]
     run: Callable[[int], None] = endpoint._timed_out
     asleep = False
 
@@ -50,6 +50,12 @@ def sleep(session: Session) -> None:
     outage(session)  # what arrives meanwhile is lost
     session.clock.at(BEGINNING + FROM_S * SECOND, fall)
     session.clock.at(BEGINNING + TO_S * SECOND, wake)
+
+
+def both_sleep(session: Session) -> None:
+    """Neither program runs, as on two suspended machines."""
+    sleep(session, "b")
+    sleep(session)
 
 
 class Found:
@@ -86,11 +92,12 @@ def played(name: str, profile: str, seed: int, happens: Callable[[Session], None
 
 def comes_back(profile: str, happens: Callable[[Session], None]) -> bool:
     """Whether both have a path again without a restart: unanswered checks are counted, and who slept sent none."""
-    return profile == "original" and happens is sleep
+    return profile == "original" and happens is not outage
 
 
+HAPPENINGS: tuple[Callable[[Session], None], ...] = (outage, sleep, both_sleep)
 CASES = [(name, profile, happens) for name in ("same_lan", "two_homes", "symmetric_one_side", "symmetric_both_relay")
-         for profile in PROFILES for happens in (outage, sleep)]
+         for profile in PROFILES for happens in HAPPENINGS]
 
 
 class Restarts(unittest.TestCase):
@@ -116,6 +123,25 @@ class Restarts(unittest.TestCase):
                     self.assertTrue(all(state.is_connected() for state in states))
                 else:
                     self.assertEqual(states, {DISCONNECTED})
+
+    def test_pairs_that_one_side_forms_again_bring_a_path_within_2_s(self) -> None:
+        for happens in HAPPENINGS:
+            for side in "ab":
+                changes = (f"seconds={END_S}", f"settle_s={END_S}", "event=[]")
+                session = Session(scenario.load("two_homes", changes), 0)
+                happens(session)
+                endpoint = session.endpoints[side]
+
+                def again(endpoint: Endpoint = endpoint) -> None:
+                    self.assertIs(endpoint.agent.state, DISCONNECTED)
+                    endpoint.agent.recreate_candidate_pairs()
+                    endpoint.turn()
+
+                session.clock.at(BEGINNING + RESTART_S * SECOND, again)
+                session.run()
+                for outcome in session.outcome.sides.values():
+                    assert outcome.last is not None
+                    self.assertTrue(RESTART_S * SECOND < outcome.last < (RESTART_S + 2) * SECOND, (happens.__name__, side, outcome.last))
 
     def test_what_the_call_clears_and_keeps(self) -> None:
         for profile in PROFILES:

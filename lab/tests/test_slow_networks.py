@@ -41,9 +41,9 @@ class SlowNetworks(unittest.TestCase):
                 self.assertLess(connected(1, profile, (1, 1), (link, link)), 2 * seconds + 0.5, (seconds, profile))
 
     def test_slow_links(self) -> None:
-        for rate, hosts in ((64, (3, 5)), (32, (5, 10)), (16, (3, 5))):
+        for rate, hosts, sessions in ((64, (3, 5), 3), (64, (5, 10), 3), (32, (5, 10), 3), (16, (3, 5), 20)):
             slow = {"delay_ms": 20.0, "rate_kbit": float(rate), "queue_ms": 60000.0}
-            for seed in range(3):
+            for seed in range(sessions):
                 original, modern = (connected(seed, profile, hosts, (FAST, slow)) for profile in ("original", "modern"))
                 self.assertLess(modern, original, (rate, seed))
 
