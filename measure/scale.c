@@ -1,13 +1,13 @@
 /* Many agents in one process: what each costs in processor time and memory. `measure/scale` runs it; measure/scale.rs is the same program
  * over the Rust crate.
  *
- * usage: scale AGENTS SECONDS [HOSTS]
+ * usage: scale AGENTS SECONDS [HOSTS [original]]
  *
  * Agents in pairs, each with one host candidate, connect over a wire in memory and then keep consent. With HOSTS each has so many, of which
- * only the last can be reached: so it begins with HOSTS * HOSTS candidate pairs, and keeps the one of least priority. The clock is virtual, and a heap of
- * their timeouts says which agent is next. Prints the microseconds of the processor for an agent while all connect (8 s) and for an
- * agent-second from then on, its packets in a second, and the bytes of the heap for an agent: as made, with the other's candidate,
- * connected, at the end. */
+ * only the last can be reached: so it begins with HOSTS * HOSTS candidate pairs, and keeps the one of least priority. With `original` it
+ * has the settings of the original. The clock is virtual, and a heap of their timeouts says which agent is next. Prints the microseconds of
+ * the processor for an agent while all connect (8 s) and for an agent-second from then on, its packets in a second, and the bytes of the
+ * heap for an agent: as made, with the other's candidate, connected, at the end. */
 #define _GNU_SOURCE
 #include "costs.h"
 #include <inttypes.h>
@@ -18,6 +18,7 @@ enum { PORT = 5000, CONNECT = 8000, LONGEST = 1500, CREDENTIALS = 32, CACHED = 2
 
 static is_ice_agent *agents;
 static size_t agent_count, hosts = 1;
+static bool is_original;
 static uint64_t now = 60000 * MS, packets, selected;
 
 static uint64_t number(void)
@@ -74,10 +75,15 @@ static void credentials_of(uint32_t agent)
 
 static void make(uint32_t agent)
 {
+    is_ice_agent_settings settings;
     is_ice_candidate host;
     size_t index;
     credentials_of(agent);
     must("new", is_ice_agent_new(&agents[agent], creds.ufrag, creds.ufrag_length, creds.pass, creds.pass_length, number()));
+    if (is_original) {
+        must("settings", is_ice_original_settings(&settings));
+        must("set", is_ice_set_settings(&agents[agent], &settings));
+    }
     must("role", is_ice_set_controlling(&agents[agent], agent % 2 == 1));
     memset(&host, 0, sizeof host);
     host.address.family = 4;
@@ -136,8 +142,9 @@ static void run_until(uint64_t end)
 
 int main(int count, char **words)
 {
-    if (count != 3 && count != 4) return fprintf(stderr, "usage: scale AGENTS SECONDS [HOSTS]\n"), 2;
-    if (count == 4) hosts = (size_t)atol(words[3]);
+    if (count < 3 || count > 5) return fprintf(stderr, "usage: scale AGENTS SECONDS [HOSTS [original]]\n"), 2;
+    if (count > 3) hosts = (size_t)atol(words[3]);
+    is_original = count == 5 && strcmp(words[4], "original") == 0;
     agent_count = (size_t)atol(words[1]) / 2 * 2;
     uint64_t seconds = (uint64_t)atol(words[2]);
     agents = calloc(agent_count, sizeof *agents), heap = calloc(agent_count, sizeof *heap);

@@ -11,6 +11,7 @@ COUNTS = (1000, 10000, 100000)
 RUNS = 3
 COUNTED = 20  # seconds of which instructions are counted
 KEPT = 1.5  # how many times the bytes of an agent with one pair one may have that began with many
+ORIGINAL = (1, "original")  # one host candidate, and the settings of the original: the last words of scale.c
 UNCACHED = {"GLIBC_TUNABLES": "glibc.malloc.tcache_count=0"}  # so that malloc does not count what it keeps for later calls
 HEAD = "## Many agents\n"
 
@@ -74,10 +75,10 @@ def build(original):
     return programs
 
 
-def figures(program, count):
+def figures(program, count, *words):
     """What the program prints: of times the least of some runs."""
     seconds = 60 if count < 100000 else 20
-    runs = [[float(word) for word in run(program, count, seconds).split()] for _ in range(RUNS)]
+    runs = [[float(word) for word in run(program, count, seconds, *words).split()] for _ in range(RUNS)]
     return [min(column) for column in zip(*runs)]
 
 
@@ -97,8 +98,8 @@ def write(rows):
     path.write_text(before + head + "\n".join(by_first.get(old.split(" | ")[0], old) for old in part.split("\n")) + then + after)
 
 
-def instructions(program, count, seconds, hosts):
-    command = ["valgrind", "--tool=callgrind", "--callgrind-out-file=/dev/null", program, count, seconds, hosts]
+def instructions(program, *words):
+    command = ["valgrind", "--tool=callgrind", "--callgrind-out-file=/dev/null", program, *words]
     ran = subprocess.run([str(word) for word in command], capture_output=True, text=True)
     if ran.returncode != 0:
         stop(f"{program} failed under valgrind\n{ran.stderr}")
@@ -108,9 +109,10 @@ def instructions(program, count, seconds, hosts):
 def print_instructions(programs, count, hosts):
     """The instructions of an agent until it is connected, and in each second from then on."""
     pairs = "" if hosts == 1 else f" that begin with {hosts * hosts} pairs"
-    for name, program in programs.items():
-        connected = instructions(program, count, 0, hosts)
-        more = instructions(program, count, COUNTED, hosts) - connected
+    cases = [(name, program, (hosts,)) for name, program in programs.items()]
+    for name, program, words in [*cases, ("C with Original", programs["C"], (hosts, "original"))]:
+        connected = instructions(program, count, 0, *words)
+        more = instructions(program, count, COUNTED, *words) - connected
         each = f"{connected / count:,.0f} instructions in the first 8 s, {more / count / COUNTED:,.0f} a second from then on"
         print(f"{name}, {count:,} agents{pairs}: {each}", flush=True)
 
@@ -152,6 +154,7 @@ def measure(counts, original, is_written, are_counted, hosts):
         found = {name: figures(program, count) for name, program in programs.items()}
         rows.append(row(count, found))
         print(rows[-1], flush=True)
+        found["C with Original"] = figures(programs["C"], count, *ORIGINAL)
         print(*(f"{name}: {numbers}" for name, numbers in found.items()), sep="\n", file=sys.stderr)
     if is_written:
         write(rows)
