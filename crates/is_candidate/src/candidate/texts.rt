@@ -283,10 +283,7 @@ fn text_in(bytes: &[u8], len: Option<u8>) -> Option<&str>
     ensures { option_copied result ≡ text_in bytes.now len }
 {
     let Some(len) = len else { return None };
-    match std::str::from_utf8(&bytes[..usize::from(len)]) {
-        Ok(text) => Some(text),
-        Err(_) => unreachable!(),
-    }
+    Some(unsafe { std::str::from_utf8_unchecked(&bytes[..usize::from(len)]) })
 }
 
 impl PartialEq for Texts {
