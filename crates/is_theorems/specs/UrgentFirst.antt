@@ -25,7 +25,8 @@ use Rattle.is_theorems.specs.Runs.{IsFresh}
 
 module _ {H P : Type 0} where
   -- A `handle_timeout` call that selects no path, by an agent that checks urgent pairs first. When it begins, the pair with the number is urgent:
-  -- a request was served on it, and it is not valid yet, or it is nominated without a response.
+  -- a request was served on it, and it is not valid yet, or it is nominated, no response arrived to a check that nominates it, and few checks
+  -- have none.
   pub record PutsUrgentFirst (number : ℕ) (old : AgentRecord H P) (e : Entry) : Type 0 where
     pub modern : is_modern old.timing ≡ true
     pub quiet : selects e ≡ false

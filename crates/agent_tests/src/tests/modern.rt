@@ -235,7 +235,8 @@ const URGENT: [Story; 5] = [
             Does(CheckTo(50, At(5, 2000), false)),
         ],
     ),
-    // the check that nominates the first pair is due before all; after it the pair is urgent until a response to it arrives
+    // the check that nominates the first pair is due before all; after it the pair is urgent until a response to it arrives, or
+    // eight checks have none
     Story(
         "a_nomination_without_a_response_is_urgent",
         &[

@@ -14,13 +14,13 @@ use std::alloc::{AllocError, Global};
 use std::hash::{Hash, Hasher};
 use std::marker::Model;
 
-/// The length that two texts in place have together at most.
+/// How many bytes two texts in place have together at most.
 const ROOM: usize = 27;
 
-/// The greatest length that is a byte.
+/// The greatest length in bytes that fits a byte.
 const LONGEST: usize = 255;
 
-/// What is stored.
+/// How the texts are stored.
 #[derive(Clone, Debug, Drop)]
 enum Stored {
     /// In place: the lengths of the texts, each if there is one, and the texts, one after the other, with any bytes
@@ -36,6 +36,7 @@ enum Stored {
         ufrag: Option<u8>,
         text: String,
     },
+    /// Each in a block of its own, if one of them is longer than `LONGEST`.
     Long(Box<LongTexts>),
 }
 

@@ -23,8 +23,8 @@ fn give_back<T>(list: &mut Vec<T>)
 }
 
 impl Checklist {
-    /// Gives back most of the capacity, if most pairs are gone. What was reserved may be lost, so call it before capacity is reserved.
-    /// It can't fail.
+    /// Gives back most of the capacity of the pairs if most are gone, and that of the removed pairs beyond what these pairs and one more need.
+    /// What was reserved may be lost, so call it before capacity is reserved. It can't fail.
     pub fn give_back(&mut self)
         ensures multiset { multiset_of self.new ≡ multiset_of self.old }
         ensures removed { removed_of self.new ≡ removed_of self.old }

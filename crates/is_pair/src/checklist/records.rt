@@ -1,4 +1,5 @@
-//! The memory of the removed pairs. One whose numbers are small, as most are, has a short record of 17 bytes; the others are kept in full.
+//! The memory of the removed pairs. One whose numbers are small, as most are, has a short record, which takes 17 bytes with its place; the
+//! others are kept in full.
 
 ghost use Rattle.std.specs.Prelude.{ℕ, ◌≡◌, ◌≤◌, ◌∷◌, [], IfSome, is_some, take};
 ghost use Rattle.std.specs.VecDeque.{deque_len, deque_capacity};
