@@ -1,5 +1,5 @@
 //! The foundation and the username fragment of a candidate.
-ghost use Rattle.std.specs.Prelude.{◌≡◌, ◌+◌, ◌++◌, ◌≤◌, None, Some, length, take, drop, nat_eq, string_bytes, IfOk};
+ghost use Rattle.std.specs.Prelude.{◌≡◌, ◌+◌, ◌++◌, ◌≤◌, None, Some, length, take, drop, nat_eq, string_bytes, IfOk, IsOk};
 ghost use Rattle.std.specs.Option.{option_copied, option_eq, option_map};
 ghost use Rattle.std.specs.Str.{IsUtf8};
 ghost use Rattle.std.specs.Hash as fed;
@@ -78,7 +78,8 @@ impl Texts {
         foundation: Option<&str>,
         ufrag: Option<&str>,
     ) -> Result<Texts, AllocError>
-        ensures { IfOk result (λ t. t ≡ record { foundation = option_copied foundation.entry; ufrag = option_copied ufrag.entry }) }
+        ensures texts { IfOk result (λ t. t ≡ record { foundation = option_copied foundation.entry; ufrag = option_copied ufrag.entry }) }
+        ensures in_place { length (text_or_empty (option_copied foundation.entry)) + length (text_or_empty (option_copied ufrag.entry)) ≤ ROOM → IsOk result }
     {
         let (first, second) = (text_or_empty(foundation), text_or_empty(ufrag));
         if first.len() + second.len() <= ROOM {
