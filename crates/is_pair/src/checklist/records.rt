@@ -1,7 +1,7 @@
 //! The memory of the removed pairs. One whose numbers are small, as most are, has a short record, which takes 17 bytes with its place; the
 //! others are kept in full.
 
-ghost use Rattle.std.specs.Prelude.{ℕ, ◌≡◌, ◌≤◌, ◌∷◌, [], IfSome, is_some, take};
+ghost use Rattle.std.specs.Prelude.{ℕ, ◌≡◌, ◌≤◌, ◌+◌, ◌++◌, ◌∷◌, [], IfErr, IfSome, OnOk, is_some, min, take};
 ghost use Rattle.std.specs.VecDeque.{deque_len, deque_capacity};
 ghost use Rattle.is_pair.specs.Removed.{REMOVED_LIMIT, RemovedFit};
 ghost use Rattle.is_pair.specs.ShortRecords.{is_small, pair_of_short, long_count, joined};
@@ -10,6 +10,7 @@ use super::removed::{Removal, RemovedPair};
 use crate::pair::CheckState;
 use std::alloc::{AllocError, Global};
 use std::collections::VecDeque;
+use std::mem::swap;
 
 /// The greatest number of removed pairs that are kept.
 const LIMIT: usize = 32;
@@ -102,17 +103,67 @@ fn long_before(places: &VecDeque<Place>, index: usize) -> usize
     count
 }
 
+/// Moves all items of a queue to the end of another one, which has room for them.
+fn move_all<T: Copy>(from: &mut VecDeque<T>, to: &mut VecDeque<T>)
+    requires room { deque_len to.old + deque_len from.old ≤ deque_capacity to.old }
+    ensures items { to.new.items ≡ to.old.items ++ from.old.items }
+    ensures len { deque_len to.new ≡ deque_len to.old + deque_len from.old }
+    ensures capacity { deque_capacity to.new ≡ deque_capacity to.old }
+{
+    while let Some(item) = from.pop_front() {
+        to.push_back_reserved(item);
+    }
+}
+
+/// Gives a queue this capacity. Each item is moved by itself: `reserve_exact` and `shrink_to` turn the whole block first, which takes far more
+/// code. If the allocation fails, the queue stays as it is.
+fn resize<T: Copy>(queue: &mut VecDeque<T>, capacity: usize) -> Result<(), AllocError>
+    requires { deque_len queue.old ≤ capacity }
+    ensures items { queue.new.items ≡ queue.old.items }
+    ensures len { deque_len queue.new ≡ deque_len queue.old }
+    ensures resized { OnOk result (deque_capacity queue.new ≡ capacity) }
+    ensures unchanged { IfErr result (λ _. deque_capacity queue.new ≡ deque_capacity queue.old) }
+{
+    let mut resized = VecDeque::with_capacity(*queue.allocator(), capacity)?;
+    move_all(queue, &mut resized);
+    swap(queue, &mut resized);
+    Ok(())
+}
+
+/// Returns the capacity for so many more, or as many as are kept at most.
+fn capacity_for<T>(queue: &VecDeque<T>, more: usize) -> usize
+    requires few { deque_len queue.now ≤ REMOVED_LIMIT }
+    ensures { result ≡ min REMOVED_LIMIT (deque_len queue.now + more) }
+{
+    queue.len() + more.min(LIMIT - queue.len())
+}
+
+/// Reserves capacity for so many more, or as many as are kept at most.
+fn reserve<T: Copy>(queue: &mut VecDeque<T>, more: usize) -> Result<(), AllocError>
+    requires few { deque_len queue.old ≤ REMOVED_LIMIT }
+    ensures items { queue.new.items ≡ queue.old.items }
+    ensures len { deque_len queue.new ≡ deque_len queue.old }
+    ensures reserved { OnOk result (RemovedFit (deque_len queue.new) (deque_capacity queue.new) more) }
+    ensures room { deque_capacity queue.old ≤ deque_capacity queue.new }
+{
+    let needed = capacity_for(queue, more);
+    if needed <= queue.capacity() {
+        return Ok(());
+    }
+    resize(queue, needed)
+}
+
 /// Gives back the capacity beyond that for so many more, or as many as are kept at most. If the allocation fails, the capacity stays.
-fn give_back<T>(queue: &mut VecDeque<T>, more: usize)
+fn give_back<T: Copy>(queue: &mut VecDeque<T>, more: usize)
     requires few { deque_len queue.old ≤ REMOVED_LIMIT }
     ensures items { queue.new.items ≡ queue.old.items }
     ensures len { deque_len queue.new ≡ deque_len queue.old }
     ensures room { (n : ℕ) → n ≤ more → RemovedFit (deque_len queue.old) (deque_capacity queue.old) n
         → RemovedFit (deque_len queue.new) (deque_capacity queue.new) n }
 {
-    let needed = queue.len() + more.min(LIMIT - queue.len());
+    let needed = capacity_for(queue, more);
     if queue.capacity() > needed + SLACK {
-        queue.shrink_to(needed);
+        let _ = resize(queue, needed);
     }
 }
 
@@ -128,7 +179,7 @@ pub(super) struct Records {
 }
 
 impl Records {
-    ghost use Rattle.std.specs.Prelude.{◌++◌, ◌+◌, ◌-◌, ◌<◌, ◌==◌, length, slice_get, filter, not, drop, OnOk};
+    ghost use Rattle.std.specs.Prelude.{◌-◌, ◌<◌, ◌==◌, length, slice_get, filter, not, drop};
     ghost use Rattle.is_pair.specs.Removed.{last_removed};
     ghost use Rattle.is_pair.specs.Records.{records_of, RecordsFit};
 
@@ -213,9 +264,8 @@ impl Records {
         ensures reserved { OnOk result (RecordsFit more self.new) }
         ensures room { (n : ℕ) → RecordsFit n self.old → RecordsFit n self.new }
     {
-        self.places
-            .reserve_exact(more.min(LIMIT - self.places.len()))?;
-        self.long.reserve_exact(more.min(LIMIT - self.long.len()))
+        reserve(&mut self.places, more)?;
+        reserve(&mut self.long, more)
     }
 
     /// Gives back most of the capacity beyond that for so many more.
