@@ -122,7 +122,8 @@ def ours_in_python():
     except Missing:
         python = sys.executable
     environment = {"PYTHONPATH": str(top / "python"), "IS_ICE_LIB": str(library), "PYTHONDONTWRITEBYTECODE": "1"}
-    return Stack("Connection", [python, str(here / "peers" / "connection_peer.py"), "is_ice.connection"], our_version(), environment)
+    command = [python, str(here / "peers" / "connection_peer.py"), "is_ice.connection"]
+    return Stack("Connection", command, our_version(), environment, sends_early=True)
 
 
 # ---- others

@@ -115,7 +115,7 @@ class Connection(Unique):
         self.on_event: EventHandler | None = None  # called with each event of the agent
         self.on_candidate: Callable[[CandidateAttribute], None] | None = None  # called with each candidate that a server brings
         self._loop = IceLoop(self.agent, self._on_event, self._on_media, servers=all_servers, on_gathering=self._on_gathering, tls=tls,
-                             relay_only=self._relay_only)
+                             relay_only=self._relay_only, on_path=self._on_path)
         self._log, self._mdns = SessionLog(_log, self.agent), Mdns()
         self._local = LocalCandidates(self.agent, self._loop, self._mdns, self._log)
         self._remote = RemoteCandidates(self._loop, self._mdns, self._log, self._fail_if_nothing_is_left)
@@ -232,7 +232,12 @@ class Connection(Unique):
     # ---- the session
 
     async def connect(self) -> None:
-        """Connects. ConnectionError if something is missing, if all checks fail, or after 30 s. It says what was tried."""
+        """Connects. ConnectionError if something is missing, if all checks fail, or after 30 s. It says what was tried.
+
+        It returns as soon as data may flow, which may be before a path is selected (RFC 8445, section 12.1). Once one is,
+        `send` takes it. The peer may have no response on a path yet, and drop what arrives there before. If the agent is lite, it waits
+        until the peer has nominated a path.
+        """
         if self._gathering is None or not self._gathering.done():
             raise ConnectionError("candidates were not gathered")
         if self.remote_username is None or self.remote_password is None:
@@ -281,9 +286,7 @@ class Connection(Unique):
 
     def _on_event(self, event: IceAgentEvent) -> None:
         if isinstance(event, NominatedSend):
-            self._unchecked, self._connected = None, True
-            if self._found and not self._found.done():
-                self._found.set_result(None)
+            self._on_path()
         elif isinstance(event, IceConnectionStateChange) and event.state.is_disconnected():
             if self._connected:
                 self._closing = asyncio.ensure_future(self._close())  # after this event was reported
@@ -291,6 +294,11 @@ class Connection(Unique):
                 self._fail("all checks failed")
         if self.on_event:
             self.on_event(event)
+
+    def _on_path(self) -> None:
+        self._unchecked, self._connected = None, True
+        if self._found and not self._found.done():
+            self._found.set_result(None)
 
     def _on_gathering(self, event: LoopEvent) -> None:
         if isinstance(event, LocalCandidate) and self.on_candidate and (candidate := self._local.signaled_as(event.line)):
@@ -379,7 +387,8 @@ class Connection(Unique):
         return await self.recv(), 1
 
     async def send(self, data: bytes) -> None:
-        """Sends a datagram. ConnectionError if the connection is not connected, or is closed.
+        """Sends a datagram on the selected path, before there is one on that of a valid pair. ConnectionError if the connection is not
+        connected, or is closed.
 
         If consent was lost and another path is being checked, the datagram is lost (RFC 7675).
         """

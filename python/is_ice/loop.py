@@ -30,6 +30,7 @@ _RECEIVE_BUFFER = 256 * 1024
 
 EventHandler = Callable[[IceAgentEvent], None]
 GatheringHandler = Callable[[LoopEvent], None]
+PathHandler = Callable[[], None]
 DatagramHandler = Callable[[SocketAddress, SocketAddress, bytes], None]
 StunHandler = Callable[[SocketAddress, SocketAddress, bytes], object]
 FailureHandler = Callable[[SocketAddress, SocketAddress, OSError], None]
@@ -66,6 +67,9 @@ class IceLoop(Unique):
     as on the network. If a handler raises, the event loop's exception handler gets the exception, and the session goes on. A handler
     may close the loop and the agent.
 
+    Calls `on_path` once, as soon as media may flow both ways: there is a path for it, and media from its destination is taken
+    (`media_path` and `takes_media_from` of the agent). Another path may be selected later: call `media_path` for each datagram.
+
     `servers` are those of `IceGatherer`; `gather` starts their clients. `on_gathering` is called with what happens to them, and with each
     `LocalCandidate` for the peer. `tls` is for connections to servers over TLS; by default the system's certificates count.
 
@@ -75,7 +79,8 @@ class IceLoop(Unique):
 
     def __init__(self, agent: IceAgent, on_event: EventHandler, on_media: DatagramHandler, on_stun: StunHandler | None = None,
                  on_failed_send: FailureHandler | None = None, servers: Iterable[ServerLike] = (),
-                 on_gathering: GatheringHandler | None = None, tls: ssl.SSLContext | None = None, relay_only: bool = False) -> None:
+                 on_gathering: GatheringHandler | None = None, tls: ssl.SSLContext | None = None, relay_only: bool = False,
+                 on_path: PathHandler | None = None) -> None:
         if hasattr(self, "agent"):
             raise HasAgent
         self.gatherer = IceGatherer(agent, servers, relay_only)
@@ -83,7 +88,7 @@ class IceLoop(Unique):
         self.log = SessionLog(_log, agent)
         self._on_event, self._on_media, self._on_stun, self._on_failed_send = on_event, on_media, on_stun, on_failed_send
         self._start = time.monotonic_ns()
-        self._on_gathering = on_gathering
+        self._on_gathering, self._on_path = on_gathering, on_path
         self._opened: list[SocketAddress] = []
         self._sends: dict[SocketAddress, Send] = {}
         self._closes: dict[SocketAddress, Callable[[], None]] = {}
@@ -305,10 +310,19 @@ class IceLoop(Unique):
             while self._began and (event := self.agent.poll_event()):
                 self.log.event(event)
                 self._report(self._on_event, event)
+            if self._on_path and self._began and self._has_path():
+                on_path, self._on_path = self._on_path, None
+                self._report(on_path)
             if self._began:
                 self._set_timer(self.agent.poll_timeout())
         except NoAgent:
             self.close()
+
+    def _has_path(self) -> bool:
+        """Whether media may flow both ways."""
+        now = self.now()
+        path = self.agent.media_addresses(now)
+        return path is not None and self.agent.takes_media_from(now, path[1])
 
     def _set_timer(self, due: int | None) -> None:
         """Sets the timer to this time, unless it is set to an earlier one.

@@ -208,13 +208,20 @@ class Failures(unittest.IsolatedAsyncioTestCase):
         await a.close()
 
     async def test_the_peer_has_another_password(self) -> None:
-        a, b = await introduced()
-        a.remote_password = "q" * 22
-        with mock.patch.object(is_ice.connection, "_PATIENCE", 0.3):
-            results = await asyncio.gather(a.connect(), b.connect(), return_exceptions=True)
-        self.assertRegex(str(results[1]), "; discarded: [1-9][0-9]* x Binding request "
-                         r"\(request signed with another password than the agent's\)")
-        await close(a, b)
+        """If it has the right one of the peer itself, its own checks are answered, so it connects."""
+        for own in (True, False):
+            with self.subTest(own=own):
+                a, b = await introduced()
+                a.remote_password = "q" * 22
+                if not own:
+                    b.remote_password = "q" * 22
+                with mock.patch.object(is_ice.connection, "_PATIENCE", 0.3):
+                    results = await asyncio.gather(a.connect(), b.connect(), return_exceptions=True)
+                self.assertIsInstance(results[0], ConnectionError)
+                self.assertEqual(results[1] is None, own)
+                self.assertRegex(b._loop.tried() if own else str(results[1]), "; discarded: [1-9][0-9]* x Binding request "
+                                 r"\(request signed with another password than the agent's\)")
+                await close(a, b)
 
     async def test_names_that_nobody_resolves(self) -> None:
         with mock.patch.object(Mdns, "resolve", mock.AsyncMock(return_value=None)):
