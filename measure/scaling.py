@@ -133,8 +133,10 @@ def forming():
     program = build_in_c(install(), "forming")
     for profile in ("original", "modern"):
         added, slowest, last = run(program, profile, "add", 100, 20).split()
+        mixed = run(program, profile, "mixed", 100, 20).split()
         small, great = (run(program, profile, "recreate", hosts).strip() for hosts in (80, 100))
         print(f"{profile}: {added} ms for 100 remote candidates beside 100 local ones, the slowest {slowest}, the last {last};"
+              f" {mixed[0]} and {mixed[1]} ms for candidates of three kinds;"
               f" formed again: {small} ms for 80 x 80, {great} for 100 x 100", flush=True)
     first, local, both = run(program, "modern", "invalidate", 1000).split()
     print(f"{first} bytes with a pair, {local} after 1,000 invalidated local candidates, {both} after as many remote ones", flush=True)

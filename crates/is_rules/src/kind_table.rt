@@ -2,16 +2,18 @@
 
 ghost use Rattle.std.specs.Prelude.{◌≡◌, ◌<◌, ◌≤◌, ℕ, true, false, [], length, slice_index};
 ghost use Rattle.std.specs.List.{list_any};
-ghost use Rattle.is_candidate.specs.Candidates.{CandidateRecord, candidate_at};
+ghost use Rattle.is_candidate.specs.Candidates.{CandidateRecord, base_of, candidate_at};
 ghost use Rattle.is_rules.specs.Kept.{is_placed};
-ghost use Rattle.is_rules.specs.Kinds.{base_network, is_inner, is_reflexive, kind_of, own_network, reach_of, remote_rank, KINDS};
+ghost use Rattle.is_rules.specs.Kinds.{base_network, is_inner, is_reflexive, is_reflexive_of, kind_of, own_network, reach_of, remote_rank, KINDS, UNKNOWN};
 
 use crate::kinds::{
-    INNER_KIND, INSIDE, UNKNOWN, base_network, is_reflexive, own_network, reach_of, reach_without,
-    remote_rank,
+    INNER_KIND, INSIDE, OUTSIDE, UNKNOWN, base_network, is_reflexive, own_network, reach_of,
+    reach_without, remote_rank,
 };
 use crate::places::candidate_at;
+use crate::slots::address_number;
 use is_candidate::Candidate;
+use is_candidate::candidate::internals::base;
 use is_pair::pair::CandidatePair;
 
 /// The parts of the candidates in the kinds of their pairs, in tables: those of the first 100 local candidates, and of remote ones if these
@@ -22,7 +24,7 @@ pub(crate) struct KindTable<'a> {
     pub(crate) remote: &'a [Candidate],
     /// What is known of packets from each of the first local candidates.
     reaches: [u8; 100],
-    /// The networks of their bases.
+    /// The networks of the bases of those of which nothing is known.
     networks: [u64; 100],
     /// So many remote candidates have their ranks in the table, the first ones, and the networks of their addresses.
     ranked: usize,
@@ -30,7 +32,8 @@ pub(crate) struct KindTable<'a> {
     remote_networks: [u64; 100],
     ghost right: { (place : ℕ) → place < 100 → place < length local.now
         → slice_index reaches place ≡ reach_of local.now (candidate_at local.now place) },
-    ghost near: { (place : ℕ) → place < 100 → place < length local.now → slice_index networks place ≡ base_network (candidate_at local.now place) },
+    ghost near: { (place : ℕ) → place < 100 → place < length local.now → slice_index reaches place ≡ UNKNOWN
+        → slice_index networks place ≡ base_network (candidate_at local.now place) },
     ghost few: { ranked ≤ 100 },
     ghost known: { (place : ℕ) → place < ranked → slice_index ranks place ≡ remote_rank (candidate_at remote.now place) },
     ghost far: { (place : ℕ) → place < ranked → slice_index remote_networks place ≡ own_network (candidate_at remote.now place) },
@@ -50,16 +53,53 @@ fn is_none_reflexive(local: &[Candidate]) -> bool
     !has_any_reflexive(local)
 }
 
-/// What is known of packets from a local candidate, if it is known whether any candidate counts as server-reflexive.
-#[inline(always)]
-fn known_reach(local: &[Candidate], none_reflexive: bool, candidate: &Candidate) -> u8
-    requires none { none_reflexive ≡ true → (c : CandidateRecord) → reach_of local.now c ≡ reach_of [] c }
-    ensures { result ≡ reach_of local.now candidate.now }
+/// The slot of a base. Few bases share one.
+fn slot_of_base(candidate: &Candidate) -> usize
+    ensures { result < 251 }
 {
+    (address_number(base(candidate)) % 251) as usize
+}
+
+/// For each slot the place of a live candidate that counts as server-reflexive, the last one whose base has the slot: a guess for
+/// candidates with the same base.
+fn places_by_base(local: &[Candidate], none_reflexive: bool) -> [u8; 251] {
+    let mut places = [0; 251];
+    if none_reflexive {
+        return places;
+    }
+    for place in 0..local.len().min(100) {
+        let candidate = candidate_at(local, place);
+        if is_reflexive(candidate) {
+            places[slot_of_base(candidate)] = place as u8;
+        }
+    }
+    places
+}
+
+/// The candidate at this place is a live one that counts as server-reflexive: so one has its base.
+#[inline(always)]
+fn is_reflexive_itself(local: &[Candidate], place: usize) -> bool
+    requires { place < length local.now }
+    ensures { result ≡ true → list_any (is_reflexive_of (base_of (candidate_at local.now place))) local.now ≡ true }
+{
+    is_reflexive(candidate_at(local, place))
+}
+
+/// What is known of packets from the local candidate at a place, if it is known whether any candidate counts as server-reflexive.
+#[inline(always)]
+fn known_reach(local: &[Candidate], none_reflexive: bool, guesses: &[u8; 251], place: usize) -> u8
+    requires within { place < length local.now }
+    requires none { none_reflexive ≡ true → (c : CandidateRecord) → reach_of local.now c ≡ reach_of [] c }
+    ensures { result ≡ reach_of local.now (candidate_at local.now place) }
+{
+    let candidate = candidate_at(local, place);
     if none_reflexive {
         reach_without(candidate)
+    } else if is_reflexive_itself(local, place) {
+        OUTSIDE
     } else {
-        reach_of(local, candidate)
+        let guess = guesses[slot_of_base(candidate)];
+        reach_of(local, usize::from(guess), candidate)
     }
 }
 
@@ -68,20 +108,24 @@ fn reaches_of(local: &[Candidate]) -> [u8; 100]
     ensures { (place : ℕ) → place < 100 → place < length local.now → slice_index result place ≡ reach_of local.now (candidate_at local.now place) }
 {
     let none_reflexive = is_none_reflexive(local);
+    let guesses = places_by_base(local, none_reflexive);
     let mut reaches = [0; 100];
     for place in 0..local.len().min(100) {
-        reaches[place] = known_reach(local, none_reflexive, candidate_at(local, place));
+        reaches[place] = known_reach(local, none_reflexive, &guesses, place);
     }
     reaches
 }
 
-/// The networks of the bases of the first 100 local candidates.
-fn networks_of(local: &[Candidate]) -> [u64; 100]
-    ensures { (place : ℕ) → place < 100 → place < length local.now → slice_index result place ≡ base_network (candidate_at local.now place) }
+/// The networks of the bases of those of the first 100 local candidates of which nothing is known: those of others count nothing.
+fn networks_of(local: &[Candidate], reaches: &[u8; 100]) -> [u64; 100]
+    ensures { (place : ℕ) → place < 100 → place < length local.now → slice_index reaches.now place ≡ UNKNOWN
+        → slice_index result place ≡ base_network (candidate_at local.now place) }
 {
     let mut networks = [0; 100];
     for place in 0..local.len().min(100) {
-        networks[place] = base_network(candidate_at(local, place));
+        if reaches[place] == UNKNOWN {
+            networks[place] = base_network(candidate_at(local, place));
+        }
     }
     networks
 }
@@ -135,11 +179,12 @@ impl<'a> KindTable<'a> {
         ensures remote { result.remote.now ≡ remote.now }
     {
         let ranked = ranked_first(remote, pairs);
+        let reaches = reaches_of(local);
         KindTable {
             local,
             remote,
-            reaches: reaches_of(local),
-            networks: networks_of(local),
+            networks: networks_of(local, &reaches),
+            reaches,
             ranked,
             ranks: ranks_of(remote, ranked),
             remote_networks: remote_networks_of(remote, ranked),
@@ -155,14 +200,15 @@ impl<'a> KindTable<'a> {
         if place < 100 {
             self.reaches[place]
         } else {
-            reach_of(self.local, candidate_at(self.local, place))
+            reach_of(self.local, place, candidate_at(self.local, place))
         }
     }
 
-    /// The network of the base of the local candidate at this place.
+    /// The network of the base of the local candidate at this place, of which nothing is known.
     #[inline(always)]
     fn network_at(&self, place: usize) -> u64
-        requires { place < length self.now.local.now }
+        requires within { place < length self.now.local.now }
+        requires unknown { reach_of self.now.local.now (candidate_at self.now.local.now place) ≡ UNKNOWN }
         ensures { result ≡ base_network (candidate_at self.now.local.now place) }
     {
         if place < 100 {

@@ -3,9 +3,10 @@
 
 ghost use Rattle.std.specs.Prelude.{◌≡◌, ◌<◌, ◌≤◌, ◌*◌, ◌&&◌, true, false, List, [], ◌∷◌, length, IfSome, if◌then◌else◌};
 ghost use Rattle.std.specs.List.{list_any};
+ghost use Rattle.std.specs.Net.Socket.{socket_ip};
 ghost use Rattle.std.specs.Option.{option_copied};
 ghost use Rattle.is_pair.specs.Pairs.{PairRecord};
-ghost use Rattle.is_pair.specs.Due.{is_due};
+ghost use Rattle.is_pair.specs.Due.{due_time_of, is_due, GoesBefore};
 ghost use Rattle.is_pair.specs.Checklists.{multiset_of};
 ghost use Rattle.is_rules.specs.Kept.{is_placed, are_placed};
 ghost use Rattle.is_rules.specs.Kinds.{counted_kind, is_reflexive, is_reflexive_of, is_reflexive_like, reach_of, network_of, base_network};
@@ -20,12 +21,12 @@ use is_candidate::candidate::address::{is_public, same_address, same_version};
 use is_candidate::candidate::internals::{base, is_discarded};
 use is_candidate::candidate::kind::same_kind;
 use is_candidate::{Candidate, CandidateKind};
-use is_pair::checklist::{Checklist, PairTest, goes_before};
+use is_pair::checklist::{Checklist, PairTest};
 use is_pair::pair::{CandidatePair, CheckState};
 use is_pair::{due_time_of, is_urgent};
 use is_proto::Instant;
 use is_stun::stun::StunTiming;
-use std::net::{IpAddr, SocketAddr};
+use std::net::SocketAddr;
 
 // ---- the kind of a pair
 
@@ -70,6 +71,13 @@ fn has_reflexive(local: &[Candidate], address: SocketAddr) -> bool
     local.iter().any(|c| is_reflexive_of(address, c))
 }
 
+/// The candidate at a place, if there is one, is a live one that counts as server-reflexive and has this base.
+fn is_reflexive_at(local: &[Candidate], place: usize, address: SocketAddr) -> bool
+    ensures { result ≡ true → list_any (is_reflexive_of address) local.now ≡ true }
+{
+    place < local.len() && is_reflexive_of(address, candidate_at(local, place))
+}
+
 /// A live candidate that counts as server-reflexive has a base with the IP version of this address.
 fn has_reflexive_like(local: &[Candidate], address: SocketAddr) -> bool
     ensures { result ≡ list_any (is_reflexive_like address) local.now }
@@ -78,7 +86,7 @@ fn has_reflexive_like(local: &[Candidate], address: SocketAddr) -> bool
 }
 
 /// What is known of packets from a candidate: they reach the outside.
-const OUTSIDE: u8 = 0;
+pub(crate) const OUTSIDE: u8 = 0;
 
 /// They stay inside.
 pub(crate) const INSIDE: u8 = 1;
@@ -86,12 +94,12 @@ pub(crate) const INSIDE: u8 = 1;
 /// Nothing is known.
 pub(crate) const UNKNOWN: u8 = 2;
 
-/// What is known of packets from a base, by candidates that count as server-reflexive.
-fn reach_of_base(local: &[Candidate], address: SocketAddr) -> u8
+/// What is known of packets from a base, by candidates that count as server-reflexive. The one at the guessed place is tried first.
+fn reach_of_base(local: &[Candidate], guess: usize, address: SocketAddr) -> u8
     ensures { result ≡ (if list_any (is_reflexive_of address) local.now then OUTSIDE else
         (if list_any (is_reflexive_like address) local.now then INSIDE else UNKNOWN)) }
 {
-    if has_reflexive(local, address) {
+    if is_reflexive_at(local, guess, address) || has_reflexive(local, address) {
         OUTSIDE
     } else if has_reflexive_like(local, address) {
         INSIDE
@@ -100,14 +108,15 @@ fn reach_of_base(local: &[Candidate], address: SocketAddr) -> u8
     }
 }
 
-/// What is known of packets from a local candidate. Those of a relayed one reach the outside.
-pub(crate) fn reach_of(local: &[Candidate], candidate: &Candidate) -> u8
+/// What is known of packets from a local candidate. Those of a relayed one reach the outside. At the guessed place a candidate may count as
+/// server-reflexive and have the same base: if it does, no other is looked at.
+pub(crate) fn reach_of(local: &[Candidate], guess: usize, candidate: &Candidate) -> u8
     ensures { result ≡ reach_of local.now candidate.now }
 {
     if same_kind(candidate.kind(), CandidateKind::Relayed) {
         OUTSIDE
     } else {
-        reach_of_base(local, base(candidate))
+        reach_of_base(local, guess, base(candidate))
     }
 }
 
@@ -125,16 +134,16 @@ pub(crate) fn reach_without(candidate: &Candidate) -> u8
 
 /// The network of an address by its number, as most are numbered: a subnet of 24 bits of IPv4, or a site of 48 bits of IPv6 (RFC 4193,
 /// section 3.1). Those of IPv4 come after all of IPv6.
-fn network_of(ip: IpAddr) -> u64
-    ensures { result ≡ network_of ip }
+fn network_of(address: SocketAddr) -> u64
+    ensures { result ≡ network_of (socket_ip address) }
 {
-    match ip {
-        IpAddr::V4(ip) => {
-            let octets = ip.octets();
+    match address {
+        SocketAddr::V4(v4) => {
+            let octets = v4.ip().octets();
             281474976710656 + 65536 * octets[0] as u64 + 256 * octets[1] as u64 + octets[2] as u64
         }
-        IpAddr::V6(ip) => {
-            let segments = ip.segments();
+        SocketAddr::V6(v6) => {
+            let segments = v6.ip().segments();
             4294967296 * segments[0] as u64 + 65536 * segments[1] as u64 + segments[2] as u64
         }
     }
@@ -144,14 +153,14 @@ fn network_of(ip: IpAddr) -> u64
 pub(crate) fn base_network(candidate: &Candidate) -> u64
     ensures { result ≡ base_network candidate.now }
 {
-    network_of(base(candidate).ip())
+    network_of(base(candidate))
 }
 
 /// The network of a candidate's address.
 pub(crate) fn own_network(candidate: &Candidate) -> u64
     ensures { result ≡ own_network candidate.now }
 {
-    network_of(candidate.addr().ip())
+    network_of(candidate.addr())
 }
 
 /// The pair is an inner one: packets of its local candidate stay inside; or, as long as nothing is known of them, its addresses are of one
@@ -207,7 +216,7 @@ pub fn kind_of(local: &[Candidate], remote: &[Candidate], pair: &CandidatePair) 
 {
     let ours = candidate_at(local, pair.local_idx());
     let theirs = candidate_at(remote, pair.remote_idx());
-    if is_inner(reach_of(local, ours), ours, theirs) {
+    if is_inner(reach_of(local, pair.local_idx(), ours), ours, theirs) {
         INNER_KIND
     } else {
         remote_rank(theirs)
@@ -278,39 +287,70 @@ fn is_due(pair: &CandidatePair, round: &Round<'_>) -> bool
     due_time_of(pair, round.time, round.timing) <= round.time
 }
 
-/// Whether the turn of a pair comes earlier, or is the same and the pair is due earlier.
-fn turns_before(p: &CandidatePair, q: &CandidatePair, round: &Round<'_>) -> bool
-    requires first { is_placed round.now.kinds.now.local.now round.now.kinds.now.remote.now p.now ≡ true }
-    requires second { is_placed round.now.kinds.now.local.now round.now.kinds.now.remote.now q.now ≡ true }
+/// The pair that comes first so far, if any is due, its turn, and when it is due.
+#[derive(Clone, Copy)]
+struct First<'a> {
+    pair: Option<&'a CandidatePair>,
+    turn: u8,
+    due: Instant,
+}
+
+/// Whether a pair that is due at this time is due before another one, or at the same time with no smaller priority.
+fn is_due_before(p: &CandidatePair, due: Instant, q: &CandidatePair, round: &Round<'_>) -> bool
+    requires { due.0 ≡ due_time_of round.now.time.0 round.now.timing.now p.now }
+    ensures before { result ≡ true → GoesBefore round.now.time.0 round.now.timing.now p.now q.now }
+    ensures following { result ≡ false → GoesBefore round.now.time.0 round.now.timing.now q.now p.now }
+{
+    let other = due_time_of(q, round.time, round.timing);
+    due.0 < other.0 || (due.0 == other.0 && p.prio() >= q.prio())
+}
+
+/// Whether the turn of the first pair so far comes before that of another one, or is the same and the first pair is due earlier.
+fn turns_before(
+    p: &CandidatePair,
+    first: First<'_>,
+    q: &CandidatePair,
+    turn: u8,
+    round: &Round<'_>,
+) -> bool
+    requires first { first.turn ≡ turn_of_pair round.now.kinds.now.local.now round.now.kinds.now.remote.now round.now.precedence round.now.next
+        round.now.time.0 round.now.timing.now p.now }
+    requires due { first.due.0 ≡ due_time_of round.now.time.0 round.now.timing.now p.now }
+    requires second { turn ≡ turn_of_pair round.now.kinds.now.local.now round.now.kinds.now.remote.now round.now.precedence round.now.next
+        round.now.time.0 round.now.timing.now q.now }
     ensures before { result ≡ true → TurnsBefore round.now.kinds.now.local.now round.now.kinds.now.remote.now round.now.precedence
         round.now.next round.now.time.0 round.now.timing.now p.now q.now }
     ensures following { result ≡ false → TurnsBefore round.now.kinds.now.local.now round.now.kinds.now.remote.now round.now.precedence
         round.now.next round.now.time.0 round.now.timing.now q.now p.now }
 {
-    let ours = turn_of_pair(round, p);
-    let theirs = turn_of_pair(round, q);
-    ours < theirs || (ours == theirs && goes_before(p, q, round.time, round.timing))
+    first.turn < turn || (first.turn == turn && is_due_before(p, first.due, q, round))
 }
 
 /// Returns the first so far, or one more pair if it is due and comes before.
-fn earlier<'a>(
-    first: Option<&'a CandidatePair>,
-    pair: &'a CandidatePair,
-    round: &Round<'_>,
-) -> Option<&'a CandidatePair>
-    requires first { IfSome (option_copied first) (λ p. is_placed round.now.kinds.now.local.now round.now.kinds.now.remote.now p ≡ true) }
+fn earlier<'a>(first: First<'a>, pair: &'a CandidatePair, round: &Round<'_>) -> First<'a>
+    requires turn { IfSome (option_copied first.pair) (λ p. first.turn ≡ turn_of_pair round.now.kinds.now.local.now
+        round.now.kinds.now.remote.now round.now.precedence round.now.next round.now.time.0 round.now.timing.now p) }
+    requires due { IfSome (option_copied first.pair) (λ p. first.due.0 ≡ due_time_of round.now.time.0 round.now.timing.now p) }
     requires placed { is_placed round.now.kinds.now.local.now round.now.kinds.now.remote.now pair.now ≡ true }
-    ensures { (done : List PairRecord) → IsNextAhead round.now.kinds.now.local.now round.now.kinds.now.remote.now round.now.precedence
-        round.now.next round.now.time.0 round.now.timing.now done (option_copied first.entry)
+    ensures next { (done : List PairRecord) → IsNextAhead round.now.kinds.now.local.now round.now.kinds.now.remote.now round.now.precedence
+        round.now.next round.now.time.0 round.now.timing.now done (option_copied first.entry.pair)
         → IsNextAhead round.now.kinds.now.local.now round.now.kinds.now.remote.now round.now.precedence round.now.next round.now.time.0
-        round.now.timing.now (pair.now ∷ done) (option_copied result) }
+        round.now.timing.now (pair.now ∷ done) (option_copied result.pair) }
+    ensures turn { IfSome (option_copied result.pair) (λ p. result.turn ≡ turn_of_pair round.now.kinds.now.local.now
+        round.now.kinds.now.remote.now round.now.precedence round.now.next round.now.time.0 round.now.timing.now p) }
+    ensures due { IfSome (option_copied result.pair) (λ p. result.due.0 ≡ due_time_of round.now.time.0 round.now.timing.now p) }
 {
     if !is_due(pair, round) {
         return first;
     }
-    match first {
-        Some(first) if turns_before(first, pair, round) => Some(first),
-        _ => Some(pair),
+    let turn = turn_of_pair(round, pair);
+    match first.pair {
+        Some(other) if turns_before(other, first, pair, turn, round) => first,
+        _ => First {
+            pair: Some(pair),
+            turn,
+            due: due_time_of(pair, round.time, round.timing),
+        },
     }
 }
 
@@ -358,15 +398,19 @@ fn first_in_round<'a>(pairs: &'a Checklist, round: &Round<'_>) -> Option<&'a Can
         round.now.time.0 round.now.timing.now
         (multiset_of pairs.now) (option_copied result) }
 {
-    let mut first = None;
+    let mut first = First {
+        pair: None,
+        turn: 0,
+        due: round.time,
+    };
     for pair in pairs.as_slice() {
         first = earlier(first, pair, round);
     }
-    first
+    first.pair
 }
 
 /// Looks at all pairs and returns the one to check ahead, as in `next_ahead`. It is a separate function, so that calls that find no pair
-/// due do not pay for the table of kinds. Often few pairs are due, and so no rank is computed first.
+/// due do not pay for the table of kinds. Often few pairs are due, and so ranks are computed first only if there are few of them.
 #[inline(never)]
 fn next_by_turns<'a>(
     pairs: &'a Checklist,
@@ -380,7 +424,7 @@ fn next_by_turns<'a>(
     requires placed { are_placed local.now remote.now (multiset_of pairs.now) ≡ true }
     ensures { IsNextAhead local.now remote.now precedence next now.0 timing.now (multiset_of pairs.now) (option_copied result) }
 {
-    let kinds = KindTable::new(local, remote, 0);
+    let kinds = KindTable::new(local, remote, pairs.len() / 4);
     let round = Round {
         kinds: &kinds,
         precedence,

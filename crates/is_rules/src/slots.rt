@@ -33,7 +33,7 @@ const SPARE: usize = 4;
 const SEVERAL: u64 = u64::MAX;
 
 /// The number of an address.
-fn address_number(address: SocketAddr) -> u64
+pub(crate) fn address_number(address: SocketAddr) -> u64
     ensures number { result ≡ address_number address }
     ensures within { result < 2 ^ 48 }
 {

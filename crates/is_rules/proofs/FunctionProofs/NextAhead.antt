@@ -1,10 +1,9 @@
 -- The pair that is checked ahead of those that are due earlier, found by a loop over all pairs.
 use Rattle.is_rules.specs.declared.kinds.Precedence.{Precedence}
-use Rattle.is_rules.proofs.Common.{[], ◌∙◌, ◌∷◌, ◌≡◌, ◌⊎◌, are_placed, arith, Bool, CandidateRecord, false, filter, GoesBefore, Has, IfSome}
-use Rattle.is_rules.proofs.Common.{if◌then◌else◌, inl, inr, is_due, is_placed, IsNextAhead, List, None, NonePass, Option, PairRecord, refl}
+use Rattle.is_rules.proofs.Common.{[], ◌∙◌, ◌∷◌, ◌≡◌, ◌⊎◌, arith, Bool, CandidateRecord, false, filter, GoesBefore, Has}
+use Rattle.is_rules.proofs.Common.{if◌then◌else◌, inl, inr, is_due, IsNextAhead, List, None, NonePass, Option, PairRecord, refl}
 use Rattle.is_rules.proofs.Common.{Some, StunTiming, subst, sym, true, TurnsBefore, ℕ}
 use Rattle.is_rules.proofs.PairLists.ChosenPair.{none_pass}
-use Rattle.is_rules.proofs.PairLists.PairsInLists.{all-has}
 
 pub none-when : {X : Type 0} (test : X → Bool) (xs : List X) → ((x : X) → Has xs x → test x ≡ true → ⊥) → NonePass test xs
 none-when test [] none = refl
@@ -109,9 +108,3 @@ module _ (local remote : List CandidateRecord) (precedence : Precedence) (next n
       either : (q : PairRecord) → Has done q ⊎ Has rest q → due q ≡ true → Before p q
       either q (inl h) is = seen.0.2 q h is
       either q (inr h) is = absurd (none-left rest q none h)
-
-  -- ---- the candidates of the pairs are in the lists
-
-  pub placed-first : (all done rest : List PairRecord) (first : Option PairRecord) → are_placed local remote all ≡ true → IsVisited all done rest first → IfSome first (λ p. is_placed local remote p ≡ true)
-  placed-first all done rest None placed seen = tt
-  placed-first all done rest (Some p) placed seen = all-has (is_placed local remote) all p placed (seen.2 p seen.0.0)
