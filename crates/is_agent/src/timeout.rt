@@ -27,10 +27,11 @@ ghost use Rattle.is_rules.specs.TimeoutStart.{outdated};
 ghost use Rattle.is_rules.specs.Timeouts.{at_request, timeout_begun, MayFailAtTimeout, ServesQueued, MaintainsPairs, TimesOut};
 
 use crate::agent::Agent;
+use crate::emitted::packet_on;
 use crate::room::reserve_events;
 use crate::settings::CHECK_ROOM;
 use is_candidate::LocalPreference;
-use is_proto::{IceError, Instant, Sha1HmacProvider, Transmit, reserve_one_in};
+use is_proto::{IceError, Instant, Sha1HmacProvider, reserve_one_in};
 use is_rules::checking::{Draft, write_username};
 use is_rules::emitted::{Emitted, Issued};
 use is_rules::event::IceConnectionState;
@@ -64,12 +65,7 @@ impl<H: Sha1HmacProvider + Drop, P: LocalPreference> Agent<H, P> {
         let contents = self.check_bytes(contents, id, draft);
         self.stats.bind_request_sent = self.stats.bind_request_sent.saturating_add(1);
         let path = draft.path;
-        self.packets.push_back_reserved(Transmit {
-            proto: path.proto,
-            source: path.source,
-            destination: path.destination,
-            contents,
-        });
+        self.packets.push_back_reserved(packet_on(path, contents));
         Issued::new(path, Class::Request, id)
     }
 
