@@ -240,8 +240,10 @@ impl<H: Sha1HmacProvider + Drop, P: LocalPreference> Agent<H, P> {
         }
     }
 
-    /// The pair records the request, which may trigger a check of it.
-    fn serve_pair(&mut self, request: &Request<'_>, number: u64)
+    /// The pair records the request, which may trigger this check of it.
+    fn serve_pair(&mut self, request: &Request<'_>, number: u64, check: TriggeredCheck)
+        requires modern { check.modern ≡ is_modern (record_of self.old).timing }
+        requires at { check.at.0 ≡ triggered_time (request_view request.now) (record_of self.old) }
         requires packets { HasPacketRoom self.old }
         ensures served { record_of self.new ≡ pair_served (request_view request.now) number (record_of self.old) }
         ensures packets { HasPacketRoom self.new }
@@ -251,7 +253,6 @@ impl<H: Sha1HmacProvider + Drop, P: LocalPreference> Agent<H, P> {
             controlling: self.controlling,
             lite: self.lite,
         };
-        let check = self.triggered_check(request);
         let taken = request.as_taken(self.numbers());
         self.last_nominated = self.nominated_last(&taken, number);
         self.numbers_seen = self.sees_number(&taken);
@@ -394,11 +395,11 @@ impl<H: Sha1HmacProvider + Drop, P: LocalPreference> Agent<H, P> {
             return Emitted::nothing();
         };
         let path = self.path_between(at.local, r);
-        let now = self.triggered_check(request).at;
+        let check = self.triggered_check(request);
         let evaluates = self.evaluates_at(number);
-        self.serve_pair(request, number);
+        self.serve_pair(request, number, check);
         let selected_paths = self.nominate_where(evaluates);
-        self.update_state(selected_paths.is_some(), now);
+        self.update_state(selected_paths.is_some(), check.at);
         self.reply(request, path, selected_paths, reply)
     }
 
