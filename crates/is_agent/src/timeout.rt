@@ -23,7 +23,9 @@ ghost use Rattle.is_rules.specs.Sending.{with_packet};
 ghost use Rattle.is_rules.specs.Emitted.{issued_as, emitted_by};
 ghost use Rattle.is_rules.specs.declared.emitted.Issued.{Issued};
 ghost use Rattle.is_rules.specs.declared.emitted.Path.{Path};
+ghost use Rattle.is_rules.specs.States.{same_state};
 ghost use Rattle.is_rules.specs.TimeoutStart.{outdated};
+ghost use Rattle.is_rules.specs.declared.event.IceConnectionState.TheVariants.{New};
 ghost use Rattle.is_rules.specs.Timeouts.{at_request, timeout_begun, MayFailAtTimeout, ServesQueued, MaintainsPairs, TimesOut};
 
 use crate::agent::Agent;
@@ -273,14 +275,15 @@ impl<H: Sha1HmacProvider + Drop, P: LocalPreference> Agent<H, P> {
         expired: usize,
         rng: &mut R,
     ) -> Result<(), AllocError>
-        requires { expired ≡ outdated now.0 self.old.timing self.old.remote_creds (record_of self.old) }
+        requires first { same_state (record_of self.old).state New ≡ true }
+        requires expired { expired ≡ outdated now.0 self.old.timing self.old.remote_creds (record_of self.old) }
         ensures advanced { OnOk result (MaintainsPairs H.mac now.0 (timeout_begun now.0 (record_of self.old)) (R.stream rng.old) (emitted_of self.new)
             (record_of self.new) (R.stream rng.new)) }
         ensures unchanged { IfErr result (λ _. (record_of self.new ≡ record_of self.old) × (R.stream rng.new ≡ R.stream rng.old)) }
     {
-        let start = self.start_event()?;
+        let start = self.restart_event()?;
         self.reserve_round_room(now)?;
-        self.begin_timeout(now, start, expired);
+        self.begin_timeout(now, Some(start), expired);
         self.maintain_pairs(now, rng);
         Ok(())
     }

@@ -10,6 +10,7 @@ ghost use Rattle.is_agent.specs.View.{record_of};
 ghost use Rattle.is_rules.specs.Queue.{first_taken};
 ghost use Rattle.is_rules.specs.States.{same_state};
 ghost use Rattle.is_rules.specs.TimeoutStart.{start_event, outdated};
+ghost use Rattle.is_rules.specs.declared.event.IceAgentEvent.TheVariants.{IceRestart};
 ghost use Rattle.is_rules.specs.declared.event.IceConnectionState.TheVariants.{New};
 ghost use Rattle.is_rules.specs.Timeouts.{at_request, timeout_begun};
 
@@ -26,14 +27,21 @@ use is_rules::timeout_start::emit_start;
 use std::alloc::AllocError;
 
 impl<H: Sha1HmacProvider + Drop, P: LocalPreference> Agent<H, P> {
+    /// The event of a session that starts.
+    pub(crate) fn restart_event(&self) -> Result<IceAgentEvent, AllocError>
+        ensures { IfOk result (λ event. event ≡ IceRestart (record_of self.now).local_creds) }
+    {
+        Ok(IceAgentEvent::IceRestart(self.local_creds.clone()?))
+    }
+
     /// The start event, in New.
-    pub(crate) fn start_event(&self) -> Result<Option<IceAgentEvent>, AllocError>
+    fn start_event(&self) -> Result<Option<IceAgentEvent>, AllocError>
         ensures { IfOk result (λ event. event ≡ start_event (record_of self.now).state (record_of self.now).local_creds) }
     {
         if !same_state(self.state, IceConnectionState::New) {
             return Ok(None);
         }
-        Ok(Some(IceAgentEvent::IceRestart(self.local_creds.clone()?)))
+        Ok(Some(self.restart_event()?))
     }
 
     /// Emits the start event, if there is one, evaluates the state unless it is after nomination, and removes this many outdated requests, within the
