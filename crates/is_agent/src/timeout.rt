@@ -81,15 +81,18 @@ impl<H: Sha1HmacProvider + Drop, P: LocalPreference> Agent<H, P> {
         }
     }
 
-    /// Checks the pair with this number, with the content of its draft. The next check may go ahead unless this one does.
+    /// Checks the pair with this number, with the content of its draft. It begins the nomination of the pair if `begins` is true. The next
+    /// check may go ahead unless this one does.
     fn check<R: Rng>(
         &mut self,
         number: u64,
+        begins: bool,
         ahead: bool,
         draft: Draft,
         now: Instant,
         rng: &mut R,
     ) -> Issued
+        requires begins { begins ≡ nominates_at_once (record_of self.old) }
         requires turn { ahead ≡ is_ahead_turn now.0 (record_of self.old) }
         requires has { has_number number (record_of self.old).pairs ≡ true }
         requires room { HasCheckRoom self.old }
@@ -98,11 +101,10 @@ impl<H: Sha1HmacProvider + Drop, P: LocalPreference> Agent<H, P> {
             → pair_numbered number (record_of self.old).pairs ≡ Some p → Drafts (record_of self.old) p draft
             → ChecksPair H.mac now.0 peer p (record_of self.old) (R.stream rng.old) (Some result) (record_of self.new) (R.stream rng.new) }
     {
+        self.nomination_due = self.nomination_due && !self.is_selected_number(number);
         self.next_kind = self.next_kind_after(number, ahead);
         self.ahead_turn = !ahead;
         self.charged_until = self.charged_after(now);
-        let begins = self.nominates_at_once();
-        self.nomination_due = self.nomination_due && !self.is_selected_number(number);
         begin_nomination(&mut self.pairs, number, begins);
         let controlling = self.controlling;
         let id = self
@@ -125,7 +127,15 @@ impl<H: Sha1HmacProvider + Drop, P: LocalPreference> Agent<H, P> {
     /// Checks the pair with this number, and records the packet next to the paths that were selected. It is a separate
     /// function, so that calls without a check do not pay for it.
     #[inline(never)]
-    fn check_and_emit<R: Rng>(&mut self, number: u64, ahead: bool, now: Instant, rng: &mut R)
+    fn check_and_emit<R: Rng>(
+        &mut self,
+        number: u64,
+        begins: bool,
+        ahead: bool,
+        now: Instant,
+        rng: &mut R,
+    )
+        requires begins { begins ≡ nominates_at_once (record_of self.old) }
         requires turn { ahead ≡ is_ahead_turn now.0 (record_of self.old) }
         requires has { has_number number (record_of self.old).pairs ≡ true }
         requires room { HasCheckRoom self.old }
@@ -135,7 +145,7 @@ impl<H: Sha1HmacProvider + Drop, P: LocalPreference> Agent<H, P> {
             (R.stream rng.new) × (emitted_of self.new ≡ emitted_by issued first second) }
     {
         let draft = self.draft_of(number);
-        let issued = self.check(number, ahead, draft, now, rng);
+        let issued = self.check(number, begins, ahead, draft, now, rng);
         self.emitted.issued = Some(issued);
     }
 
@@ -149,8 +159,9 @@ impl<H: Sha1HmacProvider + Drop, P: LocalPreference> Agent<H, P> {
             × (emitted_of self.new ≡ emitted_by issued first second) }
     {
         let ahead = self.is_ahead_turn(now);
-        if let Some(number) = self.next_number(ahead, now) {
-            self.check_and_emit(number, ahead, now, rng);
+        let begins = self.nominates_at_once();
+        if let Some(number) = self.next_number(begins, ahead, now) {
+            self.check_and_emit(number, begins, ahead, now, rng);
         }
     }
 
