@@ -193,11 +193,11 @@ impl<H: Sha1HmacProvider + Drop, P: LocalPreference> Agent<H, P> {
             return Ok(None);
         }
         let request = Request::new(now, packet);
-        let emitted = match self.remote_creds {
-            None => self.queue_request(&request)?,
-            Some(_) => self.serve(&request)?,
+        let taken = match self.remote_creds {
+            None => self.queue_request(&request),
+            Some(_) => self.serve(&request),
         };
-        Ok(Some(emitted))
+        Ok(Some(taken?))
     }
 
     fn handle_success_packet(

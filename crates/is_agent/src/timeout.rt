@@ -36,7 +36,7 @@ use is_candidate::LocalPreference;
 use is_proto::{IceError, Instant, Sha1HmacProvider, reserve_one_in};
 use is_rules::checking::{Draft, write_username};
 use is_rules::emitted::{Emitted, Issued};
-use is_rules::event::IceConnectionState;
+use is_rules::event::{IceAgentEvent, IceConnectionState};
 use is_rules::nomination::begin_nomination;
 use is_rules::queue::count_outdated;
 use is_rules::states::same_state;
@@ -292,9 +292,9 @@ impl<H: Sha1HmacProvider + Drop, P: LocalPreference> Agent<H, P> {
             (record_of self.new) (R.stream rng.new)) }
         ensures unchanged { IfErr result (λ _. (record_of self.new ≡ record_of self.old) × (R.stream rng.new ≡ R.stream rng.old)) }
     {
-        let start = self.restart_event()?;
+        let start = Some(IceAgentEvent::IceRestart(self.local_creds.clone()?));
         self.reserve_round_room(now)?;
-        self.begin_timeout(now, Some(start), expired);
+        self.begin_timeout(now, start, expired);
         self.maintain_pairs(now, rng);
         Ok(())
     }

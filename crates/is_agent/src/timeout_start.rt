@@ -10,7 +10,6 @@ ghost use Rattle.is_agent.specs.View.{record_of};
 ghost use Rattle.is_rules.specs.Queue.{first_taken};
 ghost use Rattle.is_rules.specs.States.{same_state};
 ghost use Rattle.is_rules.specs.TimeoutStart.{start_event, outdated};
-ghost use Rattle.is_rules.specs.declared.event.IceAgentEvent.TheVariants.{IceRestart};
 ghost use Rattle.is_rules.specs.declared.event.IceConnectionState.TheVariants.{New};
 ghost use Rattle.is_rules.specs.Timeouts.{at_request, timeout_begun};
 
@@ -27,13 +26,6 @@ use is_rules::timeout_start::emit_start;
 use std::alloc::AllocError;
 
 impl<H: Sha1HmacProvider + Drop, P: LocalPreference> Agent<H, P> {
-    /// The event of a session that starts.
-    pub(crate) fn restart_event(&self) -> Result<IceAgentEvent, AllocError>
-        ensures { IfOk result (λ event. event ≡ IceRestart (record_of self.now).local_creds) }
-    {
-        Ok(IceAgentEvent::IceRestart(self.local_creds.clone()?))
-    }
-
     /// The start event, in New.
     fn start_event(&self) -> Result<Option<IceAgentEvent>, AllocError>
         ensures { IfOk result (λ event. event ≡ start_event (record_of self.now).state (record_of self.now).local_creds) }
@@ -41,7 +33,7 @@ impl<H: Sha1HmacProvider + Drop, P: LocalPreference> Agent<H, P> {
         if !same_state(self.state, IceConnectionState::New) {
             return Ok(None);
         }
-        Ok(Some(self.restart_event()?))
+        Ok(Some(IceAgentEvent::IceRestart(self.local_creds.clone()?)))
     }
 
     /// Emits the start event, if there is one, evaluates the state unless it is after nomination, and removes this many outdated requests, within the
