@@ -1,14 +1,12 @@
 //! Which messages an agent accepts, and what a packet does (RFC 8445, section 7.3); the rules: `is_rules::accepting`.
 
-ghost use Rattle.std.specs.Prelude.{◌≡◌, ◌↔◌, ℕ, IsTrue, IfSome, IfOk, IfErr, OnOk};
+ghost use Rattle.std.specs.Prelude.{◌≡◌, ◌↔◌, ℕ, IsTrue, IfSome, IfOk};
 ghost use Rattle.is_stun.specs.declared.header.Class.TheVariants as classes;
 ghost use Rattle.is_stun.specs.Integrity.{IsSignedBy};
 ghost use Rattle.is_stun.specs.MessageView.{message_view};
 ghost use Rattle.is_agent.specs.View.{record_of, emitted_of};
-ghost use Rattle.is_rules.specs.RequestView.{request_view, packet_path};
-ghost use Rattle.is_rules.specs.Serving.{HandlesRequest, MayFailAtArrival};
+ghost use Rattle.is_rules.specs.RequestView.{packet_path};
 ghost use Rattle.is_rules.specs.Answers.{keeps_check_on};
-ghost use Rattle.is_agent.specs.Ready.{NamesPeer};
 ghost use Rattle.is_agent.specs.Room.{HasDiscoveryRoom};
 ghost use Rattle.is_rules.specs.Limit.{is_crowded};
 ghost use Rattle.is_rules.specs.Accepting.{IsAddressed, IsAcceptedAs, IsAccepted, IsAcceptedOn, Arrives, reports_none, discovered_emitted};
@@ -180,6 +178,7 @@ impl<H: Sha1HmacProvider + Drop, P: LocalPreference> Agent<H, P> {
         }
     }
 
+    /// A request that is accepted is served, or queued until the remote credentials are known.
     fn take_request_packet(
         &mut self,
         now: Instant,
@@ -193,22 +192,12 @@ impl<H: Sha1HmacProvider + Drop, P: LocalPreference> Agent<H, P> {
         if !self.accepts_request(&packet.message) {
             return Ok(None);
         }
-        let emitted = self.take_request(&Request::new(now, packet))?;
-        Ok(Some(emitted))
-    }
-
-    /// Serves a request, or queues it until the remote credentials are known.
-    fn take_request(&mut self, request: &Request<'_>) -> Result<Emitted, IceError>
-        requires { NamesPeer (record_of self.old) (request_view request.now) }
-        ensures taken { IfOk result (λ emitted. HandlesRequest H.mac (request_view request.now) (record_of self.old) emitted (record_of self.new)) }
-        ensures room { OnOk result (HasDiscoveryRoom 1 self.new) }
-        ensures rejected { IfErr result (λ error. MayFailAtArrival (record_of self.old) (request_view request.now) error
-            × (record_of self.new ≡ record_of self.old)) }
-    {
-        match self.remote_creds {
-            None => self.queue_request(request),
-            Some(_) => self.serve(request),
-        }
+        let request = Request::new(now, packet);
+        let taken = match self.remote_creds {
+            None => self.queue_request(&request),
+            Some(_) => self.serve(&request),
+        };
+        Ok(Some(taken?))
     }
 
     fn handle_success_packet(

@@ -7,6 +7,7 @@ ghost use Rattle.is_pair.specs.Pairs.{PairRecord};
 ghost use Rattle.is_rules.specs.Checking.{are_kinds_in_turn, has_first, precedence, is_ahead_turn, GoesAhead, IsNextToCheck, next_kind_after};
 ghost use Rattle.is_rules.specs.Kinds.{kind_of, IsNextAhead};
 ghost use Rattle.is_rules.specs.Leaving.{has_urgent, late_since, IsAskedAlong};
+ghost use Rattle.is_rules.specs.Nominating.{nominates_at_once};
 ghost use Rattle.is_agent.specs.View.{record_of};
 
 use crate::agent::Agent;
@@ -129,12 +130,13 @@ impl<H: Sha1HmacProvider + Drop, P: LocalPreference> Agent<H, P> {
         }
     }
 
-    /// The pair that is checked next: the one whose nomination is due, or else by whether the check goes ahead.
-    fn next_to_check(&self, ahead: bool, now: Instant) -> Option<&CandidatePair>
-        requires { ahead ≡ is_ahead_turn now.0 (record_of self.now) }
+    /// The pair that is checked next: the selected one, if its nomination is due, or else by whether the check goes ahead.
+    fn next_to_check(&self, begins: bool, ahead: bool, now: Instant) -> Option<&CandidatePair>
+        requires begins { begins ≡ nominates_at_once (record_of self.now) }
+        requires ahead { ahead ≡ is_ahead_turn now.0 (record_of self.now) }
         ensures { IsNextToCheck now.0 (record_of self.now) (option_copied result) }
     {
-        if self.nominates_at_once() {
+        if begins {
             pair_selected(self.selected_pair, &self.pairs)
         } else if ahead {
             self.ahead_or_along(now)
@@ -143,15 +145,16 @@ impl<H: Sha1HmacProvider + Drop, P: LocalPreference> Agent<H, P> {
         }
     }
 
-    /// The number of the pair that is checked next.
-    pub(crate) fn next_number(&self, ahead: bool, now: Instant) -> Option<u64>
-        requires { ahead ≡ is_ahead_turn now.0 (record_of self.now) }
+    /// The number of the pair that is checked next: the selected one, if its nomination is due, or else by whether the check goes ahead.
+    pub(crate) fn next_number(&self, begins: bool, ahead: bool, now: Instant) -> Option<u64>
+        requires begins { begins ≡ nominates_at_once (record_of self.now) }
+        requires ahead { ahead ≡ is_ahead_turn now.0 (record_of self.now) }
         ensures next { (next : Option PairRecord) × IsNextToCheck now.0 (record_of self.now) next × (result ≡ option_map (λ p. p.number) next) }
         ensures has { IfSome result (λ n. has_number n (record_of self.now).pairs ≡ true) }
         ensures rises { rises (record_of self.now).pairs ≡ true }
     {
         self.pairs.numbers_rise();
-        match self.next_to_check(ahead, now) {
+        match self.next_to_check(begins, ahead, now) {
             None => None,
             Some(pair) => Some(pair.id().0),
         }

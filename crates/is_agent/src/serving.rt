@@ -13,19 +13,19 @@ ghost use Rattle.is_agent.specs.Room.{HasServingRoom, HasPairRoom, HasPacketRoom
 ghost use Rattle.is_rules.specs.Forming.{formed, with_pair};
 ghost use Rattle.is_stun.specs.Theorems.{LONGEST_REPLY};
 ghost use Rattle.is_stun.specs.Timing.{is_modern};
-ghost use Rattle.is_rules.specs.Sending.{with_packet};
 ghost use Rattle.is_agent.specs.Ready.{IsPlan, IsReady, IsWithin};
 ghost use Rattle.is_rules.specs.Serving.{is_for_other_peer, needs_pair, lacks_number, Chooses, MayFailAtRequest, Serves, ServesAt};
 ghost use Rattle.is_rules.specs.Serving.{evaluates_at, nominated_last, pair_added, pair_number, pair_served, request_counted};
 ghost use Rattle.is_rules.specs.Serving.{sees_number, sender_added, sender_at, sender_index, triggered_time, Replies, SendsRoleConflict};
 
 use crate::agent::{Agent, sides};
+use crate::emitted::packet_on;
 use crate::room::{reserve_candidate, reserve_events};
 use is_candidate::candidate::equality::TEMPORARY_FOUNDATION;
 use is_candidate::candidate::making::peer_reflexive;
 use is_candidate::{Candidate, LocalPreference};
 use is_pair::pair::CandidatePair;
-use is_proto::{IceError, Sha1HmacProvider, Transmit, reserve_one, reserve_one_in};
+use is_proto::{IceError, Sha1HmacProvider, reserve_one, reserve_one_in};
 use is_rules::emitted::{Emitted, Issued, Path};
 use is_rules::forming::pair_of;
 use is_rules::limit::sender_place;
@@ -170,20 +170,6 @@ impl<H: Sha1HmacProvider + Drop, P: LocalPreference> Agent<H, P> {
 // ---- the rules
 
 impl<H: Sha1HmacProvider + Drop, P: LocalPreference> Agent<H, P> {
-    /// Sends the response on the path.
-    fn send_reply(&mut self, path: Path, contents: Vec<u8>)
-        requires packets { HasPacketRoom self.old }
-        ensures sent { record_of self.new ≡ with_packet path contents.items (record_of self.old) }
-        ensures discovery { UsesDiscoveryRoom 0 self.old self.new }
-    {
-        self.packets.push_back_reserved(Transmit {
-            proto: path.proto,
-            source: path.source,
-            destination: path.destination,
-            contents,
-        });
-    }
-
     /// Sends the success response on the path, signed with the local password (RFC 8445, section 7.3.1.2; RFC 8489, section
     /// 9.1.3), after a path was selected, or none.
     fn reply(
@@ -206,7 +192,7 @@ impl<H: Sha1HmacProvider + Drop, P: LocalPreference> Agent<H, P> {
             password,
             &self.by_local_key(),
         );
-        self.send_reply(path, reply);
+        self.packets.push_back_reserved(packet_on(path, reply));
         let issued = Issued::new(path, Class::Success, request.id);
         Emitted::by(Some(issued), selected_paths, None)
     }
@@ -254,8 +240,10 @@ impl<H: Sha1HmacProvider + Drop, P: LocalPreference> Agent<H, P> {
         }
     }
 
-    /// The pair records the request, which may trigger a check of it.
-    fn serve_pair(&mut self, request: &Request<'_>, number: u64)
+    /// The pair records the request, which may trigger this check of it.
+    fn serve_pair(&mut self, request: &Request<'_>, number: u64, check: TriggeredCheck)
+        requires modern { check.modern ≡ is_modern (record_of self.old).timing }
+        requires at { check.at.0 ≡ triggered_time (request_view request.now) (record_of self.old) }
         requires packets { HasPacketRoom self.old }
         ensures served { record_of self.new ≡ pair_served (request_view request.now) number (record_of self.old) }
         ensures packets { HasPacketRoom self.new }
@@ -265,7 +253,6 @@ impl<H: Sha1HmacProvider + Drop, P: LocalPreference> Agent<H, P> {
             controlling: self.controlling,
             lite: self.lite,
         };
-        let check = self.triggered_check(request);
         let taken = request.as_taken(self.numbers());
         self.last_nominated = self.nominated_last(&taken, number);
         self.numbers_seen = self.sees_number(&taken);
@@ -376,7 +363,7 @@ impl<H: Sha1HmacProvider + Drop, P: LocalPreference> Agent<H, P> {
         let password = self.local_creds.pass.as_str();
         write_conflict(&mut reply, request.id, password, &self.by_local_key());
         let path = request.path.reversed();
-        self.send_reply(path, reply);
+        self.packets.push_back_reserved(packet_on(path, reply));
         Emitted::issued_only(path, Class::Failure, request.id)
     }
 
@@ -408,11 +395,11 @@ impl<H: Sha1HmacProvider + Drop, P: LocalPreference> Agent<H, P> {
             return Emitted::nothing();
         };
         let path = self.path_between(at.local, r);
-        let now = self.triggered_check(request).at;
+        let check = self.triggered_check(request);
         let evaluates = self.evaluates_at(number);
-        self.serve_pair(request, number);
+        self.serve_pair(request, number, check);
         let selected_paths = self.nominate_where(evaluates);
-        self.update_state(selected_paths.is_some(), now);
+        self.update_state(selected_paths.is_some(), check.at);
         self.reply(request, path, selected_paths, reply)
     }
 

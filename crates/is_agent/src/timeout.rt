@@ -23,17 +23,20 @@ ghost use Rattle.is_rules.specs.Sending.{with_packet};
 ghost use Rattle.is_rules.specs.Emitted.{issued_as, emitted_by};
 ghost use Rattle.is_rules.specs.declared.emitted.Issued.{Issued};
 ghost use Rattle.is_rules.specs.declared.emitted.Path.{Path};
+ghost use Rattle.is_rules.specs.States.{same_state};
 ghost use Rattle.is_rules.specs.TimeoutStart.{outdated};
+ghost use Rattle.is_rules.specs.declared.event.IceConnectionState.TheVariants.{New};
 ghost use Rattle.is_rules.specs.Timeouts.{at_request, timeout_begun, MayFailAtTimeout, ServesQueued, MaintainsPairs, TimesOut};
 
 use crate::agent::Agent;
+use crate::emitted::packet_on;
 use crate::room::reserve_events;
 use crate::settings::CHECK_ROOM;
 use is_candidate::LocalPreference;
-use is_proto::{IceError, Instant, Sha1HmacProvider, Transmit, reserve_one_in};
+use is_proto::{IceError, Instant, Sha1HmacProvider, reserve_one_in};
 use is_rules::checking::{Draft, write_username};
 use is_rules::emitted::{Emitted, Issued};
-use is_rules::event::IceConnectionState;
+use is_rules::event::{IceAgentEvent, IceConnectionState};
 use is_rules::nomination::begin_nomination;
 use is_rules::queue::count_outdated;
 use is_rules::states::same_state;
@@ -64,12 +67,7 @@ impl<H: Sha1HmacProvider + Drop, P: LocalPreference> Agent<H, P> {
         let contents = self.check_bytes(contents, id, draft);
         self.stats.bind_request_sent = self.stats.bind_request_sent.saturating_add(1);
         let path = draft.path;
-        self.packets.push_back_reserved(Transmit {
-            proto: path.proto,
-            source: path.source,
-            destination: path.destination,
-            contents,
-        });
+        self.packets.push_back_reserved(packet_on(path, contents));
         Issued::new(path, Class::Request, id)
     }
 
@@ -83,15 +81,18 @@ impl<H: Sha1HmacProvider + Drop, P: LocalPreference> Agent<H, P> {
         }
     }
 
-    /// Checks the pair with this number, with the content of its draft. The next check may go ahead unless this one does.
+    /// Checks the pair with this number, with the content of its draft. It begins the nomination of the pair if `begins` is true. The next
+    /// check may go ahead unless this one does.
     fn check<R: Rng>(
         &mut self,
         number: u64,
+        begins: bool,
         ahead: bool,
         draft: Draft,
         now: Instant,
         rng: &mut R,
     ) -> Issued
+        requires begins { begins ≡ nominates_at_once (record_of self.old) }
         requires turn { ahead ≡ is_ahead_turn now.0 (record_of self.old) }
         requires has { has_number number (record_of self.old).pairs ≡ true }
         requires room { HasCheckRoom self.old }
@@ -100,11 +101,10 @@ impl<H: Sha1HmacProvider + Drop, P: LocalPreference> Agent<H, P> {
             → pair_numbered number (record_of self.old).pairs ≡ Some p → Drafts (record_of self.old) p draft
             → ChecksPair H.mac now.0 peer p (record_of self.old) (R.stream rng.old) (Some result) (record_of self.new) (R.stream rng.new) }
     {
+        self.nomination_due = self.nomination_due && !self.is_selected_number(number);
         self.next_kind = self.next_kind_after(number, ahead);
         self.ahead_turn = !ahead;
         self.charged_until = self.charged_after(now);
-        let begins = self.nominates_at_once();
-        self.nomination_due = self.nomination_due && !self.is_selected_number(number);
         begin_nomination(&mut self.pairs, number, begins);
         let controlling = self.controlling;
         let id = self
@@ -127,7 +127,15 @@ impl<H: Sha1HmacProvider + Drop, P: LocalPreference> Agent<H, P> {
     /// Checks the pair with this number, and records the packet next to the paths that were selected. It is a separate
     /// function, so that calls without a check do not pay for it.
     #[inline(never)]
-    fn check_and_emit<R: Rng>(&mut self, number: u64, ahead: bool, now: Instant, rng: &mut R)
+    fn check_and_emit<R: Rng>(
+        &mut self,
+        number: u64,
+        begins: bool,
+        ahead: bool,
+        now: Instant,
+        rng: &mut R,
+    )
+        requires begins { begins ≡ nominates_at_once (record_of self.old) }
         requires turn { ahead ≡ is_ahead_turn now.0 (record_of self.old) }
         requires has { has_number number (record_of self.old).pairs ≡ true }
         requires room { HasCheckRoom self.old }
@@ -137,7 +145,7 @@ impl<H: Sha1HmacProvider + Drop, P: LocalPreference> Agent<H, P> {
             (R.stream rng.new) × (emitted_of self.new ≡ emitted_by issued first second) }
     {
         let draft = self.draft_of(number);
-        let issued = self.check(number, ahead, draft, now, rng);
+        let issued = self.check(number, begins, ahead, draft, now, rng);
         self.emitted.issued = Some(issued);
     }
 
@@ -151,8 +159,9 @@ impl<H: Sha1HmacProvider + Drop, P: LocalPreference> Agent<H, P> {
             × (emitted_of self.new ≡ emitted_by issued first second) }
     {
         let ahead = self.is_ahead_turn(now);
-        if let Some(number) = self.next_number(ahead, now) {
-            self.check_and_emit(number, ahead, now, rng);
+        let begins = self.nominates_at_once();
+        if let Some(number) = self.next_number(begins, ahead, now) {
+            self.check_and_emit(number, begins, ahead, now, rng);
         }
     }
 
@@ -277,12 +286,13 @@ impl<H: Sha1HmacProvider + Drop, P: LocalPreference> Agent<H, P> {
         expired: usize,
         rng: &mut R,
     ) -> Result<(), AllocError>
-        requires { expired ≡ outdated now.0 self.old.timing self.old.remote_creds (record_of self.old) }
+        requires first { same_state (record_of self.old).state New ≡ true }
+        requires expired { expired ≡ outdated now.0 self.old.timing self.old.remote_creds (record_of self.old) }
         ensures advanced { OnOk result (MaintainsPairs H.mac now.0 (timeout_begun now.0 (record_of self.old)) (R.stream rng.old) (emitted_of self.new)
             (record_of self.new) (R.stream rng.new)) }
         ensures unchanged { IfErr result (λ _. (record_of self.new ≡ record_of self.old) × (R.stream rng.new ≡ R.stream rng.old)) }
     {
-        let start = self.start_event()?;
+        let start = Some(IceAgentEvent::IceRestart(self.local_creds.clone()?));
         self.reserve_round_room(now)?;
         self.begin_timeout(now, start, expired);
         self.maintain_pairs(now, rng);

@@ -27,7 +27,7 @@ use std::alloc::AllocError;
 
 impl<H: Sha1HmacProvider + Drop, P: LocalPreference> Agent<H, P> {
     /// The start event, in New.
-    pub(crate) fn start_event(&self) -> Result<Option<IceAgentEvent>, AllocError>
+    fn start_event(&self) -> Result<Option<IceAgentEvent>, AllocError>
         ensures { IfOk result (λ event. event ≡ start_event (record_of self.now).state (record_of self.now).local_creds) }
     {
         if !same_state(self.state, IceConnectionState::New) {

@@ -5,7 +5,7 @@ ghost use Rattle.is_proto.specs.Packets.{packet_of};
 ghost use Rattle.is_c.specs.Slots.{held_record, held_by};
 ghost use Rattle.is_c_calls.specs.Held.{At};
 ghost use Rattle.is_c_calls.specs.Monitoring.{monitor_received, monitor_timed};
-ghost use Rattle.is_c_calls.specs.Packets.{packet_path, TakesBytes, HandlesDatagram, IsHandled, WritesTime, next_call_of};
+ghost use Rattle.is_c_calls.specs.Packets.{packet_path, HandlesDatagram, IsHandled, WritesTime, next_call_of};
 ghost use Rattle.is_c_calls.specs.Packets.{TakesNext, IsReported, GivesFirst, Gives};
 ghost use Rattle.is_c_calls.specs.Packets.{RunsTimers, TimesOutBy, PollsAgent, ReturnsTimeout, unless_done};
 ghost use Rattle.is_c_calls.specs.Following.{Followed, if_served, unless_settled};
@@ -48,9 +48,22 @@ fn see_packet(held: &mut HeldAgent, outcome: &Result<bool, IceError>, now: Insta
     }
 }
 
-fn take_bytes(held: &mut HeldAgent, now: u64, path: Path, bytes: &[u8]) -> i32
-    ensures { TakesBytes ⟦<DefaultSha1HmacProvider as Sha1HmacProvider>⟧.mac now path bytes.now (held_record held.old) result (held_record held.new) }
+fn receive(
+    held: &mut HeldAgent,
+    now: u64,
+    protocol: u8,
+    source: &Address,
+    destination: &Address,
+    bytes: &[u8],
+) -> i32
+    ensures step { HandlesDatagram ⟦<DefaultSha1HmacProvider as Sha1HmacProvider>⟧.mac now (packet_path protocol source.now destination.now) bytes.now
+        (held_record held.old) result (held_record held.new) }
+    ensures settled { IsHandled ⟦<DefaultSha1HmacProvider as Sha1HmacProvider>⟧.mac (packet_path protocol source.now destination.now) bytes.now
+        (held_record held.old) result (held_record held.new) }
 {
+    let Some(path) = packet_path(protocol, source, destination) else {
+        return codes::BAD_ADDRESS;
+    };
     match StunMessage::parse(bytes) {
         Ok(message) => {
             let packet = StunPacket {
@@ -65,25 +78,6 @@ fn take_bytes(held: &mut HeldAgent, now: u64, path: Path, bytes: &[u8]) -> i32
             codes::flag_code(outcome)
         }
         Err(_) => codes::UNPARSED,
-    }
-}
-
-fn receive(
-    held: &mut HeldAgent,
-    now: u64,
-    protocol: u8,
-    source: &Address,
-    destination: &Address,
-    bytes: &[u8],
-) -> i32
-    ensures step { HandlesDatagram ⟦<DefaultSha1HmacProvider as Sha1HmacProvider>⟧.mac now (packet_path protocol source.now destination.now) bytes.now
-        (held_record held.old) result (held_record held.new) }
-    ensures settled { IsHandled ⟦<DefaultSha1HmacProvider as Sha1HmacProvider>⟧.mac (packet_path protocol source.now destination.now) bytes.now
-        (held_record held.old) result (held_record held.new) }
-{
-    match packet_path(protocol, source, destination) {
-        Some(path) => take_bytes(held, now, path, bytes),
-        None => codes::BAD_ADDRESS,
     }
 }
 

@@ -1,7 +1,10 @@
 -- A step of serving ends it, or the next step follows in the state after it.
-use Rattle.std.proofs.Common.{◌≡◌, ℕ, ◌<◌, ◌&&◌, Bool, true, false, not, List, length, Option, Some, None, refl, ap, sym, ◌∙◌, subst}
+use Rattle.std.proofs.Common.{◌≡◌, ℕ, ◌<◌, ◌&&◌, Bool, true, false, not, List, [], ◌∷◌, ◌++◌, length, map, Option, Some, None, refl, ap, sym, ◌∙◌, subst}
+use Rattle.std.proofs.lemmas.List.{map-append}
 use Rattle.std.specs.Prelude.{MatchBool, MatchOption, is_some, if◌then◌else◌}
+use Rattle.is_proto.specs.Packets.{Packet, packet_of}
 use Rattle.is_proto.specs.Times.{MAX}
+use Rattle.is_proto.specs.declared.proto.Transmit.{Transmit}
 use Rattle.is_candidate.specs.Candidates.{CandidateRecord, candidate_at}
 use Rattle.is_candidate.specs.Equality.{TEMPORARY}
 use Rattle.is_candidate.specs.Making.{peer_reflexive_candidate}
@@ -25,6 +28,12 @@ use Rattle.is_rules.specs.Serving.{role_resolved, sender_added, sender_at, sende
 use Rattle.is_rules.specs.StateUpdates.{state_updated}
 use Rattle.is_agent.specs.Ready.{IsPlan}
 use Rattle.is_rules.proofs.ServedRequests.RulesInTurn.{FromCount, FromPair, FromSender, RecordsAndResponds}
+
+-- the packets after one was queued
+pub packet-queued : (queue : List Transmit) (t : Transmit) {p : Packet} {after : List Transmit} → after ≡ queue ++ t ∷ [] → packet_of t ≡ p
+    → map packet_of after ≡ map packet_of queue ++ p ∷ []
+packet-queued queue t after-is as-is =
+    ap (map packet_of) after-is ∙ map-append packet_of queue (t ∷ []) ∙ ap (λ q. map packet_of queue ++ q ∷ []) as-is
 
 needed : (pair : Option ℕ) (d : Bool) → pair ≡ None → d ≡ false → (not (is_some pair) && not d) ≡ true
 needed None true none live = absurd (cc)

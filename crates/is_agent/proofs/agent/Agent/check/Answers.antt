@@ -26,5 +26,5 @@ invariant_of-self-3-clause-room_suffices g c =
     let self = c.args.self.now in
     let begun = multiset_of c.begin_nomination.new.pairs in
     let checked = as-many-changed c.args.number (checked c.args.now.0 self.timing self.controlling c.new_attempt-id.result.0) begun in
-    let many = as-many-begun c.nominates_at_once-begins.result c.args.number renominated (multiset_of self.pairs) in
+    let many = as-many-begun c.args.begins c.args.number renominated (multiset_of self.pairs) in
     omega (arith, ap length c.new_attempt-id.ensures.sent, checked, ap length c.begin_nomination.ensures.begun, many, self.room_suffices)

@@ -82,7 +82,7 @@ returns-clause-served g c =
     (counted mac q e new at.local at.remote at.pair s1 s2 (sym c.is_misled.ensures ∙ c.if-is_misled.false) c.count_request.ensures.counted
     (joined mac q e new at.local r at.remote at.pair s2 s3 (sym c.add_sender.ensures.index ∙ c.in-Some.is) c.add_sender.ensures.added
     (paired mac q e new at.local r number at.pair s3 s4 (sym c.find_or_add_pair.ensures.number ∙ c.in-Some-find_or_add_pair.is) c.find_or_add_pair.ensures.added
-    (responded mac q e new at.local r number c.triggered_check.result.at.0 c.path_between-path.result c.evaluates_at-evaluates.result c.is_some.result c.nominate_where-selected_paths.result
+    (responded mac q e new at.local r number c.triggered_check-check.result.at.0 c.path_between-path.result c.evaluates_at-evaluates.result c.is_some.result c.nominate_where-selected_paths.result
     s4 (record_of c.serve_pair.new.self) (record_of c.nominate_where-selected_paths.new.self) (record_of c.update_state.new.self)
-    c.path_between-path.ensures c.triggered_check.ensures.at c.evaluates_at-evaluates.ensures c.serve_pair.ensures.served
+    c.path_between-path.ensures c.triggered_check-check.ensures.at c.evaluates_at-evaluates.ensures c.serve_pair.ensures.served
     c.nominate_where-selected_paths.ensures.nominates c.is_some.ensures c.update_state.ensures.updated c.reply.ensures.replied))))
