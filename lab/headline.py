@@ -130,7 +130,7 @@ def connected_are_alive(record: Record) -> Found:
 
 # ---- two agents
 
-def turns(records: Records) -> list[tuple[int, Entry]]:
+def made(records: Records) -> list[tuple[int, Entry]]:
     """Returns the calls on both, oldest first."""
     return sorted((x for record in records.values() for x in record.entries), key=lambda x: x[0])
 
@@ -138,7 +138,7 @@ def turns(records: Records) -> list[tuple[int, Entry]]:
 def are_carried(records: Records) -> bool:
     """Each packet that an agent accepted was got from the other one before (`AreCarried`)."""
     gave: dict[str, set[bytes]] = {side: set() for side in SIDES}
-    for _, e in turns(records):
+    for _, e in made(records):
         if e.call == "poll_transmit":
             gave[e.side].add(e.returned.contents)
         if e.call == "handle_packet" and e.returned is True and e.given[3] not in gave[other(e.side)]:
@@ -148,7 +148,7 @@ def are_carried(records: Records) -> bool:
 
 def is_begun(records: Records) -> bool:
     """No message is forged (`AreCarried`), and random bytes are fresh (`HaveFreshIds`)."""
-    ids = [e.given[1][:12] for _, e in turns(records) if e.call == "handle_timeout"]
+    ids = [e.given[1][:12] for _, e in made(records) if e.call == "handle_timeout"]
     return len(ids) == len(set(ids)) and are_carried(records)
 
 
@@ -236,7 +236,7 @@ def selected_are_traced(records: Records) -> Found:
         if not records[side].keeps_modern():
             continue
         traces = _Traces(side)
-        for at, e in turns(records):
+        for at, e in made(records):
             traces.add(e)
             if e.side == side and (path := selected(e)):
                 found.add(path in traces.traced, f"call {at}: {path[0]} {path[1]} was not traced")

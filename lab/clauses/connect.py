@@ -51,7 +51,7 @@ def lacking(n: Network, c: Choice) -> Lacks:
     part, whole = range(c.start, c.moment), range(c.start, c.moment + 1)
     asking, asked = n.x.rounds(other(c.side), c.asking, c.moment), n.x.rounds(c.side, c.asked, c.moment)
     return lacks(
-        IsNewAgent=are_new_agents(n.x),
+        IsNewlyCreated=are_new_agents(n.x),
         split=c.start <= min(c.asking, c.asked),
         IsControlled=is_controlled(n.x, c.side, whole),
         asking=has_rounds(n.x, other(c.side), c.its, asking, c.moment),

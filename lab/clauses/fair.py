@@ -9,7 +9,7 @@ from .execution import Execution, Lacks, lacks
 
 
 def is_new_agent(agent: Agent) -> bool:
-    """Whether the agent is as it was made, in either role and with either profile (`IsNewAgent`, `IsFresh`)."""
+    """Whether the agent is as it was made, in either role and with either profile (`IsNewlyCreated`, `IsFresh`)."""
     return agent == Agent(agent.creds, agent.tie_breaker, agent.controlling, timing=Timing(modern=agent.modern))
 
 

@@ -76,7 +76,7 @@ def lacking(x: Execution, c: Choice) -> Lacks:
     """Returns the preconditions that do not hold. Without a check there may be a reason: a success response, or a pair that may be gone."""
     rounds = c.rounds(x)
     is_checked = checked_at(x, c) is not None
-    return lacks(IsNewAgent=are_new_agents(x), has=has_rounds(x, c.side, c.path, rounds, c.end),
+    return lacks(IsNewlyCreated=are_new_agents(x), has=has_rounds(x, c.side, c.path, rounds, c.end),
                  punctual=delay(x, c.side, rounds) is not None,
                  Succeeds=is_checked or not succeeds_in(x, c.side, c.path, rounds),
                  MayEndInRounds=is_checked or not may_end_in_rounds(x, c.side, c.path, rounds))

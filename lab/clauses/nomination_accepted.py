@@ -31,7 +31,7 @@ def lacking(n: Network, c: Choice) -> Lacks:
     """Returns the preconditions that do not hold."""
     part, whole = range(c.start, c.moment), range(c.start, c.moment + 1)
     return lacks(
-        IsNewAgent=are_new_agents(n.x),
+        IsNewlyCreated=are_new_agents(n.x),
         IsControlled=is_controlled(n.x, c.side, whole),
         IsAskedOver=is_asked_over(n, c.side, c.path, part),
         IsExchangedOver=is_exchanged_over(n, c.side, c.path, part),

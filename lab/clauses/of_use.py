@@ -34,7 +34,7 @@ def deadline_of(x: Execution, c: Choice) -> int | None:
 
 
 def lacking(x: Execution, c: Choice) -> Lacks:
-    """Returns the preconditions that do not hold (`IsTurn`)."""
+    """Returns the preconditions that do not hold (`IsCycle`)."""
     start, deadline = x.state(c.asked, c.side), deadline_of(x, c)
     return lacks(IsFresh=is_new_agent(x.state(0, c.side)), AreTaken=c.queued == 0, timed_out=deadline is not None,
                  kept=deadline is None or deadline <= x.now(c.moment), polled=c.polled, IsChecking=is_checking(start),

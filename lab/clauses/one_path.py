@@ -83,7 +83,7 @@ def is_nominated_last(n: Network, c: Choice, part: range) -> Lacks:
 
 def is_segment(n: Network, c: Choice, whole: range) -> dict[str, bool | Lacks]:
     """Returns the parts of `IsControlledSegment`, and whether both have renomination."""
-    return {"IsNewAgent": are_new_agents(n.x), "IsControlled": is_controlled(n.x, c.side, whole),
+    return {"IsNewlyCreated": are_new_agents(n.x), "IsControlled": is_controlled(n.x, c.side, whole),
             "request_at": serves_no_request(n.x, c.side, c.moment), "IsOnlyPair": is_alone(n.x.state(c.moment + 1, c.side), c.path),
             "Renominate": renominate(n.x, whole)}
 

@@ -61,7 +61,7 @@ def lacking_with(n: Network, c: Choice, enough_for: Callable[[int, list[Round]],
     enough, more = rounds[:c.count], rounds[c.count:]
     pair, now = pair_of(agent, c.pair), rounds[0].now
     by = min(pair.due_at(now, agent.timing), now)
-    return lacks(IsNewAgent=are_new_agents(x), role=agent.controlling,
+    return lacks(IsNewlyCreated=are_new_agents(x), role=agent.controlling,
                  StaysControlling=x.is_controlling_in(c.side, range(c.first + 1, c.end + 1)), Awaits=awaits(now, by, agent, pair),
                  IsUnanswered=is_unanswered(agent, pair), AreKept=are_kept(x, c.side, by, enough),
                  enough=enough_for(by, enough), punctual=delay(x, c.side, enough) is not None,

@@ -33,7 +33,7 @@ def lacking(x: Execution, c: Choice) -> Lacks:
     rounds = c.rounds(x)
     pairs = x.state(c.first, c.side).on(c.path)
     is_checked = checked_at(x, c) is not None
-    return lacks(IsNewAgent=are_new_agents(x), has=fewest([has_rounds_for(x, c.side, p, rounds) for p in pairs], ["on"]),
+    return lacks(IsNewlyCreated=are_new_agents(x), has=fewest([has_rounds_for(x, c.side, p, rounds) for p in pairs], ["on"]),
                  punctual=delay(x, c.side, rounds) is not None,
                  Succeeds=is_checked or not succeeds_in(x, c.side, c.path, rounds),
                  MayEndInRounds=is_checked or not may_end_in_rounds(x, c.side, c.path, rounds))

@@ -32,7 +32,7 @@ def lacking(n: Network, c: Choice) -> Lacks:
     agent, part = n.x.state(c.first, c.side), range(c.first, c.end)
     rounds, path = rounds_of(n.x, c.side, c.first, c.count), agent.path(pair_of(agent, c.pair))
     answered = is_answered_in_time(n, c.side, path, part) if checks_in(n.x, c.side, path, rounds) else []
-    return lacks(IsNewAgent=are_new_agents(n.x), split=rounds[-1].moment < c.end, controlling=agent.controlling,
+    return lacks(IsNewlyCreated=are_new_agents(n.x), split=rounds[-1].moment < c.end, controlling=agent.controlling,
                  IsControlling=is_controlling(n.x, c.side, part), IsAnsweredInTime=answered, **waits(n.x, c.side, c.pair, rounds))
 
 

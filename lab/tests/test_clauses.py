@@ -117,7 +117,7 @@ class Rounds(unittest.TestCase):
         self.assertEqual(self.lacking(story.network(), 0, 2, end), ["split"])
 
     def test_new_agents(self) -> None:
-        self.assertEqual(self.lacking(self.answered().altered(0, "a", next_number=1)), ["IsNewAgent"])
+        self.assertEqual(self.lacking(self.answered().altered(0, "a", next_number=1)), ["IsNewlyCreated"])
 
     def test_the_side_is_controlling(self) -> None:
         story = self.answered()
@@ -264,7 +264,7 @@ class Granting(late.AtLastTimeout):
         self.assertEqual(nomination_accepted.find(story.network()), Verdict("", at(20), at(70), at(65)))
 
     def test_new_agents(self) -> None:
-        self.assertEqual(self.lacking(self.story().altered(0, "a", next_number=1)), ["IsNewAgent"])
+        self.assertEqual(self.lacking(self.story().altered(0, "a", next_number=1)), ["IsNewlyCreated"])
 
     def test_the_roles_differ(self) -> None:
         story = self.story()

@@ -26,7 +26,7 @@ class Connecting(late.Late):
         self.assertEqual(connect.find(self.story().network()), Verdict("", at(1), at(400), at(400), 1))
 
     def test_new_agents(self) -> None:
-        self.assertEqual(self.lacking(self.story().altered(0, "a", next_number=1)), ["IsNewAgent"])
+        self.assertEqual(self.lacking(self.story().altered(0, "a", next_number=1)), ["IsNewlyCreated"])
 
     def test_the_roles_differ(self) -> None:
         story = self.story()

@@ -171,7 +171,7 @@ class OnePath(unittest.TestCase):
     def test_the_preconditions(self) -> None:
         story = self.story()
         last = story.moments["b"][-1]
-        self.assertEqual(self.lacking(story.altered(0, "a", next_number=1)), ["IsNewAgent"])
+        self.assertEqual(self.lacking(story.altered(0, "a", next_number=1)), ["IsNewlyCreated"])
         self.assertEqual(self.lacking(self.story(renominate=False).network()), ["Renominate"])
         self.assertEqual(self.lacking(story.altered(last, "b", queue=(REQUEST,))), ["request_at"])
         self.assertEqual(self.lacking(story.altered(last, "a", controlling=False)), ["IsControlled"])

@@ -243,7 +243,7 @@ class OfTwoAgents(unittest.TestCase):
         self.assertEqual(selects_in_time.find(n), Verdict("", at(0), at(3 * 50 + 100), at(250), 4))
 
     def test_new_agents(self) -> None:
-        self.assertEqual(self.lacking(selecting().altered(0, "b", next_number=1)), ["IsNewAgent"])
+        self.assertEqual(self.lacking(selecting().altered(0, "b", next_number=1)), ["IsNewlyCreated"])
 
     def test_the_roles(self) -> None:
         self.assertEqual(self.altered("a", 0, controlling=False), ["role"])

@@ -376,7 +376,7 @@ class InTime(unittest.TestCase):
     """`World::run`."""
 
     of: Any = in_time
-    new, answered, ended = "IsNewAgent", "Succeeds", "MayEndInRounds"
+    new, answered, ended = "IsNewlyCreated", "Succeeds", "MayEndInRounds"
 
     def two_pairs(self) -> Story:
         """A has two pairs, and four timeouts. Both pairs are due at the first one."""

@@ -99,7 +99,7 @@ pub use Rattle.is.specs.Views.{answer_view, call_view, entry_view}
 pub use Rattle.is.specs.World.{at, Deliver, Delivers, drawn_by, Event, Happens, in_flight_of, in_world, InFlightRecord, IsWorldLog, logged}
 pub use Rattle.is.specs.World.{logged_as, LoggedEvent, moved_by, other, Outcome, outcome_of, Persists, plain, Poll, PolledInto, Polls, put}
 pub use Rattle.is.specs.World.{read_unless, roles_of, source_of, sources, Stray, Streams, TakesTurn, world_of, WorldRecord, WorldRun}
-pub use Rattle.is.specs.WorldRoles.{changes, ComparesTies, GreaterKeeps, HaveDistinctIds, IsFairWorld, IsNeverLite, IsNewAgent, IsNewWorld}
+pub use Rattle.is.specs.WorldRoles.{changes, ComparesTies, GreaterKeeps, HaveDistinctIds, IsFairWorld, IsNeverLite, IsNewWorld}
 pub use Rattle.is.specs.WorldRoles.{LesserSwitchesOnce, Makes, Meets, role_at, role_in, RolesDifferOnceMet, StaysFull, StaysOriginal}
 pub use Rattle.is.specs.declared.traces.Trace.{Trace}
 pub use Rattle.is.specs.declared.world_events.Side.{Side}

@@ -5,19 +5,19 @@ use Rattle.is_candidate.specs.Candidates.{CandidateRecord}
 use Rattle.is_rules.specs.declared.emitted.Path.{Path}
 use Rattle.is_theorems.specs.Asked.{IsOnlyPair}
 use Rattle.is_theorems.specs.Runs.{IsTopPath}
+use Rattle.is_theorems.specs.Shared.{IsNewlyCreated}
 use Rattle.is.specs.declared.world_events.Side.{Side}
 use Rattle.is.specs.Deliveries.{SelectsPath}
 use Rattle.is.specs.AcceptedNominationsIn.{Occurrence, IsControlled, IsPlainTimeout, IsAskedOver, IsExchangedOver, MayEndAt, occurrences_in}
 use Rattle.is.specs.Sides.{own_log}
 use Rattle.is.specs.World.{WorldRecord, LoggedEvent, WorldRun, at, Streams}
-use Rattle.is.specs.WorldRoles.{IsNewAgent}
 
 module _ {H P : Type 0} where
   -- Two agents are newly created. A segment of their log, in which the side is controlled, ends with a `handle_timeout` call of the
   -- side that serves no early request. After it only one of the side's pairs uses the path's addresses.
   pub record IsControlledSegment (first : WorldRecord H P) (all before part rest : List (Occurrence H P)) (timeout : Occurrence H P) (side : Side) (path : Path)
       : Type 0 where
-    pub new : (x : Side) → IsNewAgent (at x first)
+    pub new : (x : Side) → IsNewlyCreated (at x first)
     pub split : all ≡ before ++ ((part ++ timeout ∷ []) ++ rest)
     pub controlled : IsControlled side (part ++ timeout ∷ [])
     pub plain : IsPlainTimeout side timeout

@@ -9,11 +9,11 @@ use Rattle.is_theorems.specs.Logs as agent
 use Rattle.is_theorems.specs.Runs.{AtEach}
 use Rattle.is_theorems.specs.Limited.{FormsFewAt, IsLimitedAt}
 use Rattle.is_theorems.specs.Waiting.{IsShort, discovery_count}
+use Rattle.is_theorems.specs.Shared.{IsNewlyCreated}
 use Rattle.is.specs.declared.world_events.Side.{Side}
 use Rattle.is.specs.AcceptedNominationsIn.{Occurrence, occurrences_in}
 use Rattle.is.specs.Sides.{own_at, own_log}
 use Rattle.is.specs.World.{WorldRecord, LoggedEvent, WorldRun, at, Streams}
-use Rattle.is.specs.WorldRoles.{IsNewAgent}
 
 -- ---- one agent
 
@@ -44,7 +44,7 @@ module _ {H P : Type 0} where
     abbrev pub AfterEach : WorldRecord H P → Streams → List (LoggedEvent P) → (List (Occurrence H P) → Side → AgentRecord H P → Type 0) → Type 0
     AfterEach first s log Holds =
         (last : WorldRecord H P) (t : Streams) (run : WorldRun mac answers first s 0 log last t) (before rest : List (Occurrence H P)) (x : Occurrence H P) (side : Side)
-        → ((z : Side) → IsNewAgent (at z first)) → occurrences_in mac answers first s 0 log last t run ≡ (before ++ x ∷ []) ++ rest
+        → ((z : Side) → IsNewlyCreated (at z first)) → occurrences_in mac answers first s 0 log last t run ≡ (before ++ x ∷ []) ++ rest
         → Holds (before ++ x ∷ []) side (at side x.following)
 
     -- With its limit, a side has at most as many local candidates as the limit and its calls that add one together, likewise remote

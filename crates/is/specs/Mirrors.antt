@@ -6,10 +6,10 @@ use Rattle.is_pair.specs.Pairs.{PairRecord}
 use Rattle.is_rules.specs.declared.emitted.Path.{Path}
 use Rattle.is_rules.specs.Sending.{path_of}
 use Rattle.is_rules.specs.Emitted.{reversed}
+use Rattle.is_theorems.specs.Shared.{IsNewlyCreated}
 use Rattle.is.specs.declared.world_events.Side.{Side}
 use Rattle.is.specs.AcceptedNominationsIn.{Occurrence, occurrences_in}
 use Rattle.is.specs.World.{WorldRecord, LoggedEvent, WorldRun, at, other, Streams}
-use Rattle.is.specs.WorldRoles.{IsNewAgent}
 
 module _ {H P : Type 0} where
   -- The side selected the path.
@@ -26,7 +26,7 @@ module _ {H P : Type 0} where
     abbrev pub LonePathsMirror : WorldRecord H P → Streams → List (LoggedEvent P) → Type 0
     LonePathsMirror first s log =
         (last : WorldRecord H P) (t : Streams) (run : WorldRun mac answers first s 0 log last t) (x y : Occurrence H P) (side : Side) (path one two : Path)
-        → ((z : Side) → IsNewAgent (at z first))
+        → ((z : Side) → IsNewlyCreated (at z first))
         → ((z : Occurrence H P) → Has (occurrences_in mac answers first s 0 log last t run) z
         → KeepsTo side path z.before × KeepsTo (other side) (reversed path) z.before)
         → Has (occurrences_in mac answers first s 0 log last t run) x → Has (occurrences_in mac answers first s 0 log last t run) y

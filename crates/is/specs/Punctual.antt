@@ -5,12 +5,12 @@ use Rattle.is_proto.specs.Lists.{Has}
 use Rattle.is_candidate.specs.Candidates.{CandidateRecord}
 use Rattle.is_rules.specs.declared.emitted.Path.{Path}
 use Rattle.is_rules.specs.Steps as agent
+use Rattle.is_theorems.specs.Shared.{IsNewlyCreated}
 use Rattle.is.specs.declared.world_events.Side.{Side}
 use Rattle.is.specs.AcceptedNominationsIn.{Occurrence, occurrences_in}
 use Rattle.is.specs.Connections.{HasRounds, Succeeds}
 use Rattle.is.specs.Selections.{SideRound, state_after, RoundChecks, MayEndInRounds}
 use Rattle.is.specs.World.{WorldRecord, Streams, Call, LoggedEvent, WorldRun, at}
-use Rattle.is.specs.WorldRoles.{IsNewAgent}
 
 module _ {H P : Type 0} where
   -- One of these entries is a `poll_timeout` of the side, and `next` is at most `delay` later than the time that it returned.
@@ -46,7 +46,7 @@ module _ {H P : Type 0} where
     ChecksComeInTime first s log =
         (last : WorldRecord H P) (t : Streams) (run : WorldRun mac answers first s 0 log last t) (before part rest : List (Occurrence H P)) (side : Side) (path : Path)
         (pace delay : ℕ)
-        → ((x : Side) → IsNewAgent (at x first)) → occurrences_in mac answers first s 0 log last t run ≡ before ++ (part ++ rest)
+        → ((x : Side) → IsNewlyCreated (at x first)) → occurrences_in mac answers first s 0 log last t run ≡ before ++ (part ++ rest)
         → (has : HasRounds side path part (state_after first (before ++ part))) → IsTimed side pace delay has.first has.later
         → ChecksBy path (has.first.now + length has.later * (pace + delay)) (has.first ∷ has.later)
         ⊎ (((r : SideRound H P) × Has (has.first ∷ has.later) r × ((x : Occurrence H P) × Has r.following x × Succeeds side path x))

@@ -8,13 +8,13 @@ use Rattle.is_rules.specs.declared.emitted.Path.{Path}
 use Rattle.is_rules.specs.Sending.{path_of}
 use Rattle.is_rules.specs.Steps as agent
 use Rattle.is_theorems.specs.Progress.{Awaits, IsUnanswered}
+use Rattle.is_theorems.specs.Shared.{IsNewlyCreated}
 use Rattle.is.specs.declared.world_events.Side.{Side}
 use Rattle.is.specs.AcceptedNominationsIn.{Occurrence, occurrences_in}
 use Rattle.is.specs.Deliveries.{MakesInRound, SelectsPath}
 use Rattle.is.specs.Punctual.{IsTimed}
 use Rattle.is.specs.Selections.{SideRound, all_of, begins_modern, AreKept, MayEndInRounds, SufficeForPair, RoundChecks, IsAnsweredInTime}
 use Rattle.is.specs.World.{WorldRecord, Streams, Call, LoggedEvent, WorldRun, at, other}
-use Rattle.is.specs.WorldRoles.{IsNewAgent}
 
 module _ {H P : Type 0} where
   -- In the first ones of these rounds a check on the path is sent, delivered and answered (`IsAnsweredInTime`), and the other side is
@@ -44,7 +44,7 @@ module _ {H P : Type 0} where
   -- by the time `by`. The first round and the later ones suffice for this pair, as in `rounds` (`SufficeForPair`). In them its caller is
   -- punctual. More rounds may follow.
   pub record OpensInTime (created : WorldRecord H P) (all : List (Occurrence H P)) (side : Side) (pace delay : ℕ) : Type 0 where
-    pub new : (x : Side) → IsNewAgent (at x created)
+    pub new : (x : Side) → IsNewlyCreated (at x created)
     pub before : List (Occurrence H P)
     pub first : SideRound H P
     pub later : List (SideRound H P)

@@ -18,11 +18,11 @@ use Rattle.is_rules.specs.Sending.{path_of}
 use Rattle.is_rules.specs.Steps as agent
 use Rattle.is_theorems.specs.FirstChecks.{SufficeForDue}
 use Rattle.is_theorems.specs.FirstTimeouts.{Suffices}
+use Rattle.is_theorems.specs.Shared.{IsNewlyCreated}
 use Rattle.is.specs.declared.world_events.Side.{Side}
 use Rattle.is.specs.Deliveries.{MakesPolls, MakesInRound, SelectsPath}
 use Rattle.is.specs.AcceptedNominationsIn.{Occurrence, HandedCheck, IsReturnedInTime, MayEndAt, occurrences_in}
 use Rattle.is.specs.World.{WorldRecord, Call, LoggedEvent, WorldRun, at, other, Streams}
-use Rattle.is.specs.WorldRoles.{IsNewAgent}
 
 -- a `handle_timeout` call of a side, and what happens after it, oldest first
 pub record SideRound (H P : Type 0) : Type 0 where
@@ -131,7 +131,7 @@ module _ {H P : Type 0} where
   -- served on the pair, it is 2 * m after the first, fewer than m of which check other pairs before it (`ServedRoundsSuffice`).
   pub record IsControllingSegment (first : WorldRecord H P) (all before more rest : List (Occurrence H P)) (side : Side) (r : SideRound H P) (rounds : List (SideRound H P))
       (p : PairRecord) (by : ℕ) : Type 0 where
-    pub new : (x : Side) → IsNewAgent (at x first)
+    pub new : (x : Side) → IsNewlyCreated (at x first)
     pub split : all ≡ before ++ ((all_of (r ∷ rounds) ++ more) ++ rest)
     pub role : (at side r.timeout.before).controlling ≡ true
     pub controlling : IsControlling side (all_of (r ∷ rounds) ++ more)

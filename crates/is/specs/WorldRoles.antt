@@ -6,26 +6,19 @@ use Rattle.is_candidate.specs.Candidates.{CandidateRecord}
 use Rattle.is_stun.specs.declared.header.Class.TheVariants as class
 use Rattle.is_stun.specs.Message.{Message}
 use Rattle.is_stun.specs.Timing.{is_modern_profile}
-use Rattle.is_rules.specs.declared.credentials.IceCreds.{IceCreds}
 use Rattle.is_rules.specs.declared.emitted.Path.{Path}
 use Rattle.is_rules.specs.Request.{RequestRecord}
-use Rattle.is_rules.specs.Agent.{AgentRecord, fresh}
 use Rattle.is_rules.specs.Answers.{is_role_conflict}
 use Rattle.is_rules.specs.Steps as agent
 use Rattle.is_rules.specs.Brought.{Brings, IsServing, IsServedPastTests}
 use Rattle.is_rules.specs.Emitted.{issued_as}
+use Rattle.is_theorems.specs.Shared.{IsNewlyCreated}
 use Rattle.is.specs.declared.world_events.Side.{Side}
 use Rattle.is.specs.declared.world_events.Side.TheVariants.{A, B}
 use Rattle.is.specs.World as world
 use Rattle.is.specs.World.{WorldRecord, InFlightRecord, LoggedEvent, Event, at, other, in_world, Streams}
 
 -- ---- the preconditions
-
-module _ {H P : Type 0} where
-  -- a newly created agent, in either role
-  abbrev pub IsNewAgent : AgentRecord H P → Type 0
-  IsNewAgent a =
-      (creds : IceCreds) × (tie_breaker : ℕ) × (controlling : Bool) × (a ≡ record (fresh a.provider creds tie_breaker) { controlling = controlling })
 
 -- No two of the entries issued checks with the same transaction ID.
 abbrev pub HaveDistinctIds : {P : Type 0} → List (LoggedEvent P) → Type 0
@@ -52,7 +45,7 @@ ComparesTies side log = IsNeverLite side log ⊎ AllByRecursion (λ x. StaysOrig
 
 -- Both agents are newly created, no packet is in flight, and no two checks have the same ID.
 pub record IsNewWorld {H P : Type 0} (first : WorldRecord H P) (log : List (LoggedEvent P)) : Type 0 where
-  pub new : (side : Side) → IsNewAgent (at side first)
+  pub new : (side : Side) → IsNewlyCreated (at side first)
   pub empty : first.network ≡ []
   pub distinct : HaveDistinctIds log
 

@@ -19,8 +19,8 @@ mod world_theorems;
 
 pub use calls::{AgentCall, Answer, Call, Entry};
 pub use is_agent::{
-    IceAgent, IceAgentEvent, IceAgentStats, IceConnectionState, IceCreds, LocalCandidates,
-    Rejection, RemoteCandidates, Unserved,
+    IceAgent, IceAgentEvent, IceAgentStats, IceConnectionState, IceCreds, LiveCandidates,
+    Rejection, Unserved,
 };
 pub use is_candidate::{
     Candidate, CandidateBuilder, CandidateKind, FnPreference, JsonScratch, LocalPreference,

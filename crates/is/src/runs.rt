@@ -36,7 +36,7 @@ use is_theorems::selecting::{
     selected_are_nominated_by_peer, takers_are_valid, timeouts_select, waiting_are_answered,
     waiting_are_nominated_by_peer, waiting_are_selected,
 };
-use is_theorems::starving::turns_are_of_use;
+use is_theorems::starving::cycles_are_of_use;
 use is_theorems::timing::{none_is_starved_in_time, reached_in_time, selected_in_time};
 use is_theorems::transitions::{events_are_selected, settings_are_set};
 use rand_core::Rng;
@@ -295,7 +295,7 @@ pub fn run<H: Sha1HmacProvider + Drop, P: LocalPreference, R: Rng>(
     selected_have_consent::<H, P>();
     selected_are_alive::<H, P>();
     parts_are_runs::<H, P>();
-    turns_are_of_use::<H, P>();
+    cycles_are_of_use::<H, P>();
     open_rounds_select::<H, P>();
     due_rounds_select::<H, P>();
     reached_in_time::<H, P>();

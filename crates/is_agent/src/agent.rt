@@ -20,6 +20,7 @@ use is_rules::credentials::{IceCreds, are_too_long};
 use is_rules::emitted::Emitted;
 use is_rules::event::{IceAgentEvent, IceAgentStats, IceConnectionState};
 use is_rules::request::Waiting;
+use is_rules::settings::Settings;
 use is_stun::stun::{Consent, StunTiming};
 use std::alloc::Global;
 use std::collections::VecDeque;
@@ -39,9 +40,6 @@ macro_rules! sides {
 }
 
 pub(crate) use sides;
-
-/// The greatest number of pairs after forming, until another limit is set (RFC 8445, section 6.1.2.5).
-pub const DEFAULT_MAX_PAIRS: usize = 100;
 
 /// The greatest length of a packet in bytes, until another length is set.
 const DEFAULT_MTU: usize = 1150;
@@ -188,20 +186,21 @@ impl<H: Sha1HmacProvider + Drop, P: LocalPreference> Agent<H, P> {
         ensures record { record_of result ≡ fresh provider creds tie_breaker }
         ensures emitted { emitted_of result ≡ nothing_emitted }
     {
+        let settings = Settings::original();
         let timing = StunTiming::default();
         let kept_consent = timing.consent();
         let local_key = HmacKey::new(creds.pass.as_str().as_bytes());
         Agent {
             provider,
             preference: None,
-            max_pairs: DEFAULT_MAX_PAIRS,
-            max_discovered: None,
-            max_candidates: None,
+            max_pairs: settings.max_pairs,
+            max_discovered: settings.max_discovered,
+            max_candidates: settings.max_candidates,
             timing,
             kept_consent,
-            timing_advance: Duration(50_000_000),
+            timing_advance: settings.timing_advance,
             lite: false,
-            renominates: false,
+            renominates: settings.renomination,
             mtu: DEFAULT_MTU,
             mtu_warn: DEFAULT_MTU_WARN,
             local_creds: creds,

@@ -19,7 +19,7 @@ use is_pair::pair::CandidatePair;
 use is_proto::Sha1HmacProvider;
 use is_rules::checking::Draft;
 use is_rules::emitted::Path;
-use is_rules::places::{address_at, base_at, check_priority_at, proto_at};
+use is_rules::places::{check_priority_at, path_at};
 use is_rules::reply::write_signed;
 use is_stun::stun::{StunMessage, TransId};
 use is_stun::theorems::checks_fit;
@@ -31,11 +31,7 @@ impl<H: Sha1HmacProvider + Drop, P: LocalPreference> Agent<H, P> {
         requires remote { r < length self.now.remote.items }
         ensures { result ≡ path_between (record_of self.now) l r }
     {
-        Path {
-            proto: proto_at(&self.local, l),
-            source: base_at(&self.local, l),
-            destination: address_at(&self.remote, r),
-        }
+        path_at(&self.local, &self.remote, l, r)
     }
 
     pub(crate) fn path_of(&self, pair: &CandidatePair) -> Path

@@ -41,6 +41,6 @@ pub use added::Addition;
 pub use agent::{Agent, IceAgent};
 pub use is_rules::credentials::IceCreds;
 pub use is_rules::event::{IceAgentEvent, IceAgentStats, IceConnectionState};
-pub use questions::{LocalCandidates, RemoteCandidates};
+pub use questions::LiveCandidates;
 pub use rejecting::Rejection;
 pub use unserved::Unserved;

@@ -2,9 +2,8 @@
 
 ghost use Rattle.std.specs.Prelude.{◌≡◌, length, option_map};
 ghost use Rattle.std.specs.Option.{option_copied};
-ghost use Rattle.is_pair.specs.Pairs.{is_valid};
 ghost use Rattle.is_agent.specs.View.{record_of};
-ghost use Rattle.is_agent.specs.Listed.{local_left, remote_left};
+ghost use Rattle.is_agent.specs.Listed.{live_left};
 ghost use Rattle.is_rules.specs.Local.{count_alike};
 ghost use Rattle.is_rules.specs.Questions.{live, is_viable_at, has_viable_remote, FindsEquivalent, FindsValidPath, nominated_pair, nominated_rtt};
 ghost use Rattle.is_rules.specs.Questions.{nominated_total_rtt, nominated_responses};
@@ -14,19 +13,20 @@ use is_candidate::candidate::address::same_address;
 use is_candidate::candidate::internals::is_discarded;
 use is_candidate::{Candidate, LocalPreference};
 use is_pair::checklist::PairTest;
-use is_pair::pair::{CandidatePair, CheckState};
+use is_pair::pair::CandidatePair;
 use is_proto::{Duration, Sha1HmacProvider};
 use is_rules::emitted::Path;
 use is_rules::event::IceAgentStats;
 use is_rules::local::count_alike;
 use is_rules::nomination::pair_selected;
+use is_rules::pairs::Valid;
 use is_rules::places::address_at;
 use is_rules::remote::Equivalent;
 use std::net::SocketAddr;
 
-/// The candidates of a list that are not discarded.
+/// The candidates of a side that are not discarded, in the order in which they were added: each once, and then none.
 #[derive(Clone, Drop)]
-struct LiveCandidates<'a> {
+pub struct LiveCandidates<'a> {
     rest: &'a [Candidate],
 }
 
@@ -51,55 +51,6 @@ impl<'a> Iterator for LiveCandidates<'a> {
     }
 }
 
-/// The local candidates that are not discarded, in the order in which they were added: each once, and then none.
-#[derive(Clone, Drop)]
-pub struct LocalCandidates<'a> {
-    live: LiveCandidates<'a>,
-}
-
-impl<'a> Iterator for LocalCandidates<'a> {
-    type Item = &'a Candidate;
-
-    ghost use Rattle.std.specs.Iterator.{YieldsFirstRef, item_count};
-    ghost use Rattle.is_agent.specs.Listed.{local_left};
-
-    ghost next_gives = { YieldsFirstRef local_left };
-
-    ghost remaining = { item_count local_left };
-
-    fn next(&mut self) -> Option<&'a Candidate> {
-        self.live.next()
-    }
-}
-
-/// The remote candidates that are not discarded, in the order in which they were added: each once, and then none.
-#[derive(Clone, Drop)]
-pub struct RemoteCandidates<'a> {
-    live: LiveCandidates<'a>,
-}
-
-impl<'a> Iterator for RemoteCandidates<'a> {
-    type Item = &'a Candidate;
-
-    ghost use Rattle.std.specs.Iterator.{YieldsFirstRef, item_count};
-    ghost use Rattle.is_agent.specs.Listed.{remote_left};
-
-    ghost next_gives = { YieldsFirstRef remote_left };
-
-    ghost remaining = { item_count remote_left };
-
-    fn next(&mut self) -> Option<&'a Candidate> {
-        self.live.next()
-    }
-}
-
-/// A check on the pair succeeded.
-fn is_valid(pair: &CandidatePair) -> bool
-    ensures { result ≡ is_valid pair.now }
-{
-    pair.state() == CheckState::Succeeded
-}
-
 /// Whether a pair is valid, and its remote candidate has an address.
 #[derive(Clone, Copy)]
 struct ViableAt<'a> {
@@ -115,44 +66,26 @@ impl PairTest for ViableAt<'_> {
 
     fn passes(&self, pair: &CandidatePair) -> bool {
         pair.remote_idx() < self.remote.len()
-            && is_valid(pair)
+            && Valid.passes(pair)
             && same_address(address_at(self.remote, pair.remote_idx()), self.address)
-    }
-}
-
-/// Whether a pair is valid.
-#[derive(Clone, Copy)]
-struct Valid;
-
-impl PairTest for Valid {
-    ghost use Rattle.is_pair.specs.Pairs.{is_valid};
-
-    ghost passes = { λ _ p. is_valid p };
-
-    fn passes(&self, pair: &CandidatePair) -> bool {
-        is_valid(pair)
     }
 }
 
 impl<H: Sha1HmacProvider + Drop, P: LocalPreference> Agent<H, P> {
     /// The local candidates that are not discarded. Does not allocate.
-    pub fn local_candidates(&self) -> LocalCandidates<'_>
-        ensures { local_left result ≡ live (record_of self.now).local }
+    pub fn local_candidates(&self) -> LiveCandidates<'_>
+        ensures { live_left result ≡ live (record_of self.now).local }
     {
         let rest = &self.local;
-        LocalCandidates {
-            live: LiveCandidates { rest },
-        }
+        LiveCandidates { rest }
     }
 
     /// The remote candidates that are not discarded. Does not allocate.
-    pub fn remote_candidates(&self) -> RemoteCandidates<'_>
-        ensures { remote_left result ≡ live (record_of self.now).remote }
+    pub fn remote_candidates(&self) -> LiveCandidates<'_>
+        ensures { live_left result ≡ live (record_of self.now).remote }
     {
         let rest = &self.remote;
-        RemoteCandidates {
-            live: LiveCandidates { rest },
-        }
+        LiveCandidates { rest }
     }
 
     /// Counters since the last ICE restart.

@@ -1,16 +1,16 @@
 -- What C can query of an agent, which is unchanged.
-use Rattle.std.specs.Prelude.{◌≡◌, ℕ, List, length, Option, Some, None, MatchOption, unwrap_or, slice_get, ◌⊎◌, ℤ}
+use Rattle.std.specs.Prelude.{◌≡◌, ℕ, List, length, Option, Some, None, MatchOption, unwrap_or, slice_get, ◌⊎◌, ℤ, pos}
 use Rattle.is_candidate.specs.Candidates.{CandidateRecord}
 use Rattle.is_candidate.specs.Sdp.{sdp_text}
 use Rattle.is_rules.specs.declared.event.IceAgentStats.{IceAgentStats}
 use Rattle.is_rules.specs.Questions.{live, has_viable_remote, ice_timeout}
+use Rattle.is_rules.specs.States.{state_number}
 use Rattle.is_rules.specs.declared.credentials.IceCreds.{IceCreds}
 use Rattle.is_c.specs.declared.questions.Stats.{Stats}
 use Rattle.is_c.specs.declared.questions.Status.{Status}
 use Rattle.is_c_calls.specs.declared.address.Address.{Address}
 use Rattle.is_c_calls.specs.Addresses.{socket_of}
 use Rattle.is_c_calls.specs.Codes.{OK, NOTHING, BAD_ADDRESS, OUT_OF_MEMORY, found_code}
-use Rattle.is_c_calls.specs.Events.{state_number}
 use Rattle.is_c_calls.specs.Held.{Held, HeldRecord}
 use Rattle.is_c_calls.specs.Limits.{NO_LIMIT}
 use Rattle.is_c_calls.specs.Texts.{Puts, PutsNone}
@@ -18,7 +18,7 @@ use Rattle.is_c_calls.specs.Texts.{Puts, PutsNone}
 -- `is_ice_status`
 abbrev pub IsStatus : HeldRecord → Status → Type 0
 IsStatus h s =
-    (s.state ≡ state_number h.agent.state) × (s.controlling ≡ h.agent.controlling) × (s.lite ≡ h.agent.lite)
+    (s.state ≡ pos (state_number h.agent.state)) × (s.controlling ≡ h.agent.controlling) × (s.lite ≡ h.agent.lite)
     × (s.mtu ≡ h.agent.mtu) × (s.mtu_warn ≡ h.agent.mtu_warn) × (s.ice_timeout ≡ ice_timeout h.agent)
     × (s.max_candidates ≡ unwrap_or h.agent.max_candidates NO_LIMIT)
 

@@ -107,4 +107,4 @@ pub use Rattle.is_c_theorems.specs.Seen.{Accepts, Gets, is_clear, is_restart, Is
 pub use Rattle.is_c_theorems.specs.Seen.{Selects, Since}
 pub use Rattle.is_c_theorems.specs.TwoAgents.{A, AreCarried, B, Before, Begins, Gave, GivesAnswer, GivesCheck, GreaterKeepsRole}
 pub use Rattle.is_c_theorems.specs.TwoAgents.{HaveFreshIds, id_of, IsFair, LesserSwitchesOnce, other, role_at, RolesStayOpposite}
-pub use Rattle.is_c_theorems.specs.TwoAgents.{SelectedAreTraced, Sessions, Side, TakesAnswer, TakesCheck, Turn}
+pub use Rattle.is_c_theorems.specs.TwoAgents.{SelectedAreTraced, Sessions, Side, SideCall, TakesAnswer, TakesCheck}

@@ -9,7 +9,8 @@ use Rattle.is_c_theorems.proofs.Common.{FreshIsSound, Gave, Gets, Has, HaveFresh
 use Rattle.is_c_theorems.proofs.Common.{IsSound, Issued, issued_as, IsToPoll, length, List, lite_set_by, mac_of, map, Message, NeverLite}
 use Rattle.is_c_theorems.proofs.Common.{newborn, None, not, Option, other, Path, PathTheorem, Preference, quiet, Reads, refl, role_at}
 use Rattle.is_c_theorems.proofs.Common.{Sessions, SetControlling, SetLite, sets_role, setters_of, setters_onto, SetTieBreaker, Settings}
-use Rattle.is_c_theorems.proofs.Common.{settings_of, settings_onto, Side, Some, subst, sym, TradeTheorem, true, Turn, Use, Used, via_out, ℕ}
+use Rattle.is_c_theorems.proofs.Common.{settings_of, settings_onto, Side, SideCall, Some, subst, sym, TradeTheorem, true, Use, Used}
+use Rattle.is_c_theorems.proofs.Common.{via_out, ℕ}
 use Rattle.is_c_theorems.proofs.CallsAsSteps.{never}
 use Rattle.is_c_theorems.proofs.ClaimedRoles.{not_other, one_side, Note, note, Within, AreDistinct, add_by, add, add_within, add_has}
 use Rattle.is_c_theorems.proofs.ClaimedRoles.{Setting, Fact, Mind, fact_on, mind_on, mind_next, lesser_now}
@@ -21,12 +22,12 @@ use Rattle.is_c_theorems.proofs.SettingsOfCalls.{Log, new_settings, never_lite}
 -- ---- the checks of both agents, by C's calls
 
 -- each check was issued at one of these calls, in this order
-abbrev pub NotesOf : List Turn → List Note → Type 0
+abbrev pub NotesOf : List SideCall → List Note → Type 0
 NotesOf [] ns = ns ≡ []
 NotesOf (x ∷ before) ns =
     NotesOf before ns ⊎ ((n : Note) × (rest : List Note) × (ns ≡ n ∷ rest) × (id_of x.used ≡ Some n.id) × NotesOf before rest)
 
-noted_by : (turns : List Turn) (ns : List Note) → NotesOf turns ns → (n : Note) → Has ns n → (x : Turn) × Has turns x × (id_of x.used ≡ Some n.id)
+noted_by : (made : List SideCall) (ns : List Note) → NotesOf made ns → (n : Note) → Has ns n → (x : SideCall) × Has made x × (id_of x.used ≡ Some n.id)
 noted_by [] ns is n has = absurd (subst (λ (l : List Note). Has l n) is has)
 noted_by (x ∷ before) ns (inl notes) n has = let k = noted_by before ns notes n has in (k.0, inr k.1, k.2)
 noted_by (x ∷ before) ns (inr (m, rest, is, drawn, notes)) n has = elim (subst (λ (l : List Note). Has l n) is has) [
@@ -34,7 +35,7 @@ noted_by (x ∷ before) ns (inr (m, rest, is, drawn, notes)) n has = elim (subst
   | inr there ↦ (let k = noted_by before rest notes n there in (k.0, inr k.1, k.2))
 ]
 
-pub distinct_notes : (turns : List Turn) (ns : List Note) → NotesOf turns ns → HaveFreshIds turns → AreDistinct ns
+pub distinct_notes : (made : List SideCall) (ns : List Note) → NotesOf made ns → HaveFreshIds made → AreDistinct ns
 distinct_notes [] ns is fresh a b has_a has_b same_id = absurd (subst (λ (l : List Note). Has l a) is has_a)
 distinct_notes (x ∷ before) ns (inl notes) fresh a b has_a has_b same_id = distinct_notes before ns notes fresh.1 a b has_a has_b same_id
 distinct_notes (x ∷ before) ns (inr (n, rest, is, drawn, notes)) fresh a b has_a has_b same_id =
@@ -48,7 +49,7 @@ distinct_notes (x ∷ before) ns (inr (n, rest, is, drawn, notes)) fresh a b has
       by on (inr there) (inl here) = absurd (old a there (ap (λ (y : Note). y.id) here ∙ sym same_id))
       by on (inr one_) (inr two_) = on one_ two_ same_id
 
-notes_next : (x : Turn) (before : List Turn) (ns : List Note) (side : Side) (role : Bool) (e : Entry) → Draws x.used e → NotesOf before ns
+notes_next : (x : SideCall) (before : List SideCall) (ns : List Note) (side : Side) (role : Bool) (e : Entry) → Draws x.used e → NotesOf before ns
     → NotesOf (x ∷ before) (add side role e.emitted.issued ns)
 notes_next x before ns side role e draws notes = by e.emitted.issued refl where
   by_class : (i : Issued) (c : Class) → i.class ≡ c → e.emitted.issued ≡ Some i → NotesOf (x ∷ before) (add_by c (note side i.id.0 i.path role) ns)
@@ -92,7 +93,7 @@ abbrev pub Opening : Type 0
 Opening = Side → List Used
 
 -- the calls on the slot of a side, after those that opened it
-abbrev pub calls : Opening → Side → List Turn → List Used
+abbrev pub calls : Opening → Side → List SideCall → List Used
 calls opening side [] = opening side
 calls opening side (x ∷ before) = pick (same_side x.side side) x.used (calls opening side before)
 
@@ -120,11 +121,11 @@ kept_marks (SetTieBreaker n) is = let no : false ≡ true = search is in never n
 kept_marks _ is = refl
 
 -- C keeps the roles at all these calls.
-abbrev pub AllKeep : List Turn → Type 0
-AllKeep turns = (x : Turn) → Has turns x → keeps_role x.used.export ≡ true
+abbrev pub AllKeep : List SideCall → Type 0
+AllKeep made = (x : SideCall) → Has made x → keeps_role x.used.export ≡ true
 
 module _ (opening : Opening) (only : (side : Side) → EachKeeps two.sets_role (opening side)) where
-  full_calls : (side : Side) (turns : List Turn) → AllKeep turns → EachKeeps full_use (calls opening side turns)
+  full_calls : (side : Side) (made : List SideCall) → AllKeep made → EachKeeps full_use (calls opening side made)
   full_calls side [] keeps u has = set_full u.export (only side u has)
   full_calls side (x ∷ before) keeps u has = by (λ there. full_calls side before (λ y h. keeps y (inr h)) u there) (same_side x.side side) has where
     by : (Has (calls opening side before) u → full_use u.export ≡ true) → (b : Bool) → Has (pick b x.used (calls opening side before)) u → full_use u.export ≡ true
@@ -196,16 +197,16 @@ module _ (paths : Paths) (trades : Trades) (fresh : Fresh) (turn : Turns) (creds
   sound_run tie (x ∷ before) last (mid, s, t, run, given, step) = (paths mid last s t x.call x.entry (sound_run tie before mid run) given step).1
 
 -- what the agent of a side knows, and what C got from it
-pub record Half (z : Setting) (ns : List Note) (turns : List Turn) (side : Side) (uses : List Used) (creds : IceCreds) (held : HeldRecord) : Type 0 where
+pub record Half (z : Setting) (ns : List Note) (made : List SideCall) (side : Side) (uses : List Used) (creds : IceCreds) (held : HeldRecord) : Type 0 where
   pub log : Log
   pub logs : IsLogOf uses log
   pub run : Ran (newborn creds (z.tie side)) log held.agent
   pub mind : Mind z ns side held.agent
   pub waiting : (p : packets.Packet) → held.waiting ≡ Some p → (m : Message) → Reads p.contents m → Fact z ns side (via_out p) m.class m
-  pub got : (x : Turn) (to : Path) (bytes : List ℕ) (m : Message) → Has turns x → x.side ≡ side → Gets x.used to bytes → Reads bytes m → Fact z ns side to m.class m
+  pub got : (x : SideCall) (to : Path) (bytes : List ℕ) (m : Message) → Has made x → x.side ≡ side → Gets x.used to bytes → Reads bytes m → Fact z ns side to m.class m
   pub issued : (path : Path) (id : List ℕ) → Issued_in log path id → (role : Bool) × Has ns (note side id path role)
 
-module _ (z : Setting) (ns more : List Note) (on : Within ns more) (x : Turn) (before : List Turn) (creds : IceCreds) where
+module _ (z : Setting) (ns more : List Note) (on : Within ns more) (x : SideCall) (before : List SideCall) (creds : IceCreds) where
   half_other : (side : Side) (uses : List Used) (held after : HeldRecord) → (x.side ≡ side → ⊥) → after ≡ held → Half z ns before side uses creds held
       → Half z more (x ∷ before) side uses creds after
   half_other side uses held after apart same_held_agent h = subst (λ (k : HeldRecord). Half z more (x ∷ before) side uses creds k) (sym same_held_agent) (record {
@@ -215,7 +216,7 @@ module _ (z : Setting) (ns more : List Note) (on : Within ns more) (x : Turn) (b
     mind = mind_on z ns more on side held.agent h.mind;
     waiting = λ p is m reads. fact_on z ns more on side (via_out p) m.class m (h.waiting p is m reads);
     got = λ y to bytes m has is gets reads. elim has [
-      | inl here ↦ absurd (apart (ap (λ (t : Turn). t.side) here ∙ is))
+      | inl here ↦ absurd (apart (ap (λ (t : SideCall). t.side) here ∙ is))
       | inr there ↦ fact_on z ns more on side to m.class m (h.got y to bytes m there is gets reads)
     ];
     issued = λ path id is. (let k = h.issued path id is in (k.0, on _ k.1));
@@ -242,7 +243,7 @@ module _ (z : Setting) (ns more : List Note) (on : Within ns more) (x : Turn) (b
       mind = mind;
       waiting = λ p is m reads. to_poll p (waited_before x.used.export x.used.code mid held p does is) m reads;
       got = λ y to bytes m has is gets reads. elim has [
-        | inl here ↦ got_now to bytes m (subst (λ (t : Turn). Gets t.used to bytes) (sym here) gets) reads
+        | inl here ↦ got_now to bytes m (subst (λ (t : SideCall). Gets t.used to bytes) (sym here) gets) reads
         | inr there ↦ fact_on z ns more on x.side to m.class m (h.got y to bytes m there is gets reads)
       ];
       issued = issued;
@@ -250,18 +251,18 @@ module _ (z : Setting) (ns more : List Note) (on : Within ns more) (x : Turn) (b
 
 -- ---- lists of calls on both slots
 
-pub same_last : (first : Side → HeldRecord) (turns : List Turn) (a b : Side → HeldRecord) → ((side : Side) → b side ≡ a side) → Sessions first turns a → Sessions first turns b
+pub same_last : (first : Side → HeldRecord) (made : List SideCall) (a b : Side → HeldRecord) → ((side : Side) → b side ≡ a side) → Sessions first made a → Sessions first made b
 same_last first [] a b is same_held = λ side. is side ∙ same_held side
-same_last first (y ∷ turns) a b is (m, s, d, o) =
+same_last first (y ∷ made) a b is (m, s, d, o) =
     (m, s, subst (λ (k : HeldRecord). Does y.used.export (m y.side) y.used.code k) (sym (is y.side)) d, is (other y.side) ∙ o)
 
-pub joined : (first : Side → HeldRecord) (before later : List Turn) (mid last : Side → HeldRecord) → Sessions first before mid → Sessions mid later last → Sessions first (later ++ before) last
+pub joined : (first : Side → HeldRecord) (before later : List SideCall) (mid last : Side → HeldRecord) → Sessions first before mid → Sessions mid later last → Sessions first (later ++ before) last
 joined first before [] mid last session same_held = same_last first before mid last same_held session
 joined first before (y ∷ later) mid last session (m, s, d, o) = (m, joined first before later mid m session s, d, o)
 
 -- ---- a call
 
-pub got_of : (P : Turn → List Turn → Type 0) (turns : List Turn) → Before P turns → (x : Turn) × (earlier : List Turn) × Has turns x × P x earlier
+pub got_of : (P : SideCall → List SideCall → Type 0) (made : List SideCall) → Before P made → (x : SideCall) × (earlier : List SideCall) × Has made x × P x earlier
 got_of P [] none = absurd none
 got_of P (x ∷ before) (inl here) = (x, before, inl refl, here)
 got_of P (x ∷ before) (inr there) = let (y, earlier, has, is) = got_of P before there in (y, earlier, inr has, is)
@@ -269,20 +270,20 @@ got_of P (x ∷ before) (inr there) = let (y, earlier, has, is) = got_of P befor
 module _ (paths : Paths) (trades : Trades) (fresh : Fresh) (turn : Turns) (z : Setting) (opening : Opening) (only : (side : Side) → EachKeeps two.sets_role (opening side))
     (creds : Side → IceCreds) where
   -- what is known after C's calls
-  pub record Known (turns : List Turn) (all_held : Side → HeldRecord) : Type 0 where
+  pub record Known (made : List SideCall) (all_held : Side → HeldRecord) : Type 0 where
     pub ns : List Note
-    pub notes : NotesOf turns ns
-    pub half : (side : Side) → Half z ns turns side (calls opening side turns) (creds side) (all_held side)
+    pub notes : NotesOf made ns
+    pub half : (side : Side) → Half z ns made side (calls opening side made) (creds side) (all_held side)
 
   -- after one more call on the slot of a side
-  record Next (ns : List Note) (x : Turn) (before : List Turn) (mid held : HeldRecord) : Type 0 where
+  record Next (ns : List Note) (x : SideCall) (before : List SideCall) (mid held : HeldRecord) : Type 0 where
     more : List Note
     on : Within ns more
     notes : NotesOf (x ∷ before) more
     own : Half z more (x ∷ before) x.side (x.used ∷ calls opening x.side before) (creds x.side) held
     stays : z.ranked ≡ true → x.side ≡ other z.greater → mid.agent.controlling ≡ not z.role → held.agent.controlling ≡ not z.role
 
-  module _ (x : Turn) (before : List Turn) (mid : Side → HeldRecord) (held : HeldRecord) (does : Does x.used.export (mid x.side) x.used.code held)
+  module _ (x : SideCall) (before : List SideCall) (mid : Side → HeldRecord) (held : HeldRecord) (does : Does x.used.export (mid x.side) x.used.code held)
       (k : Known before mid) (keeps : z.ranked ≡ true → AllKeep (x ∷ before)) (carried : AreCarried (x ∷ before)) (ids : HaveFreshIds (x ∷ before)) where
     old : Held
     old = (mid x.side).agent
@@ -382,8 +383,8 @@ module _ (paths : Paths) (trades : Trades) (fresh : Fresh) (turn : Turns) (z : S
 
   -- ---- all calls
 
-  pub known : (first : Side → HeldRecord) → Known [] first → (turns : List Turn) (last : Side → HeldRecord) → Sessions first turns last
-      → (z.ranked ≡ true → AllKeep turns) → AreCarried turns → HaveFreshIds turns → Known turns last
+  pub known : (first : Side → HeldRecord) → Known [] first → (made : List SideCall) (last : Side → HeldRecord) → Sessions first made last
+      → (z.ranked ≡ true → AllKeep made) → AreCarried made → HaveFreshIds made → Known made last
   known first start [] last same_held keeps carried ids = record {
     ns = start.ns;
     notes = start.notes;
@@ -392,7 +393,7 @@ module _ (paths : Paths) (trades : Trades) (fresh : Fresh) (turn : Turns) (z : S
   known first start (x ∷ before) last (mid, session, does, others) keeps carried ids =
       known_next x before mid (last x.side) does (known first start before mid session (λ ranked y has. keeps ranked y (inr has)) carried.1 ids.1) keeps carried ids last refl others
 
-  pub lesser_stays : z.ranked ≡ true → (first : Side → HeldRecord) → Known [] first → (before later : List Turn) (mid last : Side → HeldRecord) → Sessions first before mid → Sessions mid later last
+  pub lesser_stays : z.ranked ≡ true → (first : Side → HeldRecord) → Known [] first → (before later : List SideCall) (mid last : Side → HeldRecord) → Sessions first before mid → Sessions mid later last
       → AllKeep (later ++ before) → AreCarried (later ++ before) → HaveFreshIds (later ++ before)
       → role_at (other z.greater) mid ≡ not z.role → role_at (other z.greater) last ≡ not z.role
   lesser_stays ranked first start before [] mid last session same_held keeps carried ids was = ap (λ (o : HeldRecord). o.agent.controlling) (same_held (other z.greater)) ∙ was

@@ -5,8 +5,8 @@ use Rattle.is_c_theorems.proofs.Common.{[], ◌&&◌, ◌++◌, ◌<◌, ◌∙�
 use Rattle.is_c_theorems.proofs.Common.{controlling_set, Does, EachKeeps, false, FixTimes, fresh_held, GreaterKeepsRole, HaveFreshIds, Held}
 use Rattle.is_c_theorems.proofs.Common.{HeldRecord, IceCreds, inl, inr, IsFair, IsLogOf, keeps_role, LesserSwitchesOnce, List, mac_of}
 use Rattle.is_c_theorems.proofs.Common.{modern_settings, newborn, NextTimeoutFrom, None, not, Option, other, Path, refl, role_at}
-use Rattle.is_c_theorems.proofs.Common.{RolesStayOpposite, Session, Sessions, SetControlling, setters_of, Side, Some, subst, sym, true}
-use Rattle.is_c_theorems.proofs.Common.{Turn, Use, Used, ℕ, ℤ}
+use Rattle.is_c_theorems.proofs.Common.{RolesStayOpposite, Session, Sessions, SetControlling, setters_of, Side, SideCall, Some, subst, sym}
+use Rattle.is_c_theorems.proofs.Common.{true, Use, Used, ℕ, ℤ}
 use Rattle.is_c_theorems.proofs.CallsAsSteps.{never, either}
 use Rattle.is_c_theorems.proofs.ClaimedRoles.{not_self, Setting, Mind}
 use Rattle.is_c_theorems.proofs.IssuedRequests.{checks_none, unless_timeout}
@@ -88,44 +88,44 @@ one_of false false = inl refl
 
 -- ---- parts of a list of calls
 
-carried_rest : (later before : List Turn) → AreCarried (later ++ before) → AreCarried before
+carried_rest : (later before : List SideCall) → AreCarried (later ++ before) → AreCarried before
 carried_rest [] before all = all
 carried_rest (x ∷ later) before all = carried_rest later before all.1
 
-fresh_rest : (later before : List Turn) → HaveFreshIds (later ++ before) → HaveFreshIds before
+fresh_rest : (later before : List SideCall) → HaveFreshIds (later ++ before) → HaveFreshIds before
 fresh_rest [] before all = all
 fresh_rest (x ∷ later) before all = fresh_rest later before all.1
 
-keep_rest : (later before : List Turn) → AllKeep (later ++ before) → AllKeep before
+keep_rest : (later before : List SideCall) → AllKeep (later ++ before) → AllKeep before
 keep_rest [] before all = all
 keep_rest (x ∷ later) before all = keep_rest later before (λ y has. all y (inr has))
 
 -- ---- the theorems
 
 -- two new agents, and the network between them
-pub record IsBegun (first : Side → HeldRecord) (turns : List Turn) : Type 0 where
+pub record IsBegun (first : Side → HeldRecord) (made : List SideCall) : Type 0 where
   pub tie_breaker : Side → ℕ
   pub begins : (side : Side) → Begins (tie_breaker side) (first side)
-  pub carried : AreCarried turns
-  pub fresh : HaveFreshIds turns
+  pub carried : AreCarried made
+  pub fresh : HaveFreshIds made
 
-carried_of : (first : Side → HeldRecord) (greater : Side) (turns : List Turn) → IsFair first greater turns → AreCarried turns
-carried_of first greater turns fair = search fair.carried
+carried_of : (first : Side → HeldRecord) (greater : Side) (made : List SideCall) → IsFair first greater made → AreCarried made
+carried_of first greater made fair = search fair.carried
 
-fresh_of : (first : Side → HeldRecord) (greater : Side) (turns : List Turn) → IsFair first greater turns → HaveFreshIds turns
-fresh_of first greater turns fair = search fair.fresh
+fresh_of : (first : Side → HeldRecord) (greater : Side) (made : List SideCall) → IsFair first greater made → HaveFreshIds made
+fresh_of first greater made fair = search fair.fresh
 
-abbrev begun_of : (first : Side → HeldRecord) (greater : Side) (turns : List Turn) → IsFair first greater turns → IsBegun first turns
-begun_of first greater turns fair =
-    record { tie_breaker = fair.tie_breaker; begins = fair.begins; carried = carried_of first greater turns fair; fresh = fresh_of first greater turns fair }
+abbrev begun_of : (first : Side → HeldRecord) (greater : Side) (made : List SideCall) → IsFair first greater made → IsBegun first made
+begun_of first greater made fair =
+    record { tie_breaker = fair.tie_breaker; begins = fair.begins; carried = carried_of first greater made fair; fresh = fresh_of first greater made fair }
 
 module _ (paths : Paths) (trades : Trades) (new : Fresh) (turn : Turns) where
   -- two new agents
-  module _ (first : Side → HeldRecord) (turns : List Turn) (begun : IsBegun first turns) where
-    pub all_carried : AreCarried turns
+  module _ (first : Side → HeldRecord) (made : List SideCall) (begun : IsBegun first made) where
+    pub all_carried : AreCarried made
     all_carried = begun.carried
 
-    pub all_fresh : HaveFreshIds turns
+    pub all_fresh : HaveFreshIds made
     all_fresh = begun.fresh
 
     abbrev pub opening : Opening
@@ -163,35 +163,35 @@ module _ (paths : Paths) (trades : Trades) (new : Fresh) (turn : Turns) where
       pub start : Known paths trades new turn (setting ranked greater less) opening only creds_of [] first
       start = record { ns = []; notes = refl; half = start_half }
 
-  module _ (first : Side → HeldRecord) (greater : Side) (turns : List Turn) (fair : IsFair first greater turns) where
-    abbrev begun : IsBegun first turns
-    begun = begun_of first greater turns fair
+  module _ (first : Side → HeldRecord) (greater : Side) (made : List SideCall) (fair : IsFair first greater made) where
+    abbrev begun : IsBegun first made
+    begun = begun_of first greater made fair
 
     greatest_is : true ≡ true → fair.tie_breaker (other greater) < fair.tie_breaker greater
     greatest_is _ = search fair.tie
 
-    all_keep : AllKeep turns
+    all_keep : AllKeep made
     all_keep = search fair.keeps
 
     abbrev ranking : Setting
-    ranking = setting first turns begun true greater greatest_is
+    ranking = setting first made begun true greater greatest_is
 
-    stay : (before later : List Turn) (mid last : Side → HeldRecord) → Sessions first before mid → Sessions mid later last
+    stay : (before later : List SideCall) (mid last : Side → HeldRecord) → Sessions first before mid → Sessions mid later last
         → AllKeep (later ++ before) → AreCarried (later ++ before) → HaveFreshIds (later ++ before)
         → role_at (other greater) mid ≡ not (role_at greater first) → role_at (other greater) last ≡ not (role_at greater first)
     stay before later mid last session more keeps carried ids was =
-        lesser_stays paths trades new turn ranking (opening first turns begun) (only first turns begun) (creds_of first turns begun) refl first
-        (start first turns begun true greater greatest_is) before later mid last session more keeps carried ids was
+        lesser_stays paths trades new turn ranking (opening first made begun) (only first made begun) (creds_of first made begun) refl first
+        (start first made begun true greater greatest_is) before later mid last session more keeps carried ids was
 
-    keeps_at : (some : List Turn) (last : Side → HeldRecord) → Sessions first some last → AllKeep some → AreCarried some → HaveFreshIds some
+    keeps_at : (some : List SideCall) (last : Side → HeldRecord) → Sessions first some last → AllKeep some → AreCarried some → HaveFreshIds some
         → role_at greater last ≡ role_at greater first
     keeps_at some last session keeps carried ids =
-        ((known paths trades new turn ranking (opening first turns begun) (only first turns begun) (creds_of first turns begun) first
-        (start first turns begun true greater greatest_is) some last session (λ ranked. keeps) carried ids).half greater).mind.greater refl refl
+        ((known paths trades new turn ranking (opening first made begun) (only first made begun) (creds_of first made begun) first
+        (start first made begun true greater greatest_is) some last session (λ ranked. keeps) carried ids).half greater).mind.greater refl refl
 
   pub greater_keeps : GreaterKeepsRole
-  greater_keeps first last greater turns fair session =
-      search (keeps_at first greater turns fair turns last session (all_keep first greater turns fair) (all_carried first turns (begun_of first greater turns fair)) (all_fresh first turns (begun_of first greater turns fair)))
+  greater_keeps first last greater made fair session =
+      search (keeps_at first greater made fair made last session (all_keep first greater made fair) (all_carried first made (begun_of first greater made fair)) (all_fresh first made (begun_of first greater made fair)))
 
   pub lesser_switches : LesserSwitchesOnce
   lesser_switches first mid last greater before later fair session more different =
@@ -204,9 +204,9 @@ module _ (paths : Paths) (trades : Trades) (new : Fresh) (turn : Turns) where
         | inl same ↦ elim (one_of (role_at (other greater) first) (role_at greater first)) [
           | inl was ↦ absurd (changed (same ∙ sym was))
           | inr was ↦ (
-              let keeps : AllKeep (before ++ []) = subst (λ (l : List Turn). AllKeep l) (sym (append-nil before)) (keep_rest later before keep) in
-              let carried = subst (λ (l : List Turn). AreCarried l) (sym (append-nil before)) (carried_rest later before carry) in
-              let ids = subst (λ (l : List Turn). HaveFreshIds l) (sym (append-nil before)) (fresh_rest later before fresh) in
+              let keeps : AllKeep (before ++ []) = subst (λ (l : List SideCall). AllKeep l) (sym (append-nil before)) (keep_rest later before keep) in
+              let carried = subst (λ (l : List SideCall). AreCarried l) (sym (append-nil before)) (carried_rest later before carry) in
+              let ids = subst (λ (l : List SideCall). HaveFreshIds l) (sym (append-nil before)) (fresh_rest later before fresh) in
               let stays = stay first greater (later ++ before) fair [] before first mid (λ side. refl) session keeps carried ids was in
               absurd (not_self (role_at greater first) (sym stays ∙ same)))
         ]

@@ -9,8 +9,8 @@ use Rattle.is_c_theorems.proofs.Common.{GivesCheck, Has, HaveFreshIds, Held, Hel
 use Rattle.is_c_theorems.proofs.Common.{IsIssued, IsLogOf, IsOf, IsSent, IsServing, IsSound, IsToPoll, keeps_modern, length, List, Logged}
 use Rattle.is_c_theorems.proofs.Common.{mac_of, Message, modern_settings, newborn, None, other, Path, PathEffect, Preference, quiet, Reads}
 use Rattle.is_c_theorems.proofs.Common.{refl, RequestRecord, Says, SelectedAreTraced, SelectedSince, Sessions, SetControlling, setters_of}
-use Rattle.is_c_theorems.proofs.Common.{setters_onto, Settings, settings_of, settings_onto, Side, Some, Step, Stream, subst, sym}
-use Rattle.is_c_theorems.proofs.Common.{TakesAnswer, TakesCheck, true, Turn, Use, Used, via_out, WaitingAreAnswered, ℕ}
+use Rattle.is_c_theorems.proofs.Common.{setters_onto, Settings, settings_of, settings_onto, Side, SideCall, Some, Step, Stream, subst, sym}
+use Rattle.is_c_theorems.proofs.Common.{TakesAnswer, TakesCheck, true, Use, Used, via_out, WaitingAreAnswered, ℕ}
 use Rattle.is_c_theorems.proofs.AlongExecutions.{is_new, full_log}
 use Rattle.is_c_theorems.proofs.CallsAsSteps.{never}
 use Rattle.is_c_theorems.proofs.ClaimedRoles.{other_back, one_side, Note, note, Setting, Fact}
@@ -80,12 +80,12 @@ module _ (open_calls : Opening) (only_roles : (side : Side) → EachKeeps sets_r
   abbrev IsNoted : List ℕ → Type 0
   IsNoted id = (role : Bool) × Has ns (note side id path role)
 
-  abbrev Found : Turn → List Turn → Type 0
+  abbrev Found : SideCall → List SideCall → Type 0
   Found z earlier =
       (back : Path) × (answer : Message) × (z.side ≡ side) × Accepts z.used back answer × (answer.class ≡ class.Success) × (is_reverse back path ≡ true) × IsNoted answer.id
 
-  found : (turns : List Turn) (log : Log) → IsLogOf (calls open_calls side turns) log → ((id : List ℕ) → Issued_in log path id → IsNoted id) → AnsweredIn log path
-      → Before Found turns
+  found : (made : List SideCall) (log : Log) → IsLogOf (calls open_calls side made) log → ((id : List ℕ) → Issued_in log path id → IsNoted id) → AnsweredIn log path
+      → Before Found made
   found [] log logs lift k = absurd (open_unanswered path (open_calls side) log logs (only_roles side) k)
   found (x ∷ before) log logs lift k = by (λ l ls lf kk. found before l ls lf kk) (same_side x.side side) refl logs where
     by : ((l : Log) → IsLogOf (calls open_calls side before) l → ((id : List ℕ) → Issued_in l path id → IsNoted id) → AnsweredIn l path → Before Found before)
@@ -115,7 +115,7 @@ set_modern (FixTimes soon) is = refl
 set_modern _ is = never is
 
 module _ (open_calls : Opening) (only_roles : (side : Side) → EachKeeps sets_role (open_calls side)) (side : Side) where
-  modern_calls : (turns : List Turn) → ((x : Turn) → Has turns x → x.side ≡ side → keeps_modern x.used.export ≡ true) → EachKeeps keeps_modern (calls open_calls side turns)
+  modern_calls : (made : List SideCall) → ((x : SideCall) → Has made x → x.side ≡ side → keeps_modern x.used.export ≡ true) → EachKeeps keeps_modern (calls open_calls side made)
   modern_calls [] modern u has = set_modern u.export (only_roles side u has)
   modern_calls (x ∷ before) modern u has = by (λ there. modern_calls before (λ y h. modern y (inr h)) u there) (same_side x.side side) refl has where
     by : (Has (calls open_calls side before) u → keeps_modern u.export ≡ true) → (b : Bool) → same_side x.side side ≡ b → Has (pick b x.used (calls open_calls side before)) u
@@ -127,15 +127,15 @@ module _ (open_calls : Opening) (only_roles : (side : Side) → EachKeeps sets_r
 -- ---- responses are to requests
 
 -- C passed the side a request with this ID, and got OK.
-abbrev AskedBy : Side → List ℕ → Turn → List Turn → Type 0
+abbrev AskedBy : Side → List ℕ → SideCall → List SideCall → Type 0
 AskedBy side id x earlier = (via : Path) × (m : Message) × (x.side ≡ side) × Accepts x.used via m × (m.class ≡ class.Request) × (m.id ≡ id)
 
-record Replies (turns : List Turn) (side : Side) (held : HeldRecord) : Type 0 where
-  ready : (p : packets.Packet) → IsToPoll held p → (m : Message) → Reads p.contents m → m.class ≡ class.Success → Before (AskedBy side m.id) turns
-  queue : (q : RequestRecord) → Has held.agent.queue q → Before (AskedBy side q.id) turns
+record Replies (made : List SideCall) (side : Side) (held : HeldRecord) : Type 0 where
+  ready : (p : packets.Packet) → IsToPoll held p → (m : Message) → Reads p.contents m → m.class ≡ class.Success → Before (AskedBy side m.id) made
+  queue : (q : RequestRecord) → Has held.agent.queue q → Before (AskedBy side q.id) made
 
 -- a request that the call serves, or stores
-module _ (paths : Paths) (trades : Trades) (x : Turn) (before : List Turn) (mid held : HeldRecord) (does : Does x.used.export mid x.used.code held)
+module _ (paths : Paths) (trades : Trades) (x : SideCall) (before : List SideCall) (mid held : HeldRecord) (does : Does x.used.export mid x.used.code held)
     (sound : IsSound mid.agent) (k : Replies before x.side mid) where
   abbrev Now : Type 0
   Now = Replies (x ∷ before) x.side held
@@ -197,9 +197,9 @@ module _ (paths : Paths) (trades : Trades) (x : Turn) (before : List Turn) (mid 
 
 -- ---- places among C's calls
 
-module _ (first : Side → HeldRecord) (whole : List Turn) where
+module _ (first : Side → HeldRecord) (whole : List SideCall) where
   -- a call, with what both slots held before and after it
-  record Place (x : Turn) (earlier : List Turn) : Type 0 where
+  record Place (x : SideCall) (earlier : List SideCall) : Type 0 where
     mid : Side → HeldRecord
     last : Side → HeldRecord
     session : Sessions first earlier mid
@@ -207,11 +207,11 @@ module _ (first : Side → HeldRecord) (whole : List Turn) where
     carried : AreCarried (x ∷ earlier)
     ids : HaveFreshIds (x ∷ earlier)
     has : Has whole x
-    within : (y : Turn) → Has earlier y → Has whole y
+    within : (y : SideCall) → Has earlier y → Has whole y
 
-  placed : (P Q : Turn → List Turn → Type 0) → ((x : Turn) (earlier : List Turn) → Place x earlier → P x earlier → Q x earlier)
-      → (turns : List Turn) (last : Side → HeldRecord) → Sessions first turns last → AreCarried turns → HaveFreshIds turns
-      → ((y : Turn) → Has turns y → Has whole y) → Before P turns → Before Q turns
+  placed : (P Q : SideCall → List SideCall → Type 0) → ((x : SideCall) (earlier : List SideCall) → Place x earlier → P x earlier → Q x earlier)
+      → (made : List SideCall) (last : Side → HeldRecord) → Sessions first made last → AreCarried made → HaveFreshIds made
+      → ((y : SideCall) → Has made y → Has whole y) → Before P made → Before Q made
   placed P Q f [] last session carried ids within none = absurd none
   placed P Q f (x ∷ before) last (mid, session, does, others) carried ids within (inl here) = inl (f x before (record {
     mid = mid;
@@ -229,23 +229,23 @@ module _ (first : Side → HeldRecord) (whole : List Turn) where
 -- ---- the theorem
 
 module _ (paths : Paths) (trades : Trades) (new : Fresh) (turn : Turns) where
-  module _ (first : Side → HeldRecord) (turns : List Turn) (begun : IsBegun first turns) where
+  module _ (first : Side → HeldRecord) (made : List SideCall) (begun : IsBegun first made) where
     -- roles are not spoken of
     none_less : false ≡ true → begun.tie_breaker B < begun.tie_breaker A
     none_less is = never is
 
     abbrev unranked : Setting
-    unranked = setting paths trades new turn first turns begun false A none_less
+    unranked = setting paths trades new turn first made begun false A none_less
 
-    abbrev After : List Turn → (Side → HeldRecord) → Type 0
-    After some all_held = Known paths trades new turn unranked (opening paths trades new turn first turns begun)
-        (only paths trades new turn first turns begun) (creds_of paths trades new turn first turns begun) some all_held
+    abbrev After : List SideCall → (Side → HeldRecord) → Type 0
+    After some all_held = Known paths trades new turn unranked (opening paths trades new turn first made begun)
+        (only paths trades new turn first made begun) (creds_of paths trades new turn first made begun) some all_held
 
-    knows : (some : List Turn) (last : Side → HeldRecord) → Sessions first some last → AreCarried some → HaveFreshIds some → After some last
+    knows : (some : List SideCall) (last : Side → HeldRecord) → Sessions first some last → AreCarried some → HaveFreshIds some → After some last
     knows some last session carried ids =
-        known paths trades new turn unranked (opening paths trades new turn first turns begun)
-        (only paths trades new turn first turns begun) (creds_of paths trades new turn first turns begun) first
-        (start paths trades new turn first turns begun false A none_less) some last session (λ is. never is) carried ids
+        known paths trades new turn unranked (opening paths trades new turn first made begun)
+        (only paths trades new turn first made begun) (creds_of paths trades new turn first made begun) first
+        (start paths trades new turn first made begun false A none_less) some last session (λ is. never is) carried ids
 
     first_replies : (side : Side) (held : HeldRecord) → held ≡ first side → Replies [] side held
     first_replies side held is =
@@ -259,13 +259,13 @@ module _ (paths : Paths) (trades : Trades) (new : Fresh) (turn : Turns) where
           queue = λ q has. absurd (subst (λ (a : Held). Has a.queue q) agent_is has);
         })
 
-    replies : (some : List Turn) (last : Side → HeldRecord) → Sessions first some last → AreCarried some → HaveFreshIds some → (side : Side) → Replies some side (last side)
+    replies : (some : List SideCall) (last : Side → HeldRecord) → Sessions first some last → AreCarried some → HaveFreshIds some → (side : Side) → Replies some side (last side)
     replies [] last same_held carried ids side = first_replies side (last side) (same_held side)
     replies (x ∷ before) last (mid, session, does, others) carried ids side =
         let earlier = replies before mid session carried.1 ids.1 in
         let k = knows before mid session carried.1 ids.1 in
         let h = k.half x.side in
-        let sound = sound_run paths trades new turn (creds_of paths trades new turn first turns begun x.side) (begun.tie_breaker x.side) h.log (mid x.side).agent h.run in
+        let sound = sound_run paths trades new turn (creds_of paths trades new turn first made begun x.side) (begun.tie_breaker x.side) h.log (mid x.side).agent h.run in
         elim (one_side side x.side) [
           | inl is ↦ subst (λ (s : Side). Replies (x ∷ before) s (last s)) (sym is) (replies_next paths trades x before (mid x.side) (last x.side) does sound (earlier x.side))
           | inr is ↦ subst (λ (s : Side). Replies (x ∷ before) s (last s)) (sym is) (subst (λ (o : HeldRecord). Replies (x ∷ before) (other x.side) o) (sym others) (record {
@@ -274,13 +274,13 @@ module _ (paths : Paths) (trades : Trades) (new : Fresh) (turn : Turns) where
           }))
         ]
 
-    module _ (last : Side → HeldRecord) (session : Sessions first turns last) (side : Side) (path : Path) where
-      k : After turns last
-      k = knows turns last session (all_carried paths trades new turn first turns begun) (all_fresh paths trades new turn first turns begun)
+    module _ (last : Side → HeldRecord) (session : Sessions first made last) (side : Side) (path : Path) where
+      k : After made last
+      k = knows made last session (all_carried paths trades new turn first made begun) (all_fresh paths trades new turn first made begun)
 
       -- the check that the other one accepted is the one of the path
-      check_given : (id : List ℕ) → IsNoted (opening paths trades new turn first turns begun) (only paths trades new turn first turns begun) side path k.ns id
-          → (x : Turn) (earlier : List Turn) → Place first turns x earlier → AskedBy (other side) id x earlier → TakesCheck side path id x earlier
+      check_given : (id : List ℕ) → IsNoted (opening paths trades new turn first made begun) (only paths trades new turn first made begun) side path k.ns id
+          → (x : SideCall) (earlier : List SideCall) → Place first made x earlier → AskedBy (other side) id x earlier → TakesCheck side path id x earlier
       check_given id (role, noted) x earlier at (via, check, x_side, (now, protocol, source, destination, bytes, export, path_is, reads, ok), request, id_is) = (
         via,
         check,
@@ -288,22 +288,22 @@ module _ (paths : Paths) (trades : Trades) (new : Fresh) (turn : Turns) where
         (now, protocol, source, destination, bytes, export, path_is, reads, ok),
         search request,
         search id_is,
-        search (placed first turns (Gave (other x.side) bytes) (GivesCheck side path check) gives earlier at.mid at.session at.carried.1 at.ids.1 at.within
+        search (placed first made (Gave (other x.side) bytes) (GivesCheck side path check) gives earlier at.mid at.session at.carried.1 at.ids.1 at.within
             (search (at.carried.0 now protocol source destination bytes export ok))),
       )
         where
-          gives : (w : Turn) (yet : List Turn) → Place first turns w yet → Gave (other x.side) bytes w yet → GivesCheck side path check w yet
+          gives : (w : SideCall) (yet : List SideCall) → Place first made w yet → Gave (other x.side) bytes w yet → GivesCheck side path check w yet
           gives w yet there (to, w_side, gets) =
               let mine : w.side ≡ side = w_side ∙ (ap other x_side ∙ other_back side) in
               let fact = (k.half side).got w to bytes check there.has mine gets reads in
               let (sent_role, has, claims) : Fact unranked k.ns side to class.Request check =
               subst (λ (c : Class). Fact unranked k.ns side to c check) request fact in
-              let one_note : note side check.id to sent_role ≡ note side id path role = distinct_notes turns k.ns k.notes (all_fresh paths trades new turn first turns begun) _ _ has noted id_is in
+              let one_note : note side check.id to sent_role ≡ note side id path role = distinct_notes made k.ns k.notes (all_fresh paths trades new turn first made begun) _ _ has noted id_is in
               (bytes, search mine, search (subst (λ (p : Path). Gets w.used p bytes) (ap (λ (n : Note). n.path) one_note) gets), reads)
 
       answer_given : (answer : Message) → answer.class ≡ class.Success
-          → IsNoted (opening paths trades new turn first turns begun) (only paths trades new turn first turns begun) side path k.ns answer.id
-          → (bytes : List ℕ) → Reads bytes answer → (y : Turn) (earlier : List Turn) → Place first turns y earlier → Gave (other side) bytes y earlier
+          → IsNoted (opening paths trades new turn first made begun) (only paths trades new turn first made begun) side path k.ns answer.id
+          → (bytes : List ℕ) → Reads bytes answer → (y : SideCall) (earlier : List SideCall) → Place first made y earlier → Gave (other side) bytes y earlier
           → GivesAnswer side path answer y earlier
       answer_given answer success noted bytes reads y earlier at (to, y_side, gets) =
           let (p, waits, via, contents) = given_before y.used (at.mid y.side) (at.last y.side) to bytes at.does gets in
@@ -314,12 +314,12 @@ module _ (paths : Paths) (trades : Trades) (new : Fresh) (turn : Turns) where
             search y_side,
             gets,
             reads,
-            placed first turns (AskedBy (other side) answer.id) (TakesCheck side path answer.id) (check_given answer.id noted) earlier at.mid at.session at.carried.1 at.ids.1 at.within
+            placed first made (AskedBy (other side) answer.id) (TakesCheck side path answer.id) (check_given answer.id noted) earlier at.mid at.session at.carried.1 at.ids.1 at.within
                 (subst (λ (s : Side). Before (AskedBy s answer.id) earlier) y_side asked),
           )
 
-      answer_taken : (z : Turn) (earlier : List Turn) → Place first turns z earlier
-          → Found (opening paths trades new turn first turns begun) (only paths trades new turn first turns begun) side path k.ns z earlier → TakesAnswer side path z earlier
+      answer_taken : (z : SideCall) (earlier : List SideCall) → Place first made z earlier
+          → Found (opening paths trades new turn first made begun) (only paths trades new turn first made begun) side path k.ns z earlier → TakesAnswer side path z earlier
       answer_taken z earlier at (back, answer, z_side, (now, protocol, source, destination, bytes, export, path_is, reads, ok), success, goes, noted) = (
         back,
         answer,
@@ -327,22 +327,22 @@ module _ (paths : Paths) (trades : Trades) (new : Fresh) (turn : Turns) where
         (now, protocol, source, destination, bytes, export, path_is, reads, ok),
         search success,
         search goes,
-        placed first turns (Gave (other side) bytes) (GivesAnswer side path answer) (answer_given answer success noted bytes reads) earlier at.mid at.session at.carried.1 at.ids.1 at.within
+        placed first made (Gave (other side) bytes) (GivesAnswer side path answer) (answer_given answer success noted bytes reads) earlier at.mid at.session at.carried.1 at.ids.1 at.within
             (search (subst (λ (s : Side). Before (Gave (other s) bytes) earlier) z_side (at.carried.0 now protocol source destination bytes export ok))),
       )
 
   pub selected_traced : WaitingAreAnswered {H = _} {P = Preference} mac_of answers → SelectedAreTraced
   unfolding knows k
-  selected_traced law first last tie_breaker side turns u held path begins carried fresh session modern does selects =
-      let begun : IsBegun first turns = record { tie_breaker = tie_breaker; begins = begins; carried = search carried; fresh = search fresh } in
-      let known_all = knows first turns begun turns last session (all_carried paths trades new turn first turns begun) (all_fresh paths trades new turn first turns begun) in
+  selected_traced law first last tie_breaker side made u held path begins carried fresh session modern does selects =
+      let begun : IsBegun first made = record { tie_breaker = tie_breaker; begins = begins; carried = search carried; fresh = search fresh } in
+      let known_all = knows first made begun made last session (all_carried paths trades new turn first made begun) (all_fresh paths trades new turn first made begun) in
       let h = known_all.half side in
-      let open_calls = opening paths trades new turn first turns begun in
-      let roles_only = only paths trades new turn first turns begun in
-      let creds = creds_of paths trades new turn first turns begun side in
-      let always : (x : Turn) → Has turns x → x.side ≡ side → keeps_modern x.used.export ≡ true = search modern in
-      let each = modern_calls open_calls roles_only side turns always in
-      let found_it = law (newborn creds (begun.tie_breaker side)) (last side).agent h.log (is_new creds (begun.tie_breaker side)) (full_log (calls open_calls side turns) h.log h.logs each) h.run path
+      let open_calls = opening paths trades new turn first made begun in
+      let roles_only = only paths trades new turn first made begun in
+      let creds = creds_of paths trades new turn first made begun side in
+      let always : (x : SideCall) → Has made x → x.side ≡ side → keeps_modern x.used.export ≡ true = search modern in
+      let each = modern_calls open_calls roles_only side made always in
+      let found_it = law (newborn creds (begun.tie_breaker side)) (last side).agent h.log (is_new creds (begun.tie_breaker side)) (full_log (calls open_calls side made) h.log h.logs each) h.run path
       (waited u (last side) held path does selects) in
-      placed first turns (Found open_calls roles_only side path known_all.ns) (TakesAnswer side path) (answer_taken first turns begun last session side path) turns last session (all_carried paths trades new turn first turns begun) (all_fresh paths trades new turn first turns begun)
-      (λ y has. has) (found open_calls roles_only side path known_all.ns turns h.log h.logs (λ id is. h.issued path id is) (selected_in h.log path found_it))
+      placed first made (Found open_calls roles_only side path known_all.ns) (TakesAnswer side path) (answer_taken first made begun last session side path) made last session (all_carried paths trades new turn first made begun) (all_fresh paths trades new turn first made begun)
+      (λ y has. has) (found open_calls roles_only side path known_all.ns made h.log h.logs (λ id is. h.issued path id is) (selected_in h.log path found_it))

@@ -51,7 +51,7 @@ pub use Rattle.is_rules.specs.Leaving.{gives_way, is_asked_along, is_silent_enou
 pub use Rattle.is_rules.specs.Limit.{has_room, is_on, is_vacant, IsPlaceOf, IsSenderPlace, IsVacancy, NoneVacantBelow, IsPlaceAtLimit}
 pub use Rattle.is_rules.specs.Nominating.{eligible_numbered, favored, first_after, first_numbered, followed, if_eligible, is_eligible}
 pub use Rattle.is_rules.specs.Nominating.{is_pressing, IsChosen, NamesTop, nominated_by_self, nominated_emitted, Nominates}
-pub use Rattle.is_rules.specs.Nominating.{nominates_at_once, NominatesWhere, numbers, pair_selected, path_in, remains, Selection, selection}
+pub use Rattle.is_rules.specs.Nominating.{nominates_at_once, NominatesWhere, numbers, pair_selected, remains, Selection, selection}
 pub use Rattle.is_rules.specs.Nominating.{selection_of, with_selection}
 pub use Rattle.is_rules.specs.Owed.{one_if}
 pub use Rattle.is_rules.specs.Places.{is_live, is_sender, IsGreatestBelow, local_place, remote_index}

@@ -4,13 +4,13 @@ use Rattle.std.specs.Option.{option_map_or, option_and_then, option_or}
 use Rattle.std.specs.List.{list_any}
 use Rattle.is_proto.specs.Times.{counted}
 use Rattle.is_stun.specs.Timing.{is_modern}
-use Rattle.is_candidate.specs.Candidates.{base_of, candidate_at}
 use Rattle.is_pair.specs.Pairs.{PairRecord, is_valid, is_nominated, nominated}
 use Rattle.is_rules.specs.declared.event.IceAgentEvent.TheVariants.{NominatedSend}
 use Rattle.is_rules.specs.declared.emitted.Path.{Path}
 use Rattle.is_rules.specs.Agent.{AgentRecord}
 use Rattle.is_pair.specs.Multiset.{change_pair, is_named_by, IsGreatest, pair_numbered}
 use Rattle.is_rules.specs.Forming.{SidesRecord, sides_of}
+use Rattle.is_rules.specs.Sending.{path_at}
 
 -- valid and, if the agent is controlled, nominated
 abbrev pub is_eligible : Bool → PairRecord → Bool
@@ -78,13 +78,6 @@ pub record Selection : Type 0 where
 abbrev pub selection : List PairRecord → Option ℕ → Selection
 selection pairs number = record { pairs = pairs; selected_pair = number }
 
-abbrev pub path_in : SidesRecord → PairRecord → Path
-path_in s p = record {
-  proto = (candidate_at s.local p.local).proto;
-  source = base_of (candidate_at s.local p.local);
-  destination = (candidate_at s.remote p.remote).addr;
-}
-
 -- An agent that follows its peer: the pair that the peer nominated last, once it is eligible. Until then it is the pair that was
 -- selected last, if that one is eligible.
 abbrev pub favored : Bool → Option ℕ → Selection → Option PairRecord
@@ -109,7 +102,7 @@ NamesTop s followed None old emitted new = (emitted ≡ None) × (new ≡ old)
 NamesTop s followed (Some top) old emitted new =
     MatchBool (remains followed top old)
     ((emitted ≡ None) × (new ≡ old))
-    ((emitted ≡ Some (path_in s top)) × (new ≡ selection (change_pair top.number (nominated_by_self s.controlling s.lite) old.pairs) (Some top.number)))
+    ((emitted ≡ Some (path_at s.local s.remote top.local top.remote)) × (new ≡ selection (change_pair top.number (nominated_by_self s.controlling s.lite) old.pairs) (Some top.number)))
 
 abbrev pub Names : SidesRecord → Option ℕ → Selection → Option Path → Selection → Type 0
 Names s followed old emitted new = (top : Option PairRecord) × IsChosen s.controlling followed old top × NamesTop s followed top old emitted new

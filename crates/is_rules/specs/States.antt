@@ -10,6 +10,7 @@ use Rattle.is_rules.specs.declared.event.IceConnectionState.{IceConnectionState}
 use Rattle.is_rules.specs.declared.event.IceConnectionState.TheVariants.{New, Checking, Connected, Completed, Disconnected}
 use Rattle.is_rules.specs.Agent.{AgentRecord}
 
+-- the number of a state, in C too
 abbrev pub state_number : IceConnectionState → ℕ
 state_number New = 0
 state_number Checking = 1

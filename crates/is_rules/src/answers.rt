@@ -9,8 +9,7 @@ ghost use Rattle.is_pair.specs.Checks.{is_kept};
 ghost use Rattle.is_pair.specs.Pairs.{PairRecord};
 ghost use Rattle.is_pair.specs.Multiset.{is_awaiting, keeps_check, pair_numbered};
 ghost use Rattle.is_pair.specs.Checklists.{multiset_of};
-ghost use Rattle.is_rules.specs.FormingView.{sides_view};
-ghost use Rattle.is_rules.specs.Nominating.{path_in};
+ghost use Rattle.is_rules.specs.Sending.{path_at};
 ghost use Rattle.is_stun.specs.MessageView.{message_view};
 ghost use Rattle.is_rules.specs.Kept.{NoneTooHigh, are_placed};
 ghost use Rattle.is_rules.specs.Due.{IsSentUnder};
@@ -19,7 +18,6 @@ ghost use Rattle.is_rules.specs.Answers.{is_known_address, is_left_out, is_role_
 use crate::emitted::Path;
 use crate::limit::has_local_room;
 use crate::local::append;
-use crate::nomination::path_in;
 use crate::sides::Sides;
 use is_candidate::Candidate;
 use is_candidate::candidate::address::same_address;
@@ -71,24 +69,24 @@ struct GoesBack<'a> {
 impl PairTest for GoesBack<'_> {
     ghost use Rattle.std.specs.Prelude.{◌&&◌};
     ghost use Rattle.is_rules.specs.Answers.{is_reverse};
-    ghost use Rattle.is_rules.specs.FormingView.{sides_view};
     ghost use Rattle.is_rules.specs.Kept.{is_placed};
-    ghost use Rattle.is_rules.specs.Nominating.{path_in};
+    ghost use Rattle.is_rules.specs.Sending.{path_at};
 
-    ghost passes = { λ t p. is_placed t.sides.local.now t.sides.remote.now p && is_reverse t.via.now (path_in (sides_view t.sides) p) };
+    ghost passes = { λ t p. is_placed t.sides.local.now t.sides.remote.now p
+        && is_reverse t.via.now (path_at t.sides.local.now t.sides.remote.now p.local p.remote) };
 
     fn passes(&self, pair: &CandidatePair) -> bool {
-        self.sides.has(pair) && is_reverse(self.via, &path_in(self.sides, pair))
+        self.sides.has(pair) && is_reverse(self.via, &self.sides.path_of(pair))
     }
 }
 
 /// The number of a pair that has a pending transaction with this ID, and on the reverse of whose path the packet was received.
 pub fn pair_awaiting(pairs: &Checklist, sides: Sides<'_>, via: &Path, id: TransId) -> Option<u64>
     requires { are_placed sides.local.now sides.remote.now (multiset_of pairs.now) ≡ true }
-    ensures any { list_any (is_awaiting id.0 (λ p. is_reverse via.now (path_in (sides_view sides.entry) p))) (multiset_of pairs.now)
-        ≡ is_some result }
+    ensures any { list_any (is_awaiting id.0 (λ p. is_reverse via.now (path_at sides.entry.local.now sides.entry.remote.now p.local p.remote)))
+        (multiset_of pairs.now) ≡ is_some result }
     ensures kept { IfSome result (λ number. (p : PairRecord) × (pair_numbered number (multiset_of pairs.now) ≡ Some p)
-        × (is_awaiting id.0 (λ p. is_reverse via.now (path_in (sides_view sides.entry) p)) p ≡ true)) }
+        × (is_awaiting id.0 (λ p. is_reverse via.now (path_at sides.entry.local.now sides.entry.remote.now p.local p.remote)) p ≡ true)) }
 {
     pairs.numbers_rise();
     match pairs.awaiting(id, &GoesBack { sides, via }) {

@@ -16,11 +16,10 @@ ghost use Rattle.is_pair.specs.Pairs.{renominated};
 ghost use Rattle.is_pair.specs.Checklists as checklists;
 ghost use Rattle.is_pair.specs.Checklists.{multiset_of, HasRoom};
 ghost use Rattle.is_rules.specs.Nominating.{eligible_numbered, favored, is_eligible, nominated_by_self, pair_selected, remains, persists_at};
-ghost use Rattle.is_rules.specs.Nominating.{selection, path_in, IsChosen, Names};
+ghost use Rattle.is_rules.specs.Nominating.{selection, IsChosen, Names};
 ghost use Rattle.is_rules.specs.Nominating.{first_numbered, first_with, number_of, outnumbers};
 
 use crate::emitted::Path;
-use crate::places::{address_at, base_at, proto_at};
 use crate::sides::Sides;
 use is_pair::checklist::{Checklist, PairChange, PairTest};
 use is_pair::pair::{CandidatePair, CheckState};
@@ -285,17 +284,6 @@ pub fn begin_nomination(pairs: &mut Checklist, number: u64, begins: bool)
     }
 }
 
-pub(crate) fn path_in(sides: Sides<'_>, pair: &CandidatePair) -> Path
-    requires { is_placed sides.local.now sides.remote.now pair.now ≡ true }
-    ensures { result ≡ path_in (sides_view sides.entry) pair.now }
-{
-    Path {
-        proto: proto_at(sides.local, pair.local_idx()),
-        source: base_at(sides.local, pair.local_idx()),
-        destination: address_at(sides.remote, pair.remote_idx()),
-    }
-}
-
 /// Selects the chosen pair, unless the pair that was selected last stays selected. `followed` is the pair that the peer nominated
 /// last, if the agent follows its peer.
 pub fn select_pair(
@@ -323,7 +311,7 @@ pub fn select_pair(
                 return None;
             }
             let number = top.id().0;
-            let path = path_in(sides, top);
+            let path = sides.path_of(top);
             nominate_pair(pairs, number, controlling, sides.lite);
             *selected = Some(number);
             Some(path)

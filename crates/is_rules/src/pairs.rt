@@ -50,9 +50,9 @@ pub(crate) fn has_pair_between(pairs: &Checklist, l: usize, r: usize) -> bool
     pairs.any(&Between { l, r })
 }
 
-/// Whether a pair is valid.
+/// Whether a pair is valid: a check on it succeeded.
 #[derive(Clone, Copy)]
-struct Valid;
+pub struct Valid;
 
 impl PairTest for Valid {
     ghost use Rattle.is_pair.specs.Pairs.{is_valid};

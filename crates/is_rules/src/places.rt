@@ -10,7 +10,9 @@ ghost use Rattle.is_rules.specs.Kept.{NoneTooHigh};
 ghost use Rattle.is_rules.specs.RequestView.{request_view};
 ghost use Rattle.is_rules.specs.Places.{is_at, is_live, is_reached, local_place, is_sender, IsGreatestBelow, IsGreatestPlace};
 ghost use Rattle.is_rules.specs.Places.{IsRemotePlace, remote_index};
+ghost use Rattle.is_rules.specs.Sending.{path_at};
 
+use crate::emitted::Path;
 use crate::request::Request;
 use is_candidate::candidate::address::{same_address, same_protocol};
 use is_candidate::candidate::internals::{base, is_discarded};
@@ -66,6 +68,19 @@ pub fn proto_at(candidates: &[Candidate], place: usize) -> Protocol
     ensures { result ≡ (candidate_at candidates.now place).proto }
 {
     candidate_at(candidates, place).proto()
+}
+
+/// The path from the base of the local candidate at one index to the address of the remote candidate at another.
+pub fn path_at(local: &[Candidate], remote: &[Candidate], l: usize, r: usize) -> Path
+    requires local { l < length local.now }
+    requires remote { r < length remote.now }
+    ensures { result ≡ path_at local.now remote.now l r }
+{
+    Path {
+        proto: proto_at(local, l),
+        source: base_at(local, l),
+        destination: address_at(remote, r),
+    }
 }
 
 /// The kind of the candidate at an index.

@@ -2,6 +2,8 @@
 
 ghost use Rattle.is_rules.specs.Kept.{NoneTooHigh};
 
+use crate::emitted::Path;
+use crate::places::path_at;
 use is_candidate::Candidate;
 use is_pair::pair::CandidatePair;
 
@@ -23,8 +25,9 @@ pub struct Sides<'a> {
 }
 
 impl Sides<'_> {
-    ghost use Rattle.std.specs.Prelude.{◌≡◌};
+    ghost use Rattle.std.specs.Prelude.{◌≡◌, true};
     ghost use Rattle.is_rules.specs.Kept.{is_placed};
+    ghost use Rattle.is_rules.specs.Sending.{path_at};
 
     /// The indices of the pair are in the lists. A test of pairs asks this, since it may be given any pair; each pair of an
     /// agent passes.
@@ -32,5 +35,13 @@ impl Sides<'_> {
         ensures { result ≡ is_placed self.now.local.now self.now.remote.now pair.now }
     {
         pair.local_idx() < self.local.len() && pair.remote_idx() < self.remote.len()
+    }
+
+    /// The path of the pair.
+    pub(crate) fn path_of(&self, pair: &CandidatePair) -> Path
+        requires { is_placed self.now.local.now self.now.remote.now pair.now ≡ true }
+        ensures { result ≡ path_at self.now.local.now self.now.remote.now pair.now.local pair.now.remote }
+    {
+        path_at(self.local, self.remote, pair.local_idx(), pair.remote_idx())
     }
 }

@@ -12,23 +12,11 @@ use is_proto::Instant;
 use is_stun::stun::StunTiming;
 use std::collections::VecDeque;
 
-fn state_number(state: IceConnectionState) -> u8
-    ensures { result ≡ Rattle.is_rules.specs.States.state_number state }
-{
-    match state {
-        IceConnectionState::New => 0,
-        IceConnectionState::Checking => 1,
-        IceConnectionState::Connected => 2,
-        IceConnectionState::Completed => 3,
-        IceConnectionState::Disconnected => 4,
-    }
-}
-
 /// Two states are equal.
 pub fn same_state(a: IceConnectionState, b: IceConnectionState) -> bool
     ensures { result ≡ same_state a b }
 {
-    state_number(a) == state_number(b)
+    a == b
 }
 
 /// Sets the state, and emits an event if it changes.

@@ -226,7 +226,7 @@ pub use Rattle.is_theorems.specs.Polled.{WaitingAreNominatedSince, WaitingAreSel
 pub use Rattle.is_theorems.specs.Progress.{AnsweredSelect, AnswersSelect, Arrival, ArriveInTurn, Awaits, checks_for, ChecksInTurn, ChecksOn}
 pub use Rattle.is_theorems.specs.Progress.{HasSuccess, IsChecking, IsGone, IsIdle, IsOfUse, IsSuccess, IsUnanswered, MatchesTop, MayBeAsked}
 pub use Rattle.is_theorems.specs.Progress.{NoPairIsStarved, Passes, Round, Rounds, RoundSelects, SelectsAfter, TimeoutsAreOfUse}
-pub use Rattle.is_theorems.specs.Progress.{TimeoutsSelect, Turn, Turns}
+pub use Rattle.is_theorems.specs.Progress.{Cycle, Cycles, TimeoutsSelect}
 pub use Rattle.is_theorems.specs.Reached.{AskedRoundsSelect, ChecksIn, is_in_round, IsEndedIn, IsInLine, IsLasting, IsPassing}
 pub use Rattle.is_theorems.specs.Reached.{nominations_ahead, PairsAreReached, selection_count, selects, Suffice}
 pub use Rattle.is_theorems.specs.ReachedExecutions.{ChecksAmong, ExecutionsCheck, ExecutionsReach, IsAnsweredAmong, IsPassed, PassRounds}
@@ -234,8 +234,8 @@ pub use Rattle.is_theorems.specs.ReachedExecutions.{selections_among}
 pub use Rattle.is_theorems.specs.Removing.{combines_with, is_replaced_by, is_rival, MayBeRemoved, MayEndByAppending, MayEndByEnrolling}
 pub use Rattle.is_theorems.specs.Removing.{MayEndByLocal, MayEndByRemote, most_pairs, ranks_with}
 pub use Rattle.is_theorems.specs.Reporting.{Begins, EventsAreSelected, Extends, FormsAgain, QueuesTheorem, Reports, selecting}
-pub use Rattle.is_theorems.specs.Rounds.{AnsweredRoundsSelect, AreTaken, began_at, BringsSuccess, entries_of, is_between, is_poll}
-pub use Rattle.is_theorems.specs.Rounds.{IsControllingIn, IsRound, LoggedRound, Part, PartsAreRuns, RunsOn, SegmentSelects, TurnsAreOfUse}
+pub use Rattle.is_theorems.specs.Rounds.{AnsweredRoundsSelect, AreTaken, began_at, BringsSuccess, CyclesAreOfUse, entries_of, is_between}
+pub use Rattle.is_theorems.specs.Rounds.{is_poll, IsControllingIn, IsRound, LoggedRound, Part, PartsAreRuns, RunsOn, SegmentSelects}
 pub use Rattle.is_theorems.specs.Runs.{AskedAreNominated, EntriesArePoints, IsFresh, IsTopPath, Point, PointsAreTop, RepliesAreAmong, Run}
 pub use Rattle.is_theorems.specs.Runs.{run_to, RunsAreSound, SelectedAreAnswered, SelectedAreNominatedByPeer, shared_run, TakersAreValid}
 pub use Rattle.is_theorems.specs.Runs.{UnacceptedChangeNothing}

@@ -66,7 +66,7 @@ HasCalled from (x ∷ before) = ((now : ℕ) × (x.call ≡ HandleTimeout now) �
 
 -- The caller is patient in the span that begins at `from` and is so long: from the first `handle_timeout` call in it to its end none comes
 -- sooner than the time that `poll_timeout` returned, unless it comes so long after the one before. With 5 ms that is so of who goes by
--- `poll_timeout_soon`, if the call before served no early request.
+-- `next_call_soon`, if the call before served no early request.
 abbrev pub IsPatient : {P : Type 0} → (from long gap : ℕ) → List (Logged P) → Type 0
 IsPatient from long gap [] = Unit {0}
 IsPatient from long gap (x ∷ before) =
@@ -86,7 +86,7 @@ module _ {H P : Type 0} where
 
   -- In the second that begins then, the call is the first one; or it comes no sooner than the time that `poll_timeout` returned, or 25 ms after
   -- the one before; or 25 ms after the last one that served no early request; or the charges for checks are at most 225 ms ahead of it, as when
-  -- `poll_timeout_soon` of `Modern` brings it forward.
+  -- `next_call_soon` of `Modern` brings it forward.
   abbrev pub IsFrugalAt : ℕ → List (Logged P) → AgentRecord H P → Logged P → Type 0
   IsFrugalAt from before a x =
       (now : ℕ) → x.call ≡ HandleTimeout now → now < from + SECOND → HasCalled from before

@@ -117,7 +117,7 @@ module _ {H P : Type 0} where
   module _ (mac : H → List ℕ → List ℕ → List ℕ) where
     -- A polling cycle: `poll_timeout` returns a time, `handle_timeout` is called, all packets are polled, and the events are
     -- polled down to `left`.
-    pub record Turn (old : AgentRecord H P) (now : ℕ) (emitted : Emitted) (new : AgentRecord H P) : Type 0 where
+    pub record Cycle (old : AgentRecord H P) (now : ℕ) (emitted : Emitted) (new : AgentRecord H P) : Type 0 where
       pub deadline : ℕ
       pub asked : AgentRecord H P
       pub polled : PollsTimeout old (Some deadline) asked
@@ -129,9 +129,9 @@ module _ {H P : Type 0} where
       pub taken : new ≡ record after { packets = []; events = left }
 
     -- one polling cycle after another, each with its time and what it emits
-    abbrev pub Turns : List (ℕ × Emitted) → AgentRecord H P → AgentRecord H P → Type 0
-    Turns [] old new = new ≡ old
-    Turns (x ∷ rest) old new = (mid : AgentRecord H P) × Turn old x.0 x.1 mid × Turns rest mid new
+    abbrev pub Cycles : List (ℕ × Emitted) → AgentRecord H P → AgentRecord H P → Type 0
+    Cycles [] old new = new ≡ old
+    Cycles (x ∷ rest) old new = (mid : AgentRecord H P) × Cycle old x.0 x.1 mid × Cycles rest mid new
 
     -- ---- rounds
 
@@ -184,16 +184,16 @@ TimeoutsAreOfUse {H = H} P mac =
 -- Starvation freedom: a pair is checked, or removed after timeout, within as many polling cycles as there are pairs that are due
 -- no later than it, or twice as many if checks may go ahead. The `handle_timeout` calls come at its due time, or later. A nominated pair
 -- goes before all others, unless its due time was fixed before; so `poll_timeout` is called before each `handle_timeout` call. When the
--- turns begin, no path is to be selected or nominated at once (`is_pressing`), and nominations that are sent at once go before no pair
+-- cycles begin, no path is to be selected or nominated at once (`is_pressing`), and nominations that are sent at once go before no pair
 -- (`ChecksInTurn`).
 abbrev pub NoPairIsStarved : {H : Type 0} (P : Type 0) → (H → List ℕ → List ℕ → List ℕ) → Type 0
 NoPairIsStarved {H = H} P mac =
-    (first last : AgentRecord H P) (turns : List (ℕ × Emitted)) (p : PairRecord) (at by : ℕ)
+    (first last : AgentRecord H P) (cycles : List (ℕ × Emitted)) (p : PairRecord) (at by : ℕ)
     → IsSound first → first.packets ≡ [] → first.last_time ≡ Some at → is_pressing first ≡ false → ChecksInTurn first → Awaits at by first p
-    → ((x : ℕ × Emitted) → Has turns x → (by ≤ x.0) × (x.0 < MAX))
-    → Turns mac turns first last
-    → checks_for (is_modern first.timing) (length (due_by by at first.timing first.pairs)) ≤ length turns
-    → ((x : ℕ × Emitted) × Has turns x × ChecksOn first x.1 p) ⊎ IsGone p.number last.pairs
+    → ((x : ℕ × Emitted) → Has cycles x → (by ≤ x.0) × (x.0 < MAX))
+    → Cycles mac cycles first last
+    → checks_for (is_modern first.timing) (length (due_by by at first.timing first.pairs)) ≤ length cycles
+    → ((x : ℕ × Emitted) × Has cycles x × ChecksOn first x.1 p) ⊎ IsGone p.number last.pairs
 
 -- ---- responses
 

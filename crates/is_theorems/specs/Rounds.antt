@@ -64,7 +64,7 @@ abbrev pub BringsSuccess : {P : Type 0} → Logged P → Type 0
 BringsSuccess x = (at : ℕ) × (by : Path) × (m : Message) × Brings x.call x.entry at by m × (m.class ≡ class.Success)
 
 -- A polling cycle: `poll_timeout` returns a time, any polls follow, and `handle_timeout` is called then or later.
-pub record IsTurn {P : Type 0} (asked : Logged P) (polls : List (Logged P)) (timeout : Logged P) (deadline now : ℕ) : Type 0 where
+pub record IsCycle {P : Type 0} (asked : Logged P) (polls : List (Logged P)) (timeout : Logged P) (deadline now : ℕ) : Type 0 where
   pub asks : asked.call ≡ PollTimeout
   pub timed_out : asked.entry.answer ≡ NextTimeout (Some deadline)
   pub polled : (x : Logged P) → Has polls x → is_poll x.call ≡ true
@@ -130,7 +130,7 @@ module _ {H P : Type 0} (mac : H → List ℕ → List ℕ → List ℕ) (answer
   abbrev pub LoggedTimeoutsAreOfUse : AgentRecord H P → Stream → List (Logged P) → Type 0
   LoggedTimeoutsAreOfUse first s log =
       (before polls : List (Logged P)) (start last : AgentRecord H P) (asked timeout : Logged P) (deadline now : ℕ)
-      → Part first s log before start (timeout ∷ (polls ++ asked ∷ [])) last → AreTaken before ⊎ (start.packets ≡ []) → IsTurn asked polls timeout deadline now
+      → Part first s log before start (timeout ∷ (polls ++ asked ∷ [])) last → AreTaken before ⊎ (start.packets ≡ []) → IsCycle asked polls timeout deadline now
       → IsChecking start → is_empty start.pairs ≡ false → deadline < MAX
       → IsOfUse start timeout.entry.emitted last
 
@@ -154,5 +154,5 @@ module _ {H P : Type 0} (mac : H → List ℕ → List ℕ → List ℕ) (answer
   abbrev pub PartsAreRuns : Type 0
   PartsAreRuns = (first last : AgentRecord H P) (s t : Stream) (log : List (Logged P)) → Run mac answers first s log last t → PartsPersist first s log
 
-  abbrev pub TurnsAreOfUse : Type 0
-  TurnsAreOfUse = (first : AgentRecord H P) (s : Stream) (log : List (Logged P)) → IsFresh first → LoggedTimeoutsAreOfUse first s log
+  abbrev pub CyclesAreOfUse : Type 0
+  CyclesAreOfUse = (first : AgentRecord H P) (s : Stream) (log : List (Logged P)) → IsFresh first → LoggedTimeoutsAreOfUse first s log

@@ -21,8 +21,8 @@ pub fn checks_are_paced<H: Sha1HmacProvider, P: LocalPreference>()
     ensures seconds { SecondsHaveFewChecks H.mac P.answers }
 {}
 
-/// A caller is frugal at a call that comes no sooner than a time which `poll_timeout`, `next_call`, or `poll_timeout_soon` and
-/// `next_call_soon` of `Modern`, returned after the last one. For that the pacing interval need be 25 ms only.
+/// A caller is frugal at a call that comes no sooner than a time which `poll_timeout`, `next_call`, or `next_call_soon` of
+/// `Modern`, returned after the last one. For that the pacing interval need be 25 ms only.
 pub fn calls_within_credit_are_frugal<H: Sha1HmacProvider, P: LocalPreference>()
     ensures { CreditIsFrugal H.mac P.answers }
 {}

@@ -2,7 +2,7 @@
 
 ghost use Rattle.is_theorems.specs.NotStarved.{PacketsAddFew, NoneIsStarved};
 ghost use Rattle.is_theorems.specs.Progress.{TimeoutsAreOfUse, NoPairIsStarved};
-ghost use Rattle.is_theorems.specs.Rounds.{TurnsAreOfUse};
+ghost use Rattle.is_theorems.specs.Rounds.{CyclesAreOfUse};
 
 use crate::reaching::pairs_are_reached;
 use is_candidate::LocalPreference;
@@ -17,8 +17,8 @@ pub fn timeouts_are_of_use<H: Sha1HmacProvider, P: LocalPreference>()
 /// From a newly created agent: if `poll_timeout` is called while no packet is queued, a `handle_timeout` call at the time that it
 /// returns, or later, makes progress: a check is sent, a pair is removed, or there are fewer early requests. Any polls may come
 /// between.
-pub fn turns_are_of_use<H: Sha1HmacProvider, P: LocalPreference>()
-    ensures { TurnsAreOfUse H.mac P.answers }
+pub fn cycles_are_of_use<H: Sha1HmacProvider, P: LocalPreference>()
+    ensures { CyclesAreOfUse H.mac P.answers }
 {}
 
 /// Starvation freedom: a pair is checked, or removed after timeout, within as many polling cycles as there are pairs that are due

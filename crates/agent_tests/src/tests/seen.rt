@@ -247,7 +247,7 @@ impl Player {
                 self.compares(next, Some(later(ms)))
             }
             Shown::SoonAt(ms) => {
-                let next = self.agent.poll_timeout_soon();
+                let next = self.agent.next_call_soon();
                 self.compares(next, Some(later(ms)))
             }
             Shown::NoNext => self.agent.poll_timeout().is_none(),

@@ -327,7 +327,7 @@ pub(super) enum Shown {
     ValidPath(Option<(At, At)>),
     /// The next timeout.
     NextAt(u64),
-    /// The next timeout of an agent that changed: `poll_timeout_soon`.
+    /// The next call of an agent that changed: `next_call_soon`.
     SoonAt(u64),
     /// There is no next timeout.
     NoNext,

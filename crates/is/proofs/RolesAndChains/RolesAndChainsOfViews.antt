@@ -9,12 +9,12 @@ use Rattle.is.specs.WorldRoles.{Point}
 use Rattle.is.proofs.Common.{[], ◌&&◌, ◌++◌, ◌<◌, ◌∙◌, ◌∷◌, ◌≡◌, ◌≢◌, ◌≤◌, ◌⊎◌, A, accepted_by, AgentRecord, AllByRecursion, ap, arith, B}
 use Rattle.is.proofs.Common.{Bool, Brings, CandidateRecord, changes, Class, ComparesTies, Entry, false, fault_of, FreshIsSound}
 use Rattle.is.proofs.Common.{GreaterKeeps, HaveDistinctIds, inl, inr, is_modern, is_role_conflict, is_some, IsFairWorld, IsNeverLite}
-use Rattle.is.proofs.Common.{IsNewAgent, IsNewRoleState, IsNewWorld, IsServedPastTests, IsServing, IsSound, Issued, issued_as, keeps_role}
-use Rattle.is.proofs.Common.{LesserSwitchesOnce, List, LoggedEvent, mail_of, mail_read, mail_unless, Makes, map, Message, message_of, None}
-use Rattle.is.proofs.Common.{not, Option, option_map, other, ParseFault, Path, PathTheorem, refl, request_at, request_in, request_when}
-use Rattle.is.proofs.Common.{RequestRecord, role_at, role_event_of, role_in, role_state_of, RolesDifferOnceMet, RoleTheorem, Sent, sent_as}
-use Rattle.is.proofs.Common.{served_by, Side, slice_get, Some, StaysFull, Streams, subst, suc, sym, true, when_accepted, when_done}
-use Rattle.is.proofs.Common.{WorldRecord, zero, ℕ}
+use Rattle.is.proofs.Common.{IsNewlyCreated, IsNewRoleState, IsNewWorld, IsServedPastTests, IsServing, IsSound, Issued, issued_as}
+use Rattle.is.proofs.Common.{keeps_role, LesserSwitchesOnce, List, LoggedEvent, mail_of, mail_read, mail_unless, Makes, map, Message}
+use Rattle.is.proofs.Common.{message_of, None, not, Option, option_map, other, ParseFault, Path, PathTheorem, refl, request_at, request_in}
+use Rattle.is.proofs.Common.{request_when, RequestRecord, role_at, role_event_of, role_in, role_state_of, RolesDifferOnceMet, RoleTheorem}
+use Rattle.is.proofs.Common.{Sent, sent_as, served_by, Side, slice_get, Some, StaysFull, Streams, subst, suc, sym, true, when_accepted}
+use Rattle.is.proofs.Common.{when_done, WorldRecord, zero, ℕ}
 use Rattle.is.proofs.ExternalViews.NetworkModel as seen
 use Rattle.is.proofs.ExternalViews.NetworkModel.{Emitted, Kind, Move, Happening, Compares, AllCompare, emitted_of, roles_along, NeverLite}
 use Rattle.is.proofs.ExternalViews.PreservedByEvents as runs
@@ -50,11 +50,11 @@ module _ {P : Type 0} where
 
 -- ---- from the start
 
-new_seen : {H P : Type 0} (a : AgentRecord H P) → IsNewAgent a → IsNewRoleState (role_state_of a)
+new_seen : {H P : Type 0} (a : AgentRecord H P) → IsNewlyCreated a → IsNewRoleState (role_state_of a)
 new_seen a (creds, tie, role, is) = subst (λ (x : AgentRecord _ _). IsNewRoleState (role_state_of x)) (sym is)
     (record { lite = refl; queue = refl; packets = refl; kept = refl; valid = refl })
 
-pub sound_new : {H P : Type 0} → FreshIsSound H P → (a : AgentRecord H P) → IsNewAgent a → IsSound a
+pub sound_new : {H P : Type 0} → FreshIsSound H P → (a : AgentRecord H P) → IsNewlyCreated a → IsSound a
 sound_new sound a (creds, tie, role, is) =
     let s = sound a.provider creds tie in
     subst (λ (x : AgentRecord _ _). IsSound x) (sym is) (record {
@@ -118,7 +118,7 @@ leaves_all first greater log p side = by (p.compares side) where
 
 pub compares_first : {H P : Type 0} (first : WorldRecord H P) (greater : Side) (log : List (LoggedEvent P)) (p : IsFairWorld first greater log) → BothCompare (how_of first greater log p) first
 compares_first first greater log p side = by (how_of first greater log p side) (search (p.start.new side)) where
-  by : (b : Bool) → IsNewAgent (world.at side first) → views.Compares b (world.at side first)
+  by : (b : Bool) → IsNewlyCreated (world.at side first) → views.Compares b (world.at side first)
   by true (creds, tie, role, is) = ap (λ a. a.lite) is
   by false (creds, tie, role, is) = ap (λ a. is_modern a.timing) is
 

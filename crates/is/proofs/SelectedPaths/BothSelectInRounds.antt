@@ -9,14 +9,15 @@ use Rattle.is.proofs.Common.{AsksInRounds, at, Awaits, begins_modern, Bool, Both
 use Rattle.is.proofs.Common.{cond, Done, EndsAmong, Entry, Event, Execution, ExecutionRound, ExecutionsReachFromDue, ExecutionsReachServed}
 use Rattle.is.proofs.Common.{ExecutionsReachUnanswered, false, fresh, FreshIsSound, Happens, Has, HasRounds, if◌then◌else◌, in_world}
 use Rattle.is.proofs.Common.{InFlightRecord, inl, inr, is_of, IsAnsweredAlong, IsAnsweredInRounds, IsAskedOver, IsControlledSegment}
-use Rattle.is.proofs.Common.{IsExchangedOver, IsInLine, IsKept, IsLasting, IsNewAgent, IsOnlyPair, IsOpenRound, IsOvertakenAmong, IsPassed}
-use Rattle.is.proofs.Common.{IsReached, IsUnanswered, length, List, LoggedEvent, MakesPolls, MayEndIn, MayEndInRounds, nominations_ahead}
-use Rattle.is.proofs.Common.{None, Occurrence, occurrences_in, only, Option, other, OvertakeIn, Packet, PairRecord, PassRounds, Path}
-use Rattle.is.proofs.Common.{path_of, PathTheorem, polled_as, quiet, received_as, refl, Rejected, request_at, reversed, RoundChecks}
-use Rattle.is.proofs.Common.{RoundsSuffice, same_address, selections_among, selections_of, selects, SelectsTop, ServedExecutionsReach}
-use Rattle.is.proofs.Common.{ServedRoundsReach, ServedRoundsSuffice, Side, SideRound, SideRoundsReach, SideRoundsSuffice, slice_get, Some}
-use Rattle.is.proofs.Common.{source_of, state_after, Step, Stream, Streams, subst, suc, Succeeds, Suffices, SufficesForServed}
-use Rattle.is.proofs.Common.{sum_by-append, sum_by-cons, sym, TakesTurn, times_in, times_of, true, WorldRecord, WorldRun, ℕ}
+use Rattle.is.proofs.Common.{IsExchangedOver, IsInLine, IsKept, IsLasting, IsNewlyCreated, IsOnlyPair, IsOpenRound, IsOvertakenAmong}
+use Rattle.is.proofs.Common.{IsPassed, IsReached, IsUnanswered, length, List, LoggedEvent, MakesPolls, MayEndIn, MayEndInRounds}
+use Rattle.is.proofs.Common.{nominations_ahead, None, Occurrence, occurrences_in, only, Option, other, OvertakeIn, Packet, PairRecord}
+use Rattle.is.proofs.Common.{PassRounds, Path, path_of, PathTheorem, polled_as, quiet, received_as, refl, Rejected, request_at, reversed}
+use Rattle.is.proofs.Common.{RoundChecks, RoundsSuffice, same_address, selections_among, selections_of, selects, SelectsTop}
+use Rattle.is.proofs.Common.{ServedExecutionsReach, ServedRoundsReach, ServedRoundsSuffice, Side, SideRound, SideRoundsReach}
+use Rattle.is.proofs.Common.{SideRoundsSuffice, slice_get, Some, source_of, state_after, Step, Stream, Streams, subst, suc, Succeeds}
+use Rattle.is.proofs.Common.{Suffices, SufficesForServed, sum_by-append, sum_by-cons, sym, TakesTurn, times_in, times_of, true, WorldRecord}
+use Rattle.is.proofs.Common.{WorldRun, ℕ}
 use Rattle.is.proofs.ExternalViews.ViewsOfExecutions.{Has-front, Has-rear, AreSound}
 use Rattle.is.proofs.TwoAgentEvents.OwnExecutions.{only_own, execution_on, turn_step}
 use Rattle.is.proofs.TwoAgentEvents.EventsOfSegments.{Follow, follows, cut, state_is, meet, acts_at, own, own_execution, own_from}
@@ -183,7 +184,7 @@ module _ {H P : Type 0} (mac : H → List ℕ → List ℕ → List ℕ) (answer
   overtakes_all side r later second last run overtakes n k overtaken = elim overtaken [ inl others ↦ inl (overtakes n k others) | inr (j, is, here, others) ↦ inr (j, is, here, overtakes n j others) ]
 
   pub reached : ExecutionsReachFromDue {H = H} {P = P} mac answers → ServedExecutionsReach {H = H} {P = P} mac answers → (side : Side) (first last : WorldRecord H P) (s : Streams) (xs : List (agent.Call P × Entry)) (r : SideRound H P) (later : List (SideRound H P)) (p : PairRecord) (by : ℕ)
-      → IsNewAgent (at side first) → Execution mac answers xs (at side first) (at side r.timeout.before) → Follow mac answers r.timeout.before (all_of (r ∷ later)) last
+      → IsNewlyCreated (at side first) → Execution mac answers xs (at side first) (at side r.timeout.before) → Follow mac answers r.timeout.before (all_of (r ∷ later)) last
       → IsInLine r.now by (at side r.timeout.before) p → AreKept side by r later
       → ((x : SideRound H P) → Has later x → IsLasting x.now (at side r.timeout.before) p) → SideRoundsReach side by r later last ⊎ ServedRoundsReach side by p r later
       → Reaches side (path_of (at side r.timeout.before) p) (r ∷ later)
@@ -235,7 +236,7 @@ module _ {H P : Type 0} (mac : H → List ℕ → List ℕ → List ℕ) (answer
 
   -- The path of a pair is reached in the rounds while no pair is valid, unless a success response is accepted.
   pub reached_unanswered : ExecutionsReachUnanswered {H = H} {P = P} mac answers → ExecutionsReachServed {H = H} {P = P} mac answers → (side : Side) (first last : WorldRecord H P) (s : Streams) (xs : List (agent.Call P × Entry)) (r : SideRound H P) (later : List (SideRound H P)) (p : PairRecord) (by : ℕ)
-      → IsNewAgent (at side first) → Execution mac answers xs (at side first) (at side r.timeout.before) → Follow mac answers r.timeout.before (all_of (r ∷ later)) last
+      → IsNewlyCreated (at side first) → Execution mac answers xs (at side first) (at side r.timeout.before) → Follow mac answers r.timeout.before (all_of (r ∷ later)) last
       → (at side r.timeout.before).controlling ≡ true → Awaits r.now by (at side r.timeout.before) p → IsUnanswered (at side r.timeout.before) p → AreKept side by r later
       → SideRoundsSuffice side by r later last ⊎ ServedRoundsSuffice side p r later → Accepts side (r ∷ later) ⊎ Reaches side (path_of (at side r.timeout.before) p) (r ∷ later)
   reached_unanswered reach serve side first last s xs r later p by n led (same, u, v, happens, more) role waits unanswered kept enough =
@@ -275,7 +276,7 @@ module _ {H P : Type 0} (mac : H → List ℕ → List ℕ → List ℕ) (answer
 
   -- the rounds of a segment
   reached_in : ExecutionsReachFromDue {H = H} {P = P} mac answers → ServedExecutionsReach {H = H} {P = P} mac answers → (side : Side) (path : Path) (first start last : WorldRecord H P) (s : Streams) (before part : List (Occurrence H P))
-      → IsNewAgent (at side first) → Follow mac answers first before start → Follow mac answers start part last → (k : HasRounds side path part last) → Reaches side path (k.first ∷ k.later)
+      → IsNewlyCreated (at side first) → Follow mac answers first before start → Follow mac answers start part last → (k : HasRounds side path part last) → Reaches side path (k.first ∷ k.later)
   reached_in reach serve side path first start last s before part n led on k =
       let rounds : List (SideRound H P) = k.first ∷ k.later in
       let c = cut mac answers k.ahead (all_of rounds) start last (subst (λ xs. Follow mac answers start xs last) k.split on) in

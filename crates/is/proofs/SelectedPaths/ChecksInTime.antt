@@ -6,7 +6,7 @@ use Rattle.is.specs.World as world
 use Rattle.is.proofs.Common.{[], ◌*◌, ◌++◌, ◌+◌, ◌∙◌, ◌∷◌, ◌≡◌, ◌≤◌, ◌⊎◌, A, acts, AgentRecord, all_of, Answer, ap, AreKept, arith, at, B}
 use Rattle.is.proofs.Common.{begins_modern, Bool, CandidateRecord, ChecksBy, ChecksComeInTime, Entry, Event, Execution, ExecutionRound}
 use Rattle.is.proofs.Common.{false, fresh, Has, if◌then◌else◌, in_world, InFlightRecord, inl, inr, IsAnsweredAlong, IsInLine, IsKept}
-use Rattle.is.proofs.Common.{IsLasting, IsNewAgent, IsPrompt, IsPunctual, IsTimed, length, List, LoggedEvent, MayEndInRounds, None}
+use Rattle.is.proofs.Common.{IsLasting, IsNewlyCreated, IsPrompt, IsPunctual, IsTimed, length, List, LoggedEvent, MayEndInRounds, None}
 use Rattle.is.proofs.Common.{Occurrence, only, Option, other, OvertakeIn, Packet, PairRecord, PassRounds, Path, path_of, polled_as, quiet}
 use Rattle.is.proofs.Common.{received_as, refl, Rejected, selects, ServedExecutionsReachInTime, ServedRoundsReach, Side, SideRound}
 use Rattle.is.proofs.Common.{SideRoundsReach, slice_get, Some, source_of, state_after, Streams, subst, Succeeds, sym, true, WorldRecord, ℕ}
@@ -83,7 +83,7 @@ module _ {H P : Type 0} (mac : H → List ℕ → List ℕ → List ℕ) (answer
       ⊎ (((r : SideRound H P) × Has rounds r × ((x : Occurrence H P) × Has r.following x × Succeeds side path x)) ⊎ MayEndInRounds answers side path rounds)
 
   reached : ExecutionsReachInTime {H = H} {P = P} mac answers → ServedExecutionsReachInTime {H = H} {P = P} mac answers → (side : Side) (first last : WorldRecord H P) (s : Streams) (xs : List (agent.Call P × Entry)) (r : SideRound H P) (later : List (SideRound H P))
-      (p : PairRecord) (by pace delay : ℕ) → IsNewAgent (at side first) → Execution mac answers xs (at side first) (at side r.timeout.before)
+      (p : PairRecord) (by pace delay : ℕ) → IsNewlyCreated (at side first) → Execution mac answers xs (at side first) (at side r.timeout.before)
       → Follow mac answers r.timeout.before (all_of (r ∷ later)) last → IsInLine r.now by (at side r.timeout.before) p → AreKept side by r later
       → ((x : SideRound H P) → Has later x → IsLasting x.now (at side r.timeout.before) p) → SideRoundsReach side by r later last ⊎ ServedRoundsReach side by p r later → IsTimed side pace delay r later
       → Comes side (path_of (at side r.timeout.before) p) (r.now + length later * (pace + delay)) (r ∷ later)

@@ -7,7 +7,7 @@ use Rattle.is.proofs.Common.{[], ◌++◌, ◌||◌, ◌∙◌, ◌∷◌, ◌�
 use Rattle.is.proofs.Common.{AcceptsNominationOnlyAlong, acts, AgentRecord, Answer, ap, append_assoc, AreNominatedOn, at, B, Bool}
 use Rattle.is.proofs.Common.{CandidateRecord, CarriedAsk, CarriedSucceedLater, Done, EndsAlong, Entry, Event, Execution, false}
 use Rattle.is.proofs.Common.{FreshIsSound, HandedCheck, Happens, Has, if◌then◌else◌, in_world, InFlightRecord, inl, inr, is_some}
-use Rattle.is.proofs.Common.{IsAnsweredAlong, IsControlled, IsExchangedOver, IsNewAgent, IsNominatedOn, IsOnlyPair, IsSelectedLast}
+use Rattle.is.proofs.Common.{IsAnsweredAlong, IsControlled, IsExchangedOver, IsNewlyCreated, IsNominatedOn, IsOnlyPair, IsSelectedLast}
 use Rattle.is.proofs.Common.{IsServing, Issued, issued_as, KeepsSelected, LastAcceptedNominationsAreLast, LeadingPathIsSelected, List}
 use Rattle.is.proofs.Common.{LoggedEvent, MatchBool, Message, NominatedAreLast, NominatesNoOther, None, numbers, Occurrence}
 use Rattle.is.proofs.Common.{OnePathIsSelected, only, Option, other, Packet, Path, PathEffect, PathTheorem, Persists, polled_as}
@@ -184,7 +184,7 @@ module _ {H P : Type 0} (mac : H → List ℕ → List ℕ → List ℕ) (answer
         controlled)
 
     module _ (from : Side) (its over : Path) (before part rest : List (Occurrence H P)) (timeout : Occurrence H P) (now : ℕ) (first last : WorldRecord H P)
-        (new : (x : Side) → IsNewAgent (at x first)) (follow : Follow mac answers first (before ++ ((part ++ timeout ∷ []) ++ rest)) last)
+        (new : (x : Side) → IsNewlyCreated (at x first)) (follow : Follow mac answers first (before ++ ((part ++ timeout ∷ []) ++ rest)) last)
         (set : (x : Occurrence H P) → Has (part ++ timeout ∷ []) x → (side : Side) → (at side x.following).renominates ≡ true)
         (k : HandedCheck mac from its over part) (nominated : AreNominatedOn (at from k.sent.following) its) (keeps : (x : Occurrence H P) → Has k.following x → KeepsSelected from x)
         (comes : timeout.entry.event ≡ world.Call (other from) (agent.HandleTimeout now)) (done : timeout.entry.outcome.entry.answer ≡ Done)

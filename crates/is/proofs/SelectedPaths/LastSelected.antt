@@ -5,10 +5,10 @@ use Rattle.is_rules.specs.Steps as agent
 use Rattle.is.specs.World as world
 use Rattle.is.proofs.Common.{[], ◌++◌, ◌∙◌, ◌∷◌, ◌≡◌, A, acts, Answer, ap, append_assoc, AreNominatedOn, at, B, Bool, CandidateRecord}
 use Rattle.is.proofs.Common.{clears, Entry, Event, false, HandedCheck, Happens, Has, if◌then◌else◌, in_world, InFlightRecord, inl, inr}
-use Rattle.is.proofs.Common.{IsNewAgent, KeepsSelected, last_of, last_selected, List, map, MatchBool, NominatedAreLast, None, Occurrence}
-use Rattle.is.proofs.Common.{only, Option, option_or, other, Outcome, own_at, own_log, Packet, Path, PathTheorem, Persists, polled_as}
-use Rattle.is.proofs.Common.{received_as, refl, Rejected, selected_along, Side, slice_get, Some, Streams, subst, sym, TakesTurn, true}
-use Rattle.is.proofs.Common.{via_out, WorldRecord, ℕ}
+use Rattle.is.proofs.Common.{IsNewlyCreated, KeepsSelected, last_of, last_selected, List, map, MatchBool, NominatedAreLast, None}
+use Rattle.is.proofs.Common.{Occurrence, only, Option, option_or, other, Outcome, own_at, own_log, Packet, Path, PathTheorem, Persists}
+use Rattle.is.proofs.Common.{polled_as, received_as, refl, Rejected, selected_along, Side, slice_get, Some, Streams, subst, sym, TakesTurn}
+use Rattle.is.proofs.Common.{true, via_out, WorldRecord, ℕ}
 use Rattle.is.proofs.ExternalViews.ViewsOfExecutions.{AreSound}
 use Rattle.is.proofs.TwoAgentEvents.OwnExecutions.{execution_on, only_none}
 use Rattle.is.proofs.TwoAgentEvents.EventsOfSegments.{Follow, meet, acts_at, own, own_execution, checked}
@@ -145,7 +145,7 @@ module _ {H P : Type 0} (mac : H → List ℕ → List ℕ → List ℕ) (answer
   -- ---- the controlling side selected what it nominated last
 
   module _ (paths : PathTheorem {H = H} {P = P} mac answers) (nominates : NominatedAreLast {H = H} {P = P} mac answers) where
-    pub nominated_selected : (from : Side) (its over : Path) (before part : List (Occurrence H P)) (first start last : WorldRecord H P) → IsNewAgent (at from first)
+    pub nominated_selected : (from : Side) (its over : Path) (before part : List (Occurrence H P)) (first start last : WorldRecord H P) → IsNewlyCreated (at from first)
         → Follow mac answers first before start → AreSound start → Follow mac answers start part last → (k : HandedCheck mac from its over part)
         → (at from k.sent.following).renominates ≡ true → AreNominatedOn (at from k.sent.following) its → ((x : Occurrence H P) → Has k.following x → KeepsSelected from x)
         → selected_along (selected_along None (own mac answers from before)) (own mac answers from part) ≡ Some its

@@ -7,7 +7,7 @@ use Rattle.is.proofs.Common.{[], ◌++◌, ◌∙◌, ◌∷◌, ◌≡◌, ◌�
 use Rattle.is.proofs.Common.{AcceptsNominationAlong, AgentRecord, ap, append_assoc, AreNominatedOn, at, B, CandidateRecord, CarriedAsk}
 use Rattle.is.proofs.Common.{CarriedSucceedLater, Done, EndsAlong, Entry, Event, Execution, false, fresh, FreshIsSound, HandedCheck}
 use Rattle.is.proofs.Common.{Happens, Has, HasSelected, inl, inr, is_some, IsAnsweredAlong, IsAskedOver, IsControlled, IsExchangedOver}
-use Rattle.is.proofs.Common.{IsNewAgent, IsOnlyPair, IsReturned, IsTaken, IsValidBy, last_of, List, LoggedEvent, MayEndIn, None, not}
+use Rattle.is.proofs.Common.{IsNewlyCreated, IsOnlyPair, IsReturned, IsTaken, IsValidBy, last_of, List, LoggedEvent, MayEndIn, None, not}
 use Rattle.is.proofs.Common.{Occurrence, Option, other, Packet, Path, PathTheorem, quiet, refl, request_at, reversed, SelectsAlong}
 use Rattle.is.proofs.Common.{SelectsPath, SelectsTop, Side, Some, source_of, Streams, subst, Success, sym, TakesTurn, true, via_out}
 use Rattle.is.proofs.Common.{WorldRecord, ℕ}
@@ -157,7 +157,7 @@ module _ {H P : Type 0} (mac : H → List ℕ → List ℕ → List ℕ) (answer
   -- the case in which the peer nominates the path, and the segment answers it in whichever way
   pub selected_where : PathTheorem {H = H} {P = P} mac answers → FreshIsSound H P → CarriedAsk {H = H} {P = P} mac answers → CarriedSucceedLater {H = H} {P = P} mac answers → AcceptedNominationsAreSelected {H = H} {P = P} mac answers
       → (first last : WorldRecord H P) (s : Streams) (before part rest : List (Occurrence H P)) (timeout : Occurrence H P) (now : ℕ) (side : Side) (path : Path)
-      → ((x : Side) → IsNewAgent (at x first)) → Follow mac answers first (before ++ ((part ++ timeout ∷ []) ++ rest)) last
+      → ((x : Side) → IsNewlyCreated (at x first)) → Follow mac answers first (before ++ ((part ++ timeout ∷ []) ++ rest)) last
       → ((x : Occurrence H P) → Has (part ++ timeout ∷ []) x → ((at side x.before).controlling ≡ false) × ((at (other side) x.before).controlling ≡ true))
       → ((start : WorldRecord H P) → Follow mac answers first before start → AreSound start → Follow mac answers start part timeout.before
       → IsAskedOver mac side path part × (IsAnsweredAlong (own mac answers side part) path ⊎ Found mac answers side path (part ++ timeout ∷ [])))

@@ -7,9 +7,9 @@ use Rattle.is.proofs.Common.{[], ◌++◌, ◌∙◌, ◌∷◌, ◌≡◌, ◌�
 use Rattle.is.proofs.Common.{begins_modern, Bool, CandidateRecord, CarriedSucceedLater, DeliveredRoundsSelect, Done, EndsAlong, Entry}
 use Rattle.is.proofs.Common.{Event, ExecutionRound, ExecutionRounds, ExecutionsCheckFromDue, ExecutionsReachServed}
 use Rattle.is.proofs.Common.{ExecutionsReachUnanswered, false, fresh, FreshIsSound, HandedCheck, Hands, Happens, Has, inl, inr, is_some}
-use Rattle.is.proofs.Common.{is_valid, IsAnsweredAlong, IsAnsweredInTime, IsControlling, IsKept, IsNewAgent, IsReturned, IsReturnedInTime}
-use Rattle.is.proofs.Common.{IsTaken, IsUnanswered, IsValidBy, last_of, List, LoggedEvent, MayEndAt, not, Occurrence, other, Packet}
-use Rattle.is.proofs.Common.{PairRecord, Path, path_of, PathTheorem, quiet, refl, SelectsAmong, SelectsPath, Side, SideRound}
+use Rattle.is.proofs.Common.{is_valid, IsAnsweredAlong, IsAnsweredInTime, IsControlling, IsKept, IsNewlyCreated, IsReturned}
+use Rattle.is.proofs.Common.{IsReturnedInTime, IsTaken, IsUnanswered, IsValidBy, last_of, List, LoggedEvent, MayEndAt, not, Occurrence}
+use Rattle.is.proofs.Common.{other, Packet, PairRecord, Path, path_of, PathTheorem, quiet, refl, SelectsAmong, SelectsPath, Side, SideRound}
 use Rattle.is.proofs.Common.{SideRoundsSuffice, source_of, state_after, Streams, subst, Succeeds, Success, SuccessesSelect, SufficeForDue}
 use Rattle.is.proofs.Common.{sym, TakesTurn, times_in, times_of, true, via_out, WorldRecord, ℕ}
 use Rattle.is.proofs.ExternalViews.ViewsOfExecutions.{Has-front, Has-rear, AreSound}
@@ -99,7 +99,7 @@ module _ {H P : Type 0} (mac : H → List ℕ → List ℕ → List ℕ) (answer
     -- ---- a check that is answered
 
     module _ (paths : PathTheorem {H = H} {P = P} mac answers) (succeeds : CarriedSucceedLater {H = H} {P = P} mac answers) (selects : SuccessesSelect {H = H} {P = P} mac answers) where
-      module _ (first start last : WorldRecord H P) (s : Streams) (before part : List (Occurrence H P)) (new : IsNewAgent (at side first)) (sound : AreSound start)
+      module _ (first start last : WorldRecord H P) (s : Streams) (before part : List (Occurrence H P)) (new : IsNewlyCreated (at side first)) (sound : AreSound start)
           (led : Follow mac answers first before start) (follow : Follow mac answers start part last) (role : (at side start).controlling ≡ true)
           (roles : (x : Occurrence H P) → Has part x → (at side x.following).controlling ≡ true) (invalid : (p : PairRecord) → Has (at side start).pairs p → is_valid p ≡ false) where
         -- what the success response selects
@@ -174,7 +174,7 @@ module _ {H P : Type 0} (mac : H → List ℕ → List ℕ → List ℕ) (answer
     -- ---- a check is sent in one of the rounds, or a path is selected
 
     polled : ExecutionsCheckFromDue {H = H} {P = P} mac answers → (first last : WorldRecord H P) (s : Streams) (before : List (Occurrence H P)) (r : SideRound H P) (rounds : List (SideRound H P)) (p : PairRecord) (by : ℕ)
-        → IsNewAgent (at side first) → Follow mac answers first before r.timeout.before → Follow mac answers r.timeout.before (all_of (r ∷ rounds)) last → (at side r.timeout.before).controlling ≡ true
+        → IsNewlyCreated (at side first) → Follow mac answers first before r.timeout.before → Follow mac answers r.timeout.before (all_of (r ∷ rounds)) last → (at side r.timeout.before).controlling ≡ true
         → ((x : Occurrence H P) → Has (all_of (r ∷ rounds)) x → (at side x.following).controlling ≡ true) → Awaits r.now by (at side r.timeout.before) p → IsUnanswered (at side r.timeout.before) p
         → AreKept side by r rounds → AreEachPolled side by r rounds
         → SomeChecks mac answers (path_of (at side r.timeout.before) p) (r ∷ rounds) ⊎ ((x : Occurrence H P) × Has (all_of (r ∷ rounds)) x × SelectsPath side x.entry)

@@ -11,7 +11,8 @@ use Rattle.is_rules.specs.Agent.{AgentRecord}
 use Rattle.is_rules.specs.Discarding.{is_local_at, is_remote_at, InvalidatesAt}
 use Rattle.is_rules.specs.Each.{Each}
 use Rattle.is_rules.specs.Forming.{SidesRecord, Combination, Formed, FormsEach, Tries, formed_as, combined_priority, pair_of}
-use Rattle.is_rules.specs.Nominating.{nominated_by_self, pair_selected, path_in, remains, selection, Names, Selection}
+use Rattle.is_rules.specs.Nominating.{nominated_by_self, pair_selected, remains, selection, Names, Selection}
+use Rattle.is_rules.specs.Sending.{path_at}
 use Rattle.is_rules.specs.StateUpdates.{has_selected}
 use Rattle.is_rules.proofs.PairLists.RemovedInTurn.{removes, RemovesInTurn}
 
@@ -51,7 +52,7 @@ pub as-many-named : (s : SidesRecord) (followed : Option ℕ) (old new : Selecti
 as-many-named s followed old new path (None, chosen, named) = ap (λ (x : Selection). length x.pairs) named.1
 as-many-named s followed old new path (Some top, chosen, named) = by (remains followed top old) named where
   by : (b : Bool) → MatchBool b ((path ≡ None) × (new ≡ old))
-      ((path ≡ Some (path_in s top)) × (new ≡ selection (change_pair top.number (nominated_by_self s.controlling s.lite) old.pairs) (Some top.number))) → length new.pairs ≡ length old.pairs
+      ((path ≡ Some (path_at s.local s.remote top.local top.remote)) × (new ≡ selection (change_pair top.number (nominated_by_self s.controlling s.lite) old.pairs) (Some top.number))) → length new.pairs ≡ length old.pairs
   by true (none, same) = ap (λ (x : Selection). length x.pairs) same
   by false (emitted, same) = ap (λ (x : Selection). length x.pairs) same ∙ as-many-changed top.number (nominated_by_self s.controlling s.lite) old.pairs
 

@@ -1,5 +1,6 @@
--- The times of `poll_timeout_soon`, `next_call` and `next_call_soon` are within the credit for checks: they come forward only with credit.
-use Rattle.std.proofs.Common.{◌≡◌, ℕ, ◌*◌, ◌≤◌, Bool, true, false, min, max, Option, Some, None, IfSome, is_some, option_map, inl, inr, refl, arith, if◌then◌else◌}
+-- The times of `next_call` and `next_call_soon` are within the credit for checks: they come forward only with credit.
+use Rattle.std.proofs.Common.{◌≡◌, ℕ, ◌*◌, ◌≤◌, Bool, true, false, min, max, Option, Some, None, IfSome, is_some, option_map, inl, inr, refl, subst, arith}
+use Rattle.std.proofs.Common.{if◌then◌else◌}
 use Rattle.std.proofs.lemmas.Bool.Decides.{nat_tests}
 use Rattle.std.specs.Option.{option_and_then}
 use Rattle.is_proto.specs.Times.{SECOND, later}
@@ -9,7 +10,7 @@ use Rattle.is_rules.specs.Charging.{CHARGE, URGENT_CREDIT, has_credit}
 use Rattle.is_rules.specs.Polls.{LEAST_TA, earliest_call, is_idle, soon}
 use Rattle.is_rules.specs.TimeoutTimes.{IsWithinCredit, KeepsCredit}
 use Rattle.is_rules.proofs.PollsAndResponses.TimesWithinCredit.{Within, soonest-within, within-credit}
-use Rattle.is_agent.specs.Polls.{call_at, next_call, next_call_soon, presses, sooner, sooner_of}
+use Rattle.is_agent.specs.Polls.{KeepsPacing, call_at, next_call, next_call_soon, presses, sooner}
 
 module _ {H P : Type 0} where
   -- with credit a time may come forward
@@ -25,13 +26,16 @@ module _ {H P : Type 0} where
     by true credit = forward last at a (grind (arith, nat_tests, modern, credit)) within
     by false credit = within
 
-  pub call-within : (last : ℕ) (a : AgentRecord H P) → CHARGE ≤ a.timing_advance → Within last a.charged_until (call_at a last)
-  call-within last a slow = soonest-within last (call_at a last) a slow (by (presses a) (is_idle a)) where
+  call-paced : (last : ℕ) (a : AgentRecord H P) → min (soon a last) (later last (3 * SECOND)) ≤ call_at a last
+  call-paced last a = by (presses a) (is_idle a) where
     by : (presses idle : Bool)
         → min (soon a last) (later last (3 * SECOND)) ≤ (if presses then soon a last else if idle then later last (3 * SECOND) else max (earliest_call a last) (soon a last))
     by true idle = omega arith
     by false true = omega arith
     by false false = omega arith
+
+  pub call-within : (last : ℕ) (a : AgentRecord H P) → CHARGE ≤ a.timing_advance → Within last a.charged_until (call_at a last)
+  call-within last a slow = soonest-within last (call_at a last) a slow (call-paced last a)
 
   pub next-keeps : (a : AgentRecord H P) → KeepsCredit a (next_call a)
   next-keeps a slow = by (is_some a.remote_creds) a.last_time refl where
@@ -40,13 +44,24 @@ module _ {H P : Type 0} where
     by true None is = tt
     by false o is = tt
 
-  pub soon-keeps : (a : AgentRecord H P) (deadline : Option ℕ) → is_modern a.timing ≡ true → KeepsCredit a deadline → KeepsCredit a (sooner_of a deadline)
-  soon-keeps a deadline modern keeps slow = by a.last_time deadline refl (keeps slow) where
+  pub next-soon-keeps : (a : AgentRecord H P) → is_modern a.timing ≡ true → KeepsCredit a (next_call_soon a)
+  next-soon-keeps a modern slow = by a.last_time (next_call a) refl (next-keeps a slow) where
     by : (o d : Option ℕ) → a.last_time ≡ o → IfSome d (λ at. IsWithinCredit a at)
         → IfSome (option_and_then (λ last. option_map (sooner (has_credit last a) last) d) o) (λ at. IsWithinCredit a at)
     by (Some last) (Some at) is within = within-credit last (sooner (has_credit last a) last at) a is (sooner-within last at a modern (within last is))
     by (Some last) None is within = tt
     by None d is within = tt
 
-  pub next-soon-keeps : (a : AgentRecord H P) → is_modern a.timing ≡ true → KeepsCredit a (next_call_soon a)
-  next-soon-keeps a modern = soon-keeps a (next_call a) modern (next-keeps a)
+  -- with credit it is the least interval after the last call, and no sooner
+  pub next-soon-paced : (a : AgentRecord H P) → KeepsPacing a (next_call_soon a)
+  next-soon-paced a = by (is_some a.remote_creds) a.last_time refl where
+    sooner-paced : (last : ℕ) (credit : Bool) → min (soon a last) (later last LEAST_TA) ≤ sooner credit last (call_at a last)
+    sooner-paced last true = omega (arith, call-paced last a)
+    sooner-paced last false = omega (arith, call-paced last a)
+
+    by : (known : Bool) (o : Option ℕ) → a.last_time ≡ o → KeepsPacing a (option_and_then (λ last. option_map (sooner (has_credit last a) last)
+        (if known then option_map (call_at a) o else None)) o)
+    by true (Some last) is = λ l l_is. let same : last ≡ l = cc in
+        subst (λ (k : ℕ). min (soon a k) (later k LEAST_TA) ≤ sooner (has_credit last a) last (call_at a last)) same (sooner-paced last (has_credit last a))
+    by false (Some last) is = tt
+    by known None is = tt

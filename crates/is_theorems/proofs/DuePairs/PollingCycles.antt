@@ -1,16 +1,16 @@
 -- Starvation freedom: a pair that is due is checked within as many polling cycles as there are pairs that are due no
 -- later, or within twice as many if checks may go ahead.
 use Rattle.is_stun.specs.declared.header.Class.TheVariants as class
-use Rattle.is_theorems.proofs.Common.{[], ◌&&◌, ◌+◌, ◌<◌, ◌∙◌, ◌∷◌, ◌≡◌, ◌≤◌, ◌⊎◌, AgentRecord, all-are-scheduled, all_scheduled, ap, arith, scheduled}
-use Rattle.is_theorems.proofs.Common.{at_request, Bool, call_time_of, call_time_with, ChecksInTurn, ChecksOn, Consent, consent_end}
-use Rattle.is_theorems.proofs.Common.{consent_of, drop, drop_while, due_by, due_time_of, earliest_call, Emitted, false, filter, first_taken}
-use Rattle.is_theorems.proofs.Common.{Has, has_consent, head, IceCreds, inl, inr, is_due_by, is_empty, is_modern, is_outdated, is_pressing}
-use Rattle.is_theorems.proofs.Common.{is_some, IsChecking, IsGone, IsIdle, IsOfUse, IsPaced, IsSound, issued_as, least-is, length}
-use Rattle.is_theorems.proofs.Common.{length-drop, List, MaintainsPairs, map, MatchOption, MAX, max, min, nat_le, nat_tests, next_request}
-use Rattle.is_theorems.proofs.Common.{NextTimeoutFrom, no-more, None, NoPairIsStarved, Ok, Option, PairRecord, path_of, PollsTimeout}
-use Rattle.is_theorems.proofs.Common.{queue_left, refl, request_at, RequestRecord, rising-each, ServesQueued, Some, some-pass, soon, Stream}
-use Rattle.is_theorems.proofs.Common.{StunTiming, subst, suc, sym, take_while, timeout_begun, timeouts-from, TimeoutsAreOfUse, TimesOut}
-use Rattle.is_theorems.proofs.Common.{true, Turn, Turns, ℕ}
+use Rattle.is_theorems.proofs.Common.{[], ◌&&◌, ◌+◌, ◌<◌, ◌∙◌, ◌∷◌, ◌≡◌, ◌≤◌, ◌⊎◌, AgentRecord, all-are-scheduled, all_scheduled, ap, arith}
+use Rattle.is_theorems.proofs.Common.{Cycle, Cycles, scheduled, at_request, Bool, call_time_of, call_time_with, ChecksInTurn, ChecksOn}
+use Rattle.is_theorems.proofs.Common.{Consent, consent_end, consent_of, drop, drop_while, due_by, due_time_of, earliest_call, Emitted}
+use Rattle.is_theorems.proofs.Common.{false, filter, first_taken, Has, has_consent, head, IceCreds, inl, inr, is_due_by, is_empty}
+use Rattle.is_theorems.proofs.Common.{is_modern, is_outdated, is_pressing, is_some, IsChecking, IsGone, IsIdle, IsOfUse, IsPaced, IsSound}
+use Rattle.is_theorems.proofs.Common.{issued_as, least-is, length, length-drop, List, MaintainsPairs, map, MatchOption, MAX, max, min}
+use Rattle.is_theorems.proofs.Common.{nat_le, nat_tests, next_request, NextTimeoutFrom, no-more, None, NoPairIsStarved, Ok, Option}
+use Rattle.is_theorems.proofs.Common.{PairRecord, path_of, PollsTimeout, queue_left, refl, request_at, RequestRecord, rising-each}
+use Rattle.is_theorems.proofs.Common.{ServesQueued, Some, some-pass, soon, Stream, StunTiming, subst, suc, sym, take_while, timeout_begun}
+use Rattle.is_theorems.proofs.Common.{timeouts-from, TimeoutsAreOfUse, TimesOut, true, ℕ}
 use Rattle.is_theorems.proofs.RuleEffects.UnchangedSettings.{Frame, Turns as SwitchRole, serves}
 use Rattle.is_theorems.proofs.RuleEffects.ChangedPairs.{Has-map}
 use Rattle.is_theorems.proofs.CallEffects.AddedCandidates.{by_deadline}
@@ -106,19 +106,19 @@ module _ {H P : Type 0} where
         subst (λ o. MatchOption o (MaintainsPairs mac now (timeout_begun now a) s emitted new t) (λ q. ServesQueued mac q (at_request now (timeout_begun now a)) s emitted new t))
         (none-waits now a.timing a.remote_creds a.queue none) h
 
-    pub turn-fits : (old new : AgentRecord H P) (at now : ℕ) (emitted : Emitted) → Fits at old → Turn mac old now emitted new
+    pub cycle-fits : (old new : AgentRecord H P) (at now : ℕ) (emitted : Emitted) → Fits at old → Cycle mac old now emitted new
         → Fits now new × Follows old.pairs new.pairs × (new.timing ≡ old.timing) × (new.local ≡ old.local) × (new.remote ≡ old.remote)
         × (new.controlling ≡ old.controlling) × (new.next_number ≡ old.next_number) × (is_modern new.timing ≡ is_modern old.timing) × (ChecksInTurn old → ChecksInTurn new)
-    turn-fits old new at now emitted f turn =
-        let a = asks-follow at turn.deadline old turn.asked f.last turn.polled in
-        let queue : turn.asked.queue ≡ [] = ap (λ (x : Base). x.queue) a.0 ∙ f.idle.queue in
-        let known : is_some turn.asked.remote_creds ≡ true = ap (λ (x : Base). is_some x.remote_creds) a.0 ∙ f.checking.peer in
-        let full : turn.asked.lite ≡ false = ap (λ (x : Base). x.lite) a.0 ∙ f.checking.full in
-        let maintained = maintains_pairs-from now turn.asked turn.before turn.following emitted turn.after queue turn.timeout in
-        let m = timeout-follows mac now (timeout_begun now turn.asked) turn.after turn.before turn.following emitted known full maintained in
-        let taken : base_of new ≡ base_of turn.after = ap (λ (a : AgentRecord H P). base_of a) turn.taken in
-        let all = follows-on old.pairs turn.asked.pairs turn.after.pairs a.1 m.1 in
-        let follows : Follows old.pairs new.pairs = subst (λ ps. Follows old.pairs ps) (sym (ap (λ (a : AgentRecord H P). a.pairs) turn.taken)) all in (
+    cycle-fits old new at now emitted f cycle =
+        let a = asks-follow at cycle.deadline old cycle.asked f.last cycle.polled in
+        let queue : cycle.asked.queue ≡ [] = ap (λ (x : Base). x.queue) a.0 ∙ f.idle.queue in
+        let known : is_some cycle.asked.remote_creds ≡ true = ap (λ (x : Base). is_some x.remote_creds) a.0 ∙ f.checking.peer in
+        let full : cycle.asked.lite ≡ false = ap (λ (x : Base). x.lite) a.0 ∙ f.checking.full in
+        let maintained = maintains_pairs-from now cycle.asked cycle.before cycle.following emitted cycle.after queue cycle.timeout in
+        let m = timeout-follows mac now (timeout_begun now cycle.asked) cycle.after cycle.before cycle.following emitted known full maintained in
+        let taken : base_of new ≡ base_of cycle.after = ap (λ (a : AgentRecord H P). base_of a) cycle.taken in
+        let all = follows-on old.pairs cycle.asked.pairs cycle.after.pairs a.1 m.1 in
+        let follows : Follows old.pairs new.pairs = subst (λ ps. Follows old.pairs ps) (sym (ap (λ (a : AgentRecord H P). a.pairs) cycle.taken)) all in (
           record {
             distinct = follows.distinct f.distinct;
             checking = record {
@@ -126,11 +126,11 @@ module _ {H P : Type 0} where
               peer = ap (λ (x : Base). is_some x.remote_creds) taken ∙ (ap (λ (x : Base). is_some x.remote_creds) m.0 ∙ known);
             };
             idle = record {
-              packets = ap (λ (a : AgentRecord H P). a.packets) turn.taken;
-              queue = ap (λ (x : Base). x.queue) taken ∙ (ap (λ (x : Base). x.queue) m.0 ∙ none-left now turn.asked.timing turn.asked.remote_creds turn.asked.queue queue);
+              packets = ap (λ (a : AgentRecord H P). a.packets) cycle.taken;
+              queue = ap (λ (x : Base). x.queue) taken ∙ (ap (λ (x : Base). x.queue) m.0 ∙ none-left now cycle.asked.timing cycle.asked.remote_creds cycle.asked.queue queue);
             };
-            calm = ap (λ (a : AgentRecord H P). is_pressing a) turn.taken
-                ∙ calm-after mac now (timeout_begun now turn.asked) turn.after turn.before turn.following emitted full known maintained;
+            calm = ap (λ (a : AgentRecord H P). is_pressing a) cycle.taken
+                ∙ calm-after mac now (timeout_begun now cycle.asked) cycle.after cycle.before cycle.following emitted full known maintained;
             last = ap (λ (x : Base). x.last_time) taken ∙ ap (λ (x : Base). x.last_time) m.0;
           },
           follows,
@@ -205,39 +205,39 @@ module _ {H P : Type 0} where
                 ))
           ]
 
-    pub turn-moves : (old new : AgentRecord H P) (at now by : ℕ) (emitted : Emitted) → Fits at old → by ≤ now
-        → (p : PairRecord) → Has old.pairs p → due_time_of at old.timing p ≤ by → Turn mac old now emitted new → Does at now by old emitted new p
-    turn-moves old new at now by emitted f from p has due turn =
-        let a = all-are-scheduled old turn.asked at turn.deadline f.last f.checking.full f.idle.packets f.idle.queue f.calm (some-pairs old.pairs p has) turn.polled in
-        let m : TimesOut mac now (record old { pairs = map (scheduled at old.timing) old.pairs }) turn.before (Ok tt) emitted turn.after turn.following =
-        subst (λ (x : AgentRecord H P). TimesOut mac now x turn.before (Ok tt) emitted turn.after turn.following) a.1 turn.timeout in
-        let d = scheduled-moves old turn.after turn.before turn.following at now by emitted f.distinct f.checking f.idle.queue from p has due m in
-        subst (λ (x : AgentRecord H P). Does at now by old emitted x p) (sym turn.taken) d
+    pub cycle-moves : (old new : AgentRecord H P) (at now by : ℕ) (emitted : Emitted) → Fits at old → by ≤ now
+        → (p : PairRecord) → Has old.pairs p → due_time_of at old.timing p ≤ by → Cycle mac old now emitted new → Does at now by old emitted new p
+    cycle-moves old new at now by emitted f from p has due cycle =
+        let a = all-are-scheduled old cycle.asked at cycle.deadline f.last f.checking.full f.idle.packets f.idle.queue f.calm (some-pairs old.pairs p has) cycle.polled in
+        let m : TimesOut mac now (record old { pairs = map (scheduled at old.timing) old.pairs }) cycle.before (Ok tt) emitted cycle.after cycle.following =
+        subst (λ (x : AgentRecord H P). TimesOut mac now x cycle.before (Ok tt) emitted cycle.after cycle.following) a.1 cycle.timeout in
+        let d = scheduled-moves old cycle.after cycle.before cycle.following at now by emitted f.distinct f.checking f.idle.queue from p has due m in
+        subst (λ (x : AgentRecord H P). Does at now by old emitted x p) (sym cycle.taken) d
 
     -- ---- one polling cycle after another
 
-    gone-through : (turns : List (ℕ × Emitted)) (first last : AgentRecord H P) (at n : ℕ) → Fits at first → Turns mac turns first last → IsGone n first.pairs → IsGone n last.pairs
+    gone-through : (cycles : List (ℕ × Emitted)) (first last : AgentRecord H P) (at n : ℕ) → Fits at first → Cycles mac cycles first last → IsGone n first.pairs → IsGone n last.pairs
     gone-through [] first last at n f is gone = subst (λ (a : AgentRecord H P). IsGone n a.pairs) (sym is) gone
-    gone-through (x ∷ rest) first last at n f (mid, turn, more) gone =
-        let k = turn-fits first mid at x.0 x.1 f turn in
+    gone-through (x ∷ rest) first last at n f (mid, cycle, more) gone =
+        let k = cycle-fits first mid at x.0 x.1 f cycle in
         gone-through rest mid last x.0 n k.0 more (gone-follows first.pairs mid.pairs n k.1 gone)
 
     abbrev Reached : List (ℕ × Emitted) → AgentRecord H P → AgentRecord H P → PairRecord → Type 0
-    Reached turns first last p = ((x : ℕ × Emitted) × Has turns x × ChecksOn first x.1 p) ⊎ IsGone p.number last.pairs
+    Reached cycles first last p = ((x : ℕ × Emitted) × Has cycles x × ChecksOn first x.1 p) ⊎ IsGone p.number last.pairs
 
-    not-starved : (turns : List (ℕ × Emitted)) (first last : AgentRecord H P) (p : PairRecord) (at by : ℕ) → Fits at first → ChecksInTurn first → IsPaced first.timing → Has first.pairs p
-        → due_time_of at first.timing p ≤ by → ((x : ℕ × Emitted) → Has turns x → (by ≤ x.0) × (x.0 < MAX)) → Turns mac turns first last
-        → calls_left (is_modern first.timing) first.ahead_turn (length (due_by by at first.timing first.pairs)) ≤ length turns + 1 → Reached turns first last p
+    not-starved : (cycles : List (ℕ × Emitted)) (first last : AgentRecord H P) (p : PairRecord) (at by : ℕ) → Fits at first → ChecksInTurn first → IsPaced first.timing → Has first.pairs p
+        → due_time_of at first.timing p ≤ by → ((x : ℕ × Emitted) → Has cycles x → (by ≤ x.0) × (x.0 < MAX)) → Cycles mac cycles first last
+        → calls_left (is_modern first.timing) first.ahead_turn (length (due_by by at first.timing first.pairs)) ≤ length cycles + 1 → Reached cycles first last p
     not-starved [] first last p at by f in_turn paced has due timeouts is enough =
         let some : 0 < length (due_by by at first.timing first.pairs) = some-pass (is_due_by by at first.timing) first.pairs p has (le-is (due_time_of at first.timing p) by due) in
         absurd (none-left-over (calls_left (is_modern first.timing) first.ahead_turn (length (due_by by at first.timing first.pairs)))
         (calls-some (is_modern first.timing) first.ahead_turn (length (due_by by at first.timing first.pairs)) some) enough) where
           none-left-over : (n : ℕ) → 2 ≤ n → n ≤ 0 + 1 → ⊥
           none-left-over n some enough = omega (arith, some, enough)
-    not-starved (x ∷ rest) first last p at by f in_turn paced has due timeouts (mid, turn, more) enough =
-        let k = turn-fits first mid at x.0 x.1 f turn in
+    not-starved (x ∷ rest) first last p at by f in_turn paced has due timeouts (mid, cycle, more) enough =
+        let k = cycle-fits first mid at x.0 x.1 f cycle in
         let times_of_call = timeouts x (inl refl) in
-        elim (turn-moves first mid at x.0 by x.1 f times_of_call.0 p has due turn) [
+        elim (cycle-moves first mid at x.0 by x.1 f times_of_call.0 p has due cycle) [
           | inl gone ↦ inr (gone-through rest mid last x.0 p.number k.0 more gone)
           | inr (o, there, out, inl same) ↦
               (let one : o ≡ p = f.distinct o p there has same in
@@ -379,8 +379,8 @@ module _ {H P : Type 0} where
           by false calm = idle none calm
 
     pub no-pair-starved : NoPairIsStarved P mac
-    no-pair-starved first last turns p at by sound packets last_is calm in_turn waits timeouts turning enough =
-        not-starved turns first last p at by
+    no-pair-starved first last cycles p at by sound packets last_is calm in_turn waits timeouts cycled enough =
+        not-starved cycles first last p at by
         (record {
           distinct = distinct-sound first sound;
           checking = waits.checking;
@@ -389,5 +389,5 @@ module _ {H P : Type 0} where
           last = last_is;
         })
         in_turn waits.paced waits.there (let due = waits.due in omega (arith, due))
-        (λ x has. (let from = (timeouts x has).0 in let early = (timeouts x has).1 in (omega (arith, from), omega (arith, early)))) turning
-        (calls-from (is_modern first.timing) first.ahead_turn (length (due_by by at first.timing first.pairs)) (length turns) (omega (arith, enough)))
+        (λ x has. (let from = (timeouts x has).0 in let early = (timeouts x has).1 in (omega (arith, from), omega (arith, early)))) cycled
+        (calls-from (is_modern first.timing) first.ahead_turn (length (due_by by at first.timing first.pairs)) (length cycles) (omega (arith, enough)))

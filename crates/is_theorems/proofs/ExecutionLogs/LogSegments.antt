@@ -1,12 +1,12 @@
 -- Segments of a log: their final states, the packets polled before them, and their polling cycles. Polls between `poll_timeout` and
 -- `handle_timeout` change only the events.
-use Rattle.is_theorems.proofs.Common.{[], ◌++◌, ◌∙◌, ◌∷◌, ◌≡◌, ◌⊎◌, AgentRecord, answer_by, ap, append_assoc, AreTaken, arith, scheduled, Bool}
-use Rattle.is_theorems.proofs.Common.{Call, CandidateRecord, Done, done, Emitted, Entry, Err, false, HandleTimeout, Has, IceAgentEvent}
-use Rattle.is_theorems.proofs.Common.{IceError, if◌then◌else◌, inl, inr, is_idle, is_modern, is_poll, is_waiting, IsControllingIn, IsOfUse}
-use Rattle.is_theorems.proofs.Common.{IsPolled, IsSound, length, List, Logged, map, MatchBool, NextTimeout, NextTimeoutFrom, None, not, Ok}
-use Rattle.is_theorems.proofs.Common.{Option, Packet, PairRecord, PartsAreRuns, Polled, PollEvent, PollsTimeout, PollTimeout, PollTransmit}
-use Rattle.is_theorems.proofs.Common.{refl, Result, Run, RunsOn, Some, Step, Stream, StunTiming, subst, sym, TimesOut, true, TurnsAreOfUse}
-use Rattle.is_theorems.proofs.Common.{ℕ}
+use Rattle.is_theorems.proofs.Common.{[], ◌++◌, ◌∙◌, ◌∷◌, ◌≡◌, ◌⊎◌, AgentRecord, answer_by, ap, append_assoc, AreTaken, arith}
+use Rattle.is_theorems.proofs.Common.{scheduled, Bool, Call, CandidateRecord, CyclesAreOfUse, Done, done, Emitted, Entry, Err, false}
+use Rattle.is_theorems.proofs.Common.{HandleTimeout, Has, IceAgentEvent, IceError, if◌then◌else◌, inl, inr, is_idle, is_modern, is_poll}
+use Rattle.is_theorems.proofs.Common.{is_waiting, IsControllingIn, IsOfUse, IsPolled, IsSound, length, List, Logged, map, MatchBool}
+use Rattle.is_theorems.proofs.Common.{NextTimeout, NextTimeoutFrom, None, not, Ok, Option, Packet, PairRecord, PartsAreRuns, Polled}
+use Rattle.is_theorems.proofs.Common.{PollEvent, PollsTimeout, PollTimeout, PollTransmit, refl, Result, Run, RunsOn, Some, Step, Stream}
+use Rattle.is_theorems.proofs.Common.{StunTiming, subst, sym, TimesOut, true, ℕ}
 use Rattle.is_theorems.proofs.CallEffects.AddedCandidates.{by_deadline}
 use Rattle.is_theorems.proofs.RuleEffects.UnchangedSettings.{either}
 use Rattle.is_theorems.proofs.CallEffects.PathAndTradeEffects.{path_theorem}
@@ -216,8 +216,8 @@ module _ {H P : Type 0} where
     polls-on start old new deadline before (x ∷ polls) u t are none woke (mid, v, run, number, based, step) =
         poll-on start mid new deadline x.call x.entry v t (are x (inl refl)) none (polls-on start old mid deadline before polls u v (λ y has. are y (inr has)) none woke run) step
 
-    pub turns-are-of-use : TurnsAreOfUse {H = H} {P = P} mac answers
-    turns-are-of-use first s log fresh before polls start last asked timeout deadline now part empty turn checking some early =
+    pub cycles-are-of-use : CyclesAreOfUse {H = H} {P = P} mac answers
+    cycles-are-of-use first s log fresh before polls start last asked timeout deadline now part empty turn checking some early =
         of_use part.run where
           sound : IsSound start
           sound = runs_sound mac answers (path_theorem mac answers) first start s part.at before fresh part.led

@@ -8,6 +8,7 @@ use Rattle.is_theorems.proofs.Common.{is_nominated_state, is_numbered, is_redund
 use Rattle.is_theorems.proofs.Common.{IsPlaced, length, less-or, List, max, nat_lt, Nominated, nomination_from, NominationState, None, not}
 use Rattle.is_theorems.proofs.Common.{Option, pair_of, PairRecord, Path, refl, removes, RemovesInTurn, SidesRecord, Some, state_from, subst}
 use Rattle.is_theorems.proofs.Common.{Succeeded, Success, sym, taking_over, Tries, true, Waiting, without, ℕ}
+use Rattle.is_rules.specs.Sending.{path_at}
 use Rattle.is_theorems.proofs.BasicLemmas.EqualAddresses.{both, same_address-sound, same_protocol-sound}
 
 -- ---- lists
@@ -60,11 +61,7 @@ pub record Parts : Type 0 where
   pub next_number : ℕ
 
 abbrev pub path_in : Parts → PairRecord → Path
-path_in x p = record {
-  proto = (candidate_at x.local p.local).proto;
-  source = base_of (candidate_at x.local p.local);
-  destination = (candidate_at x.remote p.remote).addr;
-}
+path_in x p = path_at x.local x.remote p.local p.remote
 
 abbrev pub IsStarted : PairRecord → Type 0
 IsStarted p = (c : Check) → Has p.checks c → is_started_state p.state ≡ true

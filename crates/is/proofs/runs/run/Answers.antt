@@ -47,7 +47,7 @@ pub returns-clause-parts : goal.returns-clause-parts
 returns-clause-parts g c = c.parts_are_runs.ensures _ _ _ _ _ (run_of _ _ _ _ _ _ c.args.calls.items c.run_calls.result c.run_calls.ensures)
 
 pub returns-clause-of_use : goal.returns-clause-of_use
-returns-clause-of_use g c = c.turns_are_of_use.ensures _ _ _
+returns-clause-of_use g c = c.cycles_are_of_use.ensures _ _ _
 
 pub returns-clause-rounds : goal.returns-clause-rounds
 returns-clause-rounds g c = c.open_rounds_select.ensures _ _ _

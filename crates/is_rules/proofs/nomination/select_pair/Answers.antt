@@ -4,8 +4,8 @@ use Rattle.is_rules.proofs.FunctionProofs.DuePairsAfterNomination.{falls-named}
 use Rattle.is_rules.proofs.PairLists.PairsInLists.{all-has, placed-changed, self-places}
 use Rattle.is_rules.proofs.nomination.select_pair.Goals as goal
 
-pub path_in-path-requires : goal.path_in-path-requires
-path_in-path-requires c =
+pub path_of-path-requires : goal.path_of-path-requires
+path_of-path-requires c =
     let s = c.args.sides in
     let able = chosen-able s.controlling c.args.followed (selection (multiset_of c.args.pairs.now) c.args.selected.now) c.in-Some.top.now c.in-Some.ensures in
     all-has (is_placed s.local.now s.remote.now) (multiset_of c.args.pairs.now) c.in-Some.top.now c.requires able.0
