@@ -38,6 +38,12 @@ pub use traces::Trace;
 pub use world::{AgentSpec, TwoAgents, World};
 pub use world_events::{InFlight, Side, TwoAgentsEvent, WorldEntry, WorldEvent, WorldLog};
 
+/// What `IceAgent::local_candidates` returns.
+pub type LocalCandidates<'a> = LiveCandidates<'a>;
+
+/// What `IceAgent::remote_candidates` returns.
+pub type RemoteCandidates<'a> = LiveCandidates<'a>;
+
 /// The type states of `CandidateBuilder`.
 pub mod candidate {
     pub use is_candidate::{HasProtocol, HasRoute, NoProtocol, NoRoute, Tcp, Udp};

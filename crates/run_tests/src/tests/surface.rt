@@ -9,10 +9,10 @@ use is::stun::{
 use is::{
     AgentCall, AgentSpec, Answer, Call, Candidate, CandidateBuilder, CandidateKind,
     DefaultSha1HmacProvider, Duration, Entry, FnPreference, IceAgent, IceAgentEvent, IceAgentStats,
-    IceConnectionState, IceCreds, IceError, InFlight, Instant, Issued, LiveCandidates,
-    LocalPreference, ParseFault, Path, PreferenceFunction, Protocol, RunLog, Settings,
-    Sha1HmacProvider, Side, SocketText, StunError, TcpType, Text, Trace, Transmit, TwoAgents,
-    TwoAgentsEvent, World, WorldEntry, WorldEvent, WorldLog,
+    IceConnectionState, IceCreds, IceError, InFlight, Instant, Issued, LocalCandidates,
+    LocalPreference, ParseFault, Path, PreferenceFunction, Protocol, RemoteCandidates, RunLog,
+    Settings, Sha1HmacProvider, Side, SocketText, StunError, TcpType, Text, Trace, Transmit,
+    TwoAgents, TwoAgentsEvent, World, WorldEntry, WorldEvent, WorldLog,
 };
 use std::alloc::AllocError;
 use std::error::Error;
@@ -117,7 +117,8 @@ fn candidates() {
     is_copied::<CandidateBuilder<NoProtocol, NoRoute>>();
     is_copied::<CandidateBuilder<HasProtocol<Tcp>, HasRoute>>();
     is_preference::<Boxed>();
-    borrows::<LiveCandidates<'static>>();
+    borrows::<LocalCandidates<'static>>();
+    borrows::<RemoteCandidates<'static>>();
 }
 
 fn pairs() {
