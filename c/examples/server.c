@@ -3,17 +3,11 @@
 #include <stdlib.h>
 #include <string.h>
 
-enum { WAYS = 4, CHECKS = 8, PATHS = 4 }; /* entries of a set; of each table for each session */
+enum { WAYS = 4, CHECKS = 8, SHARERS = 4 }; /* checks of a set; of their table for each session; sessions that are entered for a path */
 
 struct server_check {
     uint64_t turn;
     uint8_t id[12];
-    uint32_t slot;
-};
-
-struct server_path {
-    uint64_t turn;
-    is_ice_address from, to;
     uint32_t slot;
 };
 
@@ -43,13 +37,13 @@ bool server_begin(struct server *s, const struct server_calls *calls, size_t mos
 {
     memset(s, 0, sizeof *s);
     s->calls = *calls, s->most = most;
-    s->ufrags_size = power_from(2 * most), s->checks_size = power_from(CHECKS * most), s->paths_size = power_from(PATHS * most);
+    s->ufrags_size = power_from(2 * most), s->checks_size = power_from(CHECKS * most), s->paths_size = power_from(2 * most);
     s->heap = (struct server_session **)calloc(most + 1, sizeof *s->heap);
     s->slots = (struct server_session **)calloc(most + 1, sizeof *s->slots);
     s->free_slots = (uint32_t *)calloc(most + 1, sizeof *s->free_slots);
     s->ufrags = (struct server_session **)calloc(s->ufrags_size, sizeof *s->ufrags);
     s->checks = (struct server_check *)calloc(s->checks_size, sizeof *s->checks);
-    s->paths = (struct server_path *)calloc(s->paths_size, sizeof *s->paths);
+    s->paths = (struct server_path **)calloc(s->paths_size, sizeof *s->paths);
     if (most < UINT32_MAX && s->heap && s->slots && s->free_slots && s->ufrags && s->checks && s->paths) {
         for (size_t i = 0; i < most; i++) s->free_slots[i] = (uint32_t)(most - 1 - i);
         return true;
@@ -138,28 +132,47 @@ static struct server_session *with_check(struct server *s, const uint8_t id[12])
     return NULL;
 }
 
-static struct server_path *paths_of(struct server *s, const is_ice_address *from, const is_ice_address *to)
+static struct server_path **paths_of(struct server *s, const is_ice_address *from, const is_ice_address *to)
 {
-    return &s->paths[hash_path(from, to) & (s->paths_size - 1) & ~(uint64_t)(WAYS - 1)];
+    return &s->paths[hash_path(from, to) & (s->paths_size - 1)];
 }
 
-/* The session of entry i of a set, if it is of this path. */
-static struct server_session *on_path(struct server *s, const struct server_path *p, const is_ice_address *from, const is_ice_address *to)
+/* The next entry of this path, from this one of its bucket on. There are at most SHARERS. */
+static struct server_path *on_path(struct server_path *p, const is_ice_address *from, const is_ice_address *to)
 {
-    bool is_it = p->turn != 0 && is_ice_same_address(&p->from, from) && is_ice_same_address(&p->to, to);
-    return is_it ? s->slots[p->slot] : NULL;
+    while (p && !(is_ice_same_address(&p->from, from) && is_ice_same_address(&p->to, to))) p = p->next;
+    return p;
 }
 
-/* Enters a path from which the agent takes media: so a replay from another address takes nobody's place. */
+static void leave_path(struct server *s, struct server_path *p)
+{
+    struct server_path **at = paths_of(s, &p->from, &p->to);
+    while (*at && *at != p) at = &(*at)->next;
+    if (*at) *at = p->next;
+    p->turn = 0;
+}
+
+/* Enters a path from which the agent takes media: so a replay from another address takes nobody's place. It replaces that path of its own
+ * session which was not used for longest. Entries of this path whose agents no longer take media from there leave it. */
 static void enter_path(struct server *s, struct server_session *x, uint64_t now, const is_ice_address *from, const is_ice_address *to)
 {
+    struct server_path **first = paths_of(s, from, to), *oldest = x->paths, *next;
+    size_t others = 0;
+    bool is_there = false;
     if (is_ice_takes_media_from(&x->agent, now, from) != IS_ICE_OK) return;
-    struct server_path *set = paths_of(s, from, to), *oldest = set;
-    for (size_t i = 0; i < WAYS; i++) {
-        if (on_path(s, &set[i], from, to) == x) return;
-        if (set[i].turn < oldest->turn) oldest = &set[i];
+    for (struct server_path *p = on_path(*first, from, to); p; p = next) {
+        next = on_path(p->next, from, to);
+        if (is_ice_takes_media_from(&p->session->agent, now, from) != IS_ICE_OK) leave_path(s, p);
+        else if (p->session != x) others++;
+        else p->turn = ++s->turn, is_there = true;
     }
-    oldest->from = *from, oldest->to = *to, oldest->slot = x->slot, oldest->turn = ++s->turn;
+    if (is_there || others >= SHARERS) return;
+    for (size_t i = 1; i < SERVER_PATHS; i++)
+        if (x->paths[i].turn < oldest->turn) oldest = &x->paths[i];
+    leave_path(s, oldest);
+    while (*first) first = &(*first)->next;
+    oldest->from = *from, oldest->to = *to, oldest->session = x, oldest->turn = ++s->turn, oldest->next = NULL;
+    *first = oldest;
 }
 
 /* ---- what an agent has to do */
@@ -205,6 +218,7 @@ void server_remove(struct server *s, struct server_session *x)
 {
     size_t place = x->place;
     leave_ufrags(s, x);
+    for (size_t i = 0; i < SERVER_PATHS; i++) leave_path(s, &x->paths[i]);
     s->slots[x->slot] = NULL;
     s->free_slots[s->most - s->count--] = x->slot;
     if (place == s->count) return;
@@ -276,13 +290,10 @@ static void take_request(
 static void take_response(struct server *s, uint64_t now, const is_ice_address *from, const is_ice_address *to, const uint8_t *bytes,
                           size_t length, const uint8_t id[12])
 {
-    struct server_path *set = paths_of(s, from, to);
     if (taken(s, with_check(s, id), now, from, to, bytes, length)) return;
-    for (size_t i = 0; i < WAYS; i++) {
-        struct server_session *x = on_path(s, &set[i], from, to);
-        if (x && is_ice_accepts_packet(&x->agent, IS_ICE_UDP, from, to, bytes, length) == IS_ICE_OK)
-            if (taken(s, x, now, from, to, bytes, length)) return;
-    }
+    for (struct server_path *p = on_path(*paths_of(s, from, to), from, to); p; p = on_path(p->next, from, to))
+        if (is_ice_accepts_packet(&p->session->agent, IS_ICE_UDP, from, to, bytes, length) == IS_ICE_OK)
+            if (taken(s, p->session, now, from, to, bytes, length)) return;
     is_ice_count(&s->counts, IS_ICE_REJECTED_NO_CHECK);
 }
 
@@ -291,14 +302,11 @@ static void take_response(struct server *s, uint64_t now, const is_ice_address *
 static void take_media(
     struct server *s, uint64_t now, const is_ice_address *from, const is_ice_address *to, const uint8_t *bytes, size_t length)
 {
-    struct server_path *set = paths_of(s, from, to);
-    for (size_t i = 0; i < WAYS; i++) {
-        struct server_session *x = on_path(s, &set[i], from, to);
-        if (x && is_ice_takes_media_from(&x->agent, now, from) == IS_ICE_OK) {
-            s->calls.media(s->calls.user, x, from, to, bytes, length);
-            return;
-        }
-    }
+    struct server_path *p = on_path(*paths_of(s, from, to), from, to);
+    while (p && is_ice_takes_media_from(&p->session->agent, now, from) != IS_ICE_OK) p = on_path(p->next, from, to);
+    if (!p) return;
+    p->turn = ++s->turn;
+    s->calls.media(s->calls.user, p->session, from, to, bytes, length);
 }
 
 void server_take(struct server *s, uint64_t now, const is_ice_address *from, const is_ice_address *to, const uint8_t *bytes, size_t length)

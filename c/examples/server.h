@@ -7,7 +7,8 @@
  * - of a response whose check is no longer in that table, and of media, by source and destination.
  * Each table only says whom to ask: the agent itself decides, by is_ice_handle_packet, is_ice_accepts_packet and
  * is_ice_takes_media_from. So an entry that is old costs a call, and gives no datagram to a wrong agent. No table grows by
- * what arrives: memory is fixed by server_begin. */
+ * what arrives: memory is fixed by server_begin and by struct server_session. Paths are entries of their session, so that none of
+ * another session takes their place: however their hashes fall, media gets through. */
 #ifndef SERVER_H
 #define SERVER_H
 
@@ -18,7 +19,18 @@ enum {
     SERVER_BURST = 64,    /* datagrams that are read before the timeouts' turn */
     SERVER_TIMEOUTS = 16, /* timeouts that are called before the datagrams' turn: fewer, since a check brings several datagrams, and
                            * what the socket's buffer does not hold is lost and sent again */
-    SERVER_UFRAG = 64     /* bytes: of a local username fragment at most */
+    SERVER_UFRAG = 64,    /* bytes: of a local username fragment at most */
+    SERVER_PATHS = 8      /* of a session, from which media gets to it: a ninth replaces the one that was not used for longest */
+};
+
+struct server_session;
+
+/* A path of a session, in its bucket of the table of paths. */
+struct server_path {
+    uint64_t turn;               /* when it was last used; 0: it is in no bucket */
+    is_ice_address from, to;
+    struct server_session *session;
+    struct server_path *next;
 };
 
 /* One session. All zero at first. The program creates and frees the agent, and sets and reads `user`; the rest is the server's. */
@@ -30,7 +42,8 @@ struct server_session {
     size_t ufrag_length;
     uint64_t due;                /* when is_ice_handle_timeout is called next */
     size_t place;                /* in the heap of these times */
-    uint32_t slot;               /* its number in the tables */
+    uint32_t slot;               /* its number in the table of transaction IDs */
+    struct server_path paths[SERVER_PATHS];
 };
 
 /* What the server needs of the program. None of them may add or remove a session, or free an agent. */
@@ -46,7 +59,6 @@ struct server_calls {
 };
 
 struct server_check; /* an entry of the table of transaction IDs */
-struct server_path;  /* an entry of the table of paths */
 
 struct server {
     struct server_calls calls;
@@ -57,13 +69,13 @@ struct server {
     uint32_t *free_slots;
     size_t ufrags_size, checks_size, paths_size; /* powers of two */
     struct server_check *checks;
-    struct server_path *paths;
-    uint64_t turn;          /* counts entries: the oldest one of a set is replaced */
+    struct server_path **paths;
+    uint64_t turn;          /* counts entries and uses: the oldest one is replaced */
     uint8_t random[252];
     size_t random_left;
 };
 
-/* server_begin - makes the tables for so many sessions: about 900 bytes for each. False: there is no memory. */
+/* server_begin - makes the tables for so many sessions: at most 470 bytes for each. False: there is no memory. */
 bool server_begin(struct server *server, const struct server_calls *calls, size_t most);
 
 /* server_end - frees the tables. The sessions stay the program's. */

@@ -1,6 +1,7 @@
 /* Tests examples/server.c: many sessions on one socket, whose peers are in this process on sockets of their own, over loopback. All start
- * at once. Each has to find a path, which it does only if each request and each response gets to its agent. With 16 sessions or fewer each
- * peer has a path of its own: then each sends media, which has to get to its session, and to none once that is removed.
+ * at once. Each has to find a path, which it does only if each request and each response gets to its agent. With 500 sessions or fewer
+ * each peer has a socket of its own: then each sends media, which has to get to its session, and to none once that is removed. So many,
+ * since their ports are random: a table of paths that has no room for some, by how their hashes fall, shows it in most runs.
  *
  * server [N] [SECONDS]: with so many sessions, 10,000 without a number; fails if they take longer than these seconds, 30 without. */
 #define _GNU_SOURCE
@@ -10,7 +11,7 @@
 
 #define TEXT(text) (const uint8_t *)(text), strlen(text)
 
-enum { PEERS = 16 };
+enum { SHARED = 16, OWN = 500 }; /* sockets of the peers: if sessions share them; at most, if each has its own */
 
 struct side {
     struct net net;
@@ -19,7 +20,8 @@ struct side {
     size_t count, connected, sent, lost, heard;
 };
 
-static struct side one, others[PEERS];
+static struct side one, others[OWN];
+static size_t peers;
 
 static void fail(const char *what, const char *why)
 {
@@ -54,7 +56,7 @@ static void take_media(void *user, struct server_session *session, const is_ice_
 {
     struct side *side = (struct side *)user;
     (void)from, (void)to;
-    if (length != 1 || bytes[0] < 128 || session != &side->sessions[bytes[0] - 128]) fail("media", "of another session");
+    if (length != 2 || session != &side->sessions[(bytes[0] - 128) * 256 + bytes[1]]) fail("media", "of another session");
     side->heard++;
 }
 
@@ -98,7 +100,7 @@ static void signal_to(is_ice_agent *to, is_ice_agent *from)
 static size_t connected(void)
 {
     size_t count = 0;
-    for (size_t i = 0; i < PEERS; i++) count += others[i].connected;
+    for (size_t i = 0; i < peers; i++) count += others[i].connected;
     return count < one.connected ? count : one.connected;
 }
 
@@ -110,20 +112,22 @@ static double seconds(uint64_t from, uint64_t to)
 /* A turn of each: the one server has as many as all the others. */
 static void turn(uint64_t until)
 {
-    for (size_t i = 0; i < PEERS; i++)
+    for (size_t i = 0; i < peers; i++)
         if (!server_turn(&others[i].server, &others[i].net, until, NULL) || !server_turn(&one.server, &one.net, until, NULL))
             fail("wait", net_error_text(net_error()));
 }
 
-/* Each peer sends one byte of media, which says whose it is. Returns how many are heard within a second. */
+/* Each peer sends two bytes of media, which say whose it is: not all at once, since a socket's buffer may not hold so many. Returns how
+ * many are heard within a second after the last. */
 static size_t heard(size_t count)
 {
     is_ice_media_path path;
     one.heard = 0;
     for (size_t i = 0; i < count; i++) {
-        uint8_t media = (uint8_t)(128 + i);
+        const uint8_t media[2] = {(uint8_t)(128 + i / 256), (uint8_t)i};
         must("path", is_ice_path_for_media(&others[i].sessions[0].agent, net_now(), &path));
-        net_send(&others[i].net, &path.source, &path.destination, &media, 1);
+        net_send(&others[i].net, &path.source, &path.destination, media, sizeof media);
+        if (i % SHARED == 0) turn(net_now());
     }
     for (uint64_t end = net_now() + SECOND; one.heard < count && net_now() < end;) turn(net_now() + MILLISECOND);
     return one.heard;
@@ -141,19 +145,20 @@ int main(int argc, char **words)
     size_t count = argc > 1 ? (size_t)strtoul(words[1], NULL, 10) : 10000;
     double limit = argc > 2 ? strtod(words[2], NULL) : 30;
     uint64_t made = net_now(), start, now;
+    peers = count <= OWN ? count : SHARED;
     begin(&one, count);
-    for (size_t i = 0; i < PEERS; i++) begin(&others[i], count / PEERS + 1);
+    for (size_t i = 0; i < peers; i++) begin(&others[i], count / peers + 1);
     for (size_t i = 0; i < count; i++) {
-        struct side *peer = &others[i % PEERS];
+        struct side *peer = &others[i % peers];
         make(&one, i, i, false);
-        make(peer, i / PEERS, i, true);
-        signal_to(&one.sessions[i].agent, &peer->sessions[i / PEERS].agent);
-        signal_to(&peer->sessions[i / PEERS].agent, &one.sessions[i].agent);
+        make(peer, i / peers, i, true);
+        signal_to(&one.sessions[i].agent, &peer->sessions[i / peers].agent);
+        signal_to(&peer->sessions[i / peers].agent, &one.sessions[i].agent);
     }
     start = now = net_now();
     for (size_t i = 0; i < count; i++) {
-        struct side *peer = &others[i % PEERS];
-        if (!server_add(&one.server, &one.sessions[i], now) || !server_add(&peer->server, &peer->sessions[i / PEERS], now))
+        struct side *peer = &others[i % peers];
+        if (!server_add(&one.server, &one.sessions[i], now) || !server_add(&peer->server, &peer->sessions[i / peers], now))
             fail("session", "not added");
     }
     while (connected() < count && seconds(start, now) <= limit) {
@@ -161,13 +166,13 @@ int main(int argc, char **words)
         now = net_now();
     }
     size_t sent = one.sent, lost = one.lost;
-    for (size_t i = 0; i < PEERS; i++) sent += others[i].sent, lost += others[i].lost;
+    for (size_t i = 0; i < peers; i++) sent += others[i].sent, lost += others[i].lost;
     printf("%zu of %zu sessions on one socket: made in %.2f s, connected in %.2f s; %zu datagrams were sent, %zu could not be\n",
            connected(), count, seconds(made, start), seconds(start, now), sent, lost);
     if (connected() < count) fail("sessions", "not all are connected");
-    if (count <= PEERS) send_media(count);
-    for (size_t i = 0; i <= PEERS; i++) {
-        struct side *side = i < PEERS ? &others[i] : &one;
+    if (peers == count) send_media(count);
+    for (size_t i = 0; i <= peers; i++) {
+        struct side *side = i < peers ? &others[i] : &one;
         for (size_t k = 0; k < side->count; k++) is_ice_agent_free(&side->sessions[k].agent);
         server_end(&side->server);
         net_close(&side->net);
