@@ -18,7 +18,7 @@ EARLY_CAP = 350 * MILLISECOND
 
 # How long checks without a response are repeated early at most, also on a pair whose first check followed a request, and how long a pair
 # is at its beginning after its first check.
-EARLY_TIME = 2500 * MILLISECOND
+EARLY_TIME = 2150 * MILLISECOND
 ASKED_TIME = 1200 * MILLISECOND
 BEGINNING = 500 * MILLISECOND
 

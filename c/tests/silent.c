@@ -4,8 +4,8 @@
 #define _GNU_SOURCE
 #include "measuring.h"
 
-enum { CHECKS = 11, SERIES = 18, UDP_HEADERS = 28, SIGNALED = 100, MODERN_RATE = 49, ORIGINAL_RATE = 21, MOST = 100000, SOURCES = 32, TIMES = 20 };
-enum { SLOW = 100 }; /* milliseconds: candidates that come so far apart or further get up to 18 checks with `Modern` */
+enum { CHECKS = 11, SERIES = 17, UDP_HEADERS = 28, SIGNALED = 100, MODERN_RATE = 49, ORIGINAL_RATE = 21, MOST = 100000, SOURCES = 32, TIMES = 20 };
+enum { SLOW = 100 }; /* milliseconds: candidates that come so far apart or further get up to 17 checks with `Modern` */
 static const double most_bytes = 11.85; /* for each byte of a replayed request: 11.8 */
 
 static const is_ice_address agent_at = {4, {10, 0, 0, 1}, 1000, 0, 0}, peer_at = {4, {10, 0, 0, 2}, 2000, 0, 0};
@@ -166,7 +166,7 @@ static void list_strangers(bool modern, unsigned apart)
     run_for(&w, 300 * SECOND);
     printf("%s, %d signaled candidates that never answer, %u ms apart: %zu checks, at most %zu in a second\n",
            profile(modern), SIGNALED, apart, w.checks, busiest(&w));
-    if (w.checks == 0 || w.checks > SIGNALED * (modern && apart >= SLOW ? SERIES : CHECKS)) fail("signal", "more checks than 11 for each candidate, or 18");
+    if (w.checks == 0 || w.checks > SIGNALED * (modern && apart >= SLOW ? SERIES : CHECKS)) fail("signal", "more checks than 11 for each candidate, or 17");
     if (busiest(&w) > most) fail("signal", "more checks in a second");
     is_ice_agent_free(&w.agent);
 }

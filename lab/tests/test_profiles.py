@@ -212,10 +212,10 @@ class Early(unittest.TestCase):
             self.assertTrue(other.is_possible(at(60_000), modern))
 
     def test_they_end_after_some_time(self) -> None:
-        # From 2.5 s on the RTO counts, 3 s. A whole series takes 21.5 s, so the check before that is the last one.
+        # From 2.15 s on the RTO counts, 3 s. A whole series takes 21.5 s, so the check before that is the last one.
         story = Story(settings=MODERN)
-        times = self.due_times(story, 16)
-        self.assertEqual(times, [0, 100, 200, *range(400, 2501, 350), *range(5500, 23_501, 3000)])
+        times = self.due_times(story, 15)
+        self.assertEqual(times, [0, 100, 200, *range(400, 2151, 350), *range(5150, 23_151, 3000)])
         story.passes("a", times[-2] + 2999)
         self.assertEqual([p.first_sent for p in story.agents["a"].pairs], [at(0)])
         story.passes("a", times[-1])
@@ -231,7 +231,7 @@ class Early(unittest.TestCase):
     def test_again_after_the_first_request(self) -> None:
         pair = Pair(0, 0, 0, 1, (Check(bytes(12), at(9000), False, True),), sent=12, first_sent=at(0), requests=1)
         found = [replace(pair, first_after_request=again).due_at(at(9000), timing(True))
-                 for again in (None, at(9000), at(6501), at(6500))]
+                 for again in (None, at(9000), at(6851), at(6850))]
         self.assertEqual(found, [at(9250), at(9350), at(9350), at(9250)])
 
     def test_the_first_check_after_a_request_is_noted(self) -> None:

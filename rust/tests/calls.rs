@@ -125,10 +125,10 @@ fn timed() -> IceAgent {
     agent
 }
 
-/// By these delays: when the checks after the first one are due, and then the end. They are repeated early until 2.5 s, and then each
+/// By these delays: when the checks after the first one are due, and then the end. They are repeated early until 2.15 s, and then each
 /// 2.9 s.
 fn early_checks(end: u64) -> Vec<u64> {
-    [100, 200].into_iter().chain((400..=2500).step_by(350)).chain((5400..=end).step_by(2900)).collect()
+    [100, 200].into_iter().chain((400..=2150).step_by(350)).chain((5050..=end).step_by(2900)).collect()
 }
 
 /// Gives the agent this behavior, and leaves its other settings.
@@ -141,13 +141,13 @@ fn set_profile(agent: &mut IceAgent, profile: Profile) {
 #[test]
 fn checks_go_out_by_the_schedule() {
     // the last check is the last one before `ice_timeout`, which is 26.7 s here and 9.3 s below, and the end is one RTO later
-    checks_go_out_after(timed(), &early_checks(28600));
+    checks_go_out_after(timed(), &early_checks(28250));
     let mut agent = timed();
     set_profile(&mut agent, Profile::Original);
     checks_go_out_after(agent, &[250, 750, 1750, 3750, 6650, 9550, 12450, 15350, 18250, 21150, 24050]);
     let mut few = timed();
     few.set_max_stun_retransmits(5);
-    checks_go_out_after(few, &early_checks(11200));
+    checks_go_out_after(few, &early_checks(10850));
 }
 
 #[test]

@@ -45,7 +45,7 @@ silent_count p = if p.answers == 0 then p.checks_sent else unanswered_count p.ch
 
 -- how long checks without a response are repeated early, at most as long as a whole series of checks takes
 abbrev pub EARLY_TIME : ℕ
-EARLY_TIME = 2500 * MILLISECOND
+EARLY_TIME = 2150 * MILLISECOND
 
 abbrev pub early_time : StunTiming → ℕ
 early_time t = min EARLY_TIME (timeout_of t)

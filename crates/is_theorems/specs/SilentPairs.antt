@@ -136,10 +136,10 @@ module _ {H P : Type 0} where
         → (p q : PairRecord) → Has start.pairs p → Has last.pairs q → StaysSilent p q → is_asked_first q ≡ true → q.checks_sent ≤ p.checks_sent + n
 
 -- With `Original` n is the number of retransmits for pairs without a request, whatever the other settings. By default it is 9 for all pairs.
--- With the settings of `Modern` it is 18, and 11 for pairs whose first check followed a request.
+-- With the settings of `Modern` it is 17, and 11 for pairs whose first check followed a request.
 abbrev pub NumbersOfChecks : Type 0
 NumbersOfChecks =
     ((t : StunTiming) → is_modern t ≡ false → EndsWith t t.max_retransmits)
     × (EndsWith (timing_of original_settings) 9 × IsPastRequests (timing_of original_settings) 9)
-    × (EndsWith (timing_of modern_settings) 18 × IsPastRequests (timing_of modern_settings) 18)
+    × (EndsWith (timing_of modern_settings) 17 × IsPastRequests (timing_of modern_settings) 17)
     × EndsAsked (timing_of modern_settings) 11

@@ -28,7 +28,7 @@ pub fn calls_within_credit_are_frugal<H: Sha1HmacProvider, P: LocalPreference>()
 {}
 
 /// From a newly created agent, which may share its random source, with any caller for whom time does not run back: a pair without a response
-/// gets at most n checks in its life if no request arrives on it, and at most n after each request: 9 with the settings of `Original`, 18 with
+/// gets at most n checks in its life if no request arrives on it, and at most n after each request: 9 with the settings of `Original`, 17 with
 /// those of `Modern`, and 11 if its first check followed a request. For other timings `EndsWith` and `EndsAsked` say which n.
 pub fn silent_pairs_get_few<H: Sha1HmacProvider, P: LocalPreference>()
     ensures few { SilentPairsGetFew H.mac P.answers }

@@ -17,7 +17,7 @@ past-early span most now first second less past =
     let both = neither (is_within most now first) (is_within most now second) past in
     rw (within-less span most now first less both.0, within-less span most now second less both.1) refl
 
--- no pair is checked early for longer than 2.5 s
+-- no pair is checked early for longer than 2.15 s
 pub span-within : (t : StunTiming) (p : PairRecord) → early_span t p ≤ EARLY_TIME
 span-within t p = by (is_asked_first p) where
   by : (b : Bool) → (if b then min ASKED_TIME (early_time t) else early_time t) ≤ EARLY_TIME

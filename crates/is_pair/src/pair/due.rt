@@ -24,9 +24,9 @@ const HEAD_START: Duration = Duration(60_000_000_000);
 const BEGINNING: Duration = Duration(500_000_000);
 
 /// How long checks without a response are repeated early, at most as long as a whole series of checks takes: after the first check, and
-/// again after the first one that follows a request of the peer. By then the loss of each of ten checks, or of its response, is unlikely,
+/// again after the first one that follows a request of the peer. By then the loss of each of nine checks, or of its response, is unlikely,
 /// and a path that is slow or dead is not filled (RFC 8489, section 6.2.1).
-const EARLY_TIME: Duration = Duration(2_500_000_000);
+const EARLY_TIME: Duration = Duration(2_150_000_000);
 
 /// How long checks without a response are repeated early if the pair's first check followed a request of the peer. Whoever sees a request
 /// can replay it from any address. So an address that never answers gets at most eleven checks: seven early ones, and then one each 2.9 s
@@ -222,7 +222,7 @@ impl CandidatePair {
         }
     }
 
-    /// Whether less than 2.5 s have passed since the pair's first check, or since the first one after a request of the peer.
+    /// Whether less than 2.15 s have passed since the pair's first check, or since the first one after a request of the peer.
     fn is_begun_lately(&self, now: Instant) -> bool
         ensures { result ≡ (is_within EARLY_TIME.0 now.0 self.now.first_sent || is_within EARLY_TIME.0 now.0 self.now.first_after_request) }
     {
@@ -253,7 +253,7 @@ impl CandidatePair {
     }
 
     /// Whether the time for which checks of this pair are repeated early (`early_span`) has not passed since its first check, or the first
-    /// one after a request of the peer. After 2.5 s this time is not computed.
+    /// one after a request of the peer. After 2.15 s this time is not computed.
     fn is_early_on(&self, now: Instant, timing: &StunTiming) -> bool
         ensures { result ≡ is_early_on now.0 timing.now self.now }
     {

@@ -48,9 +48,9 @@ original-10 =
     let t9 = then original USUAL 8 (12750 * MILLISECOND) (15750 * MILLISECOND) (omega arith) t8 refl in
     then original USUAL 9 (15750 * MILLISECOND) (18750 * MILLISECOND) (omega arith) t9 refl
 
-time-18 : check_time modern LONG 18 ≡ 25700 * MILLISECOND
+time-17 : check_time modern LONG 17 ≡ 25350 * MILLISECOND
 unfolding timeout_of delay_millis
-time-18 =
+time-17 =
     let t2 = then modern LONG 1 0 (100 * MILLISECOND) (omega arith) (time-first modern LONG) refl in
     let t3 = then modern LONG 2 (100 * MILLISECOND) (200 * MILLISECOND) (omega arith) t2 refl in
     let t4 = then modern LONG 3 (200 * MILLISECOND) (400 * MILLISECOND) (omega arith) t3 refl in
@@ -59,19 +59,18 @@ time-18 =
     let t7 = then modern LONG 6 (1100 * MILLISECOND) (1450 * MILLISECOND) (omega arith) t6 refl in
     let t8 = then modern LONG 7 (1450 * MILLISECOND) (1800 * MILLISECOND) (omega arith) t7 refl in
     let t9 = then modern LONG 8 (1800 * MILLISECOND) (2150 * MILLISECOND) (omega arith) t8 refl in
-    let t10 = then modern LONG 9 (2150 * MILLISECOND) (2500 * MILLISECOND) (omega arith) t9 refl in
-    let t11 = then modern LONG 10 (2500 * MILLISECOND) (5400 * MILLISECOND) (omega arith) t10 refl in
-    let t12 = then modern LONG 11 (5400 * MILLISECOND) (8300 * MILLISECOND) (omega arith) t11 refl in
-    let t13 = then modern LONG 12 (8300 * MILLISECOND) (11200 * MILLISECOND) (omega arith) t12 refl in
-    let t14 = then modern LONG 13 (11200 * MILLISECOND) (14100 * MILLISECOND) (omega arith) t13 refl in
-    let t15 = then modern LONG 14 (14100 * MILLISECOND) (17000 * MILLISECOND) (omega arith) t14 refl in
-    let t16 = then modern LONG 15 (17000 * MILLISECOND) (19900 * MILLISECOND) (omega arith) t15 refl in
-    let t17 = then modern LONG 16 (19900 * MILLISECOND) (22800 * MILLISECOND) (omega arith) t16 refl in
-    then modern LONG 17 (22800 * MILLISECOND) (25700 * MILLISECOND) (omega arith) t17 refl
+    let t10 = then modern LONG 9 (2150 * MILLISECOND) (5050 * MILLISECOND) (omega arith) t9 refl in
+    let t11 = then modern LONG 10 (5050 * MILLISECOND) (7950 * MILLISECOND) (omega arith) t10 refl in
+    let t12 = then modern LONG 11 (7950 * MILLISECOND) (10850 * MILLISECOND) (omega arith) t11 refl in
+    let t13 = then modern LONG 12 (10850 * MILLISECOND) (13750 * MILLISECOND) (omega arith) t12 refl in
+    let t14 = then modern LONG 13 (13750 * MILLISECOND) (16650 * MILLISECOND) (omega arith) t13 refl in
+    let t15 = then modern LONG 14 (16650 * MILLISECOND) (19550 * MILLISECOND) (omega arith) t14 refl in
+    let t16 = then modern LONG 15 (19550 * MILLISECOND) (22450 * MILLISECOND) (omega arith) t15 refl in
+    then modern LONG 16 (22450 * MILLISECOND) (25350 * MILLISECOND) (omega arith) t16 refl
 
-time-19 : check_time modern LONG 19 ≡ 28600 * MILLISECOND
+time-18 : check_time modern LONG 18 ≡ 28250 * MILLISECOND
 unfolding timeout_of delay_millis
-time-19 = then modern LONG 18 (25700 * MILLISECOND) (28600 * MILLISECOND) (omega arith) time-18 refl
+time-18 = then modern LONG 17 (25350 * MILLISECOND) (28250 * MILLISECOND) (omega arith) time-17 refl
 
 -- after a request
 asked-11 : check_time modern SHORT 11 ≡ 13050 * MILLISECOND
@@ -96,7 +95,7 @@ series-is : timeout_of modern ≡ 26700 * MILLISECOND
 unfolding timeout_of delay_millis
 series-is = refl
 
-early-is : LONG ≡ 2500 * MILLISECOND
+early-is : LONG ≡ 2150 * MILLISECOND
 unfolding timeout_of delay_millis
 early-is = refl
 
@@ -107,8 +106,8 @@ asked-is = refl
 original-past : IsPastRequests original 9
 original-past = let next = original-10 in omega (arith, next)
 
-modern-past : IsPastRequests modern 18
-modern-past = let next = time-19 in omega (arith, next)
+modern-past : IsPastRequests modern 17
+modern-past = let next = time-18 in omega (arith, next)
 
 pub numbers-of-checks : NumbersOfChecks
 numbers-of-checks = (
@@ -117,8 +116,8 @@ numbers-of-checks = (
   (
     record {
       counted = omega arith;
-      over = λ _. (let next = time-19 in let series = series-is in omega (arith, next, series));
-      rare = λ _. (let last = time-18 in let early = early-is in omega (arith, last, early));
+      over = λ _. (let next = time-18 in let series = series-is in omega (arith, next, series));
+      rare = λ _. (let last = time-17 in let early = early-is in omega (arith, last, early));
     },
     modern-past,
   ),

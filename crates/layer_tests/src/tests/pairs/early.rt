@@ -11,7 +11,7 @@ use std::alloc::Global;
 const SERIES: u64 = 21_500;
 
 /// How long they come, in milliseconds.
-const EARLY: u64 = 2_500;
+const EARLY: u64 = 2_150;
 
 /// A path with the profile `Modern`: two early retransmissions 100 ms apart, and delays of at most 350 ms.
 fn early_path(alloc: Global) -> Path {
@@ -93,10 +93,10 @@ fn check_until_removed(path: &mut Path, start: Instant) -> Option<(usize, Instan
 // ---- when checks are due
 
 static FIRST: [u64; 12] = [
-    100, 200, 400, 750, 1100, 1450, 1800, 2150, 2500, 5500, 8500, 11_500,
+    100, 200, 400, 750, 1100, 1450, 1800, 2150, 5150, 8150, 11_150, 14_150,
 ];
 
-/// Two retransmissions after 100 ms each, one after 200 ms, and the others after 350 ms until 2.5 s. Then the RTO counts, 3 s.
+/// Two retransmissions after 100 ms each, one after 200 ms, and the others after 350 ms until 2.15 s. Then the RTO counts, 3 s.
 #[test]
 fn checks_without_a_response_are_repeated_early(rt: HostRuntime) {
     let mut path = early_path(rt.alloc());
@@ -134,15 +134,15 @@ fn a_response_to_the_first_check_ends_early_retransmissions(rt: HostRuntime) {
     );
 }
 
-/// Nine checks were sent before. The delay after nine pending transactions is 3 s.
+/// Eight checks were sent before. The delay after nine pending transactions is 3 s.
 #[test]
 fn a_response_to_a_later_check_ends_them_too(rt: HostRuntime) {
     let mut path = early_path(rt.alloc());
     assert!(rt;
-        check_until(&mut path, at(2500)) == Some((9, at(2500)))
-            && path.is_answered(2500, 2550)
-            && path.due(at(2550)) == at(5500)
-            && next_after(&mut path, at(5500)) == Some(at(8500))
+        check_until(&mut path, at(2150)) == Some((8, at(2150)))
+            && path.is_answered(2150, 2200)
+            && path.due(at(2200)) == at(5150)
+            && next_after(&mut path, at(5150)) == Some(at(8150))
     );
 }
 
@@ -232,26 +232,26 @@ fn eight_checks_end_no_pair(rt: HostRuntime) {
     assert!(rt; checks_often(&mut path, 8, 0) && path.is_possible(at(1_000_000)));
 }
 
-/// The tenth check is sent at 2.5 s, and six more every 3 s until 20.5 s, the last one before the series is over. It is waited for by the
+/// The ninth check is sent at 2.15 s, and six more every 3 s until 20.15 s, the last one before the series is over. It is waited for by the
 /// RTO, 3 s.
 #[test]
-fn a_pair_without_a_response_has_16_checks(rt: HostRuntime) {
+fn a_pair_without_a_response_has_15_checks(rt: HostRuntime) {
     let mut path = early_path(rt.alloc());
-    assert!(rt; check_until_removed(&mut path, at(0)) == Some((16, at(23_500))));
+    assert!(rt; check_until_removed(&mut path, at(0)) == Some((15, at(23_150))));
 }
 
-/// A check from the peer at 21 s keeps it until 36 s. The next check, at 23.5 s, and seven more until 25.95 s are repeated early, and the
-/// one at 26.3 s and later ones by the RTO. The response to the last one, at 35.3 s, may come until 38.3 s.
+/// A check from the peer at 21 s keeps it until 36 s. The next check, at 23.15 s, and six more until 25.25 s are repeated early, and the
+/// one at 25.6 s and later ones by the RTO. The response to the last one, at 34.6 s, may come until 37.6 s.
 #[test]
 fn a_pair_that_is_still_heard_is_repeated_early_again(rt: HostRuntime) {
     let mut path = early_path(rt.alloc());
-    assert!(rt; check_until(&mut path, at(SERIES)) == Some((16, at(23_500))));
+    assert!(rt; check_until(&mut path, at(SERIES)) == Some((15, at(23_150))));
     path.pair.increase_remote_binding_requests(at(21_000));
     assert!(rt;
-        path.is_possible(at(23_500))
-            && due_after(&mut path, at(23_500), 8) == Some(at(26_300))
-            && due_after(&mut path, at(26_300), 4) == Some(at(38_300))
-            && ends_at(&path, 38_300)
+        path.is_possible(at(23_150))
+            && due_after(&mut path, at(23_150), 7) == Some(at(25_600))
+            && due_after(&mut path, at(25_600), 4) == Some(at(37_600))
+            && ends_at(&path, 37_600)
     );
 }
 
