@@ -149,7 +149,7 @@ class Candidates:
     @property
     def is_settled(self) -> bool:
         """Whether there is a path, and of a controlling agent the check that nominates it was sent."""
-        return self.state.is_connected() and not (self.controlling and self.nomination_due)
+        return self.state.is_connected() and not (self.controlling and self.nomination_due) and not self.is_in_doubt
 
     def is_early(self, last: int) -> bool:
         """Whether, with `Modern`, the agent is not settled, and a nomination is still to be sent, or it knows the peer and an early request
@@ -260,10 +260,45 @@ class Candidates:
         silence = silent.silence()
         return is_able and silence is not None and other.outlives(silence)
 
+    def choice_over(self, pair: Pair) -> Pair | None:
+        """Returns the pair that the peer of a controlled agent nominated last, if that is another one, and may be selected
+        (`is_alternative`)."""
+        found = next((p for p in self.pairs if p.number == self.last_nominated), None)
+        is_other = found is not None and found is not pair and found.is_valid and found.is_nominated
+        return found if is_other and not self.controlling else None
+
+    def is_overruled(self, pair: Pair) -> bool:
+        """Whether few checks of the silent pair were lost, and its silence began when the peer checked the pair that it nominated last."""
+        silence, choice = pair.silence(), self.choice_over(pair)
+        return silence is not None and choice is not None and not pair.is_lossy and choice.is_choice_at(silence[0])
+
+    def is_doubted(self, pair: Pair) -> bool:
+        """Whether the peer nominates another pair than this one, whose own nomination had a response."""
+        choice = self.choice_over(pair)
+        is_new = choice is not None and choice.is_urgent and choice.last_request is not None and pair.last_sent < choice.last_request
+        return is_new and not pair.is_urgent
+
+    @property
+    def may_be_contested(self) -> bool:
+        """Whether the rules on the selected pair of a full agent apply: with `Modern`, if nominations have no numbers."""
+        return self.modern and not self.lite and not self.numbers
+
+    def needs_check(self, pair: Pair) -> bool:
+        """Whether the selected pair needs a check soon: the agent's own nomination of it is still to be sent, or it is doubted."""
+        if not self.may_be_contested or pair.number != self.selected or not self.is_eligible(pair):
+            return False
+        return self.nomination_due if self.controlling else self.is_doubted(pair)
+
+    @property
+    def is_in_doubt(self) -> bool:
+        """Whether the selected pair needs a check, or is silent and overruled."""
+        selected = next((p for p in self.pairs if p.number == self.selected), None)
+        return selected is not None and self.may_be_contested and (self.needs_check(selected) or self.is_overruled(selected))
+
     def gives_way(self, pair: Pair, now: int) -> bool:
-        """Whether with `Modern` the pair is the selected one, none of its last checks had a response for long, and another one may replace
-        it."""
-        is_silent = not pair.may_repeat(self.timing) and pair.is_silent_enough(now, self.timing)
+        """Whether with `Modern` the pair is the selected one, none of its last checks had a response for long, or it is overruled, and
+        another one may replace it."""
+        is_silent = not pair.may_repeat(self.timing) and (pair.is_silent_enough(now, self.timing) or self.is_overruled(pair))
         is_silent = is_silent and pair.number == self.selected and self.is_eligible(pair)
         return is_silent and self.modern and not self.lite and any(self.may_replace(pair, p, now) for p in self.pairs)
 
@@ -281,10 +316,11 @@ class Candidates:
         return [p for p in others if p.last_sent == first]
 
     def path_left(self, now: int) -> Self:
-        """Returns the agent without the selected pair, if that gives way. Then those that the agent may nominate are due next."""
+        """Returns the agent without the selected pair, if that gives way. Then those that the agent may nominate are due next. If it stays,
+        but needs a check, it is due next itself."""
         silent = next((p for p in self.pairs if self.gives_way(p, now)), None)
         if silent is None:
-            return self
+            return replace(self, pairs=tuple(p.moved_up(now + 1) if self.needs_check(p) else p for p in self.pairs))
         new = self._without({silent.number: Removal.CONSENT_LOST})
         return replace(new, left=self.left or (silent.local, silent.remote), pairs=tuple(
             p.moved_up(now + 1) if self.controlling and p.is_valid and not p.is_nominated else p for p in new.pairs))

@@ -35,6 +35,8 @@ URGENT_CHECKS = 8
 # before.
 LEAST_SILENCE = 850 * MILLISECOND
 LOSSY_TIME = 2200 * MILLISECOND
+# So soon after the peer's check of the pair that it nominates the selected one is checked, or so soon before.
+CHOICE_TIME = 200 * MILLISECOND
 # The greatest number of lost checks that a pair stores.
 MOST_LOST = (1 << 32) - 1
 
@@ -337,10 +339,18 @@ class Pair:
         """Whether its last check that had a response was sent long ago (`is_long_silent`)."""
         return self.consented is None or self.consented + timing.greatest + LEAST_SILENCE <= now
 
+    @property
+    def is_lossy(self) -> bool:
+        """Whether more than a third of its checks were lost (`is_lossy`)."""
+        return self.answers < 2 * self.lost
+
     def is_silent_enough(self, now: int, timing: Timing) -> bool:
-        """Whether it was silent for long, for longer if more than a third of its checks were lost (`is_silent_enough`)."""
-        is_lossy = self.answers < 2 * self.lost
-        return self.is_long_silent(now - LOSSY_TIME if is_lossy else now, timing)
+        """Whether it was silent for long, for longer if it is lossy (`is_silent_enough`)."""
+        return self.is_long_silent(now - LOSSY_TIME if self.is_lossy else now, timing)
+
+    def is_choice_at(self, first: int) -> bool:
+        """Whether the peer checked it at about this time (`is_choice_at`)."""
+        return self.last_request is not None and abs(first - self.last_request) < CHOICE_TIME
 
     def silence(self) -> tuple[int, int] | None:
         """Returns the time from its first check without a response to the first of its last four (`silence_of`)."""

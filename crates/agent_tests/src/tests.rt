@@ -3,6 +3,7 @@
 
 mod calls;
 mod candidates;
+mod choices;
 mod consent;
 mod credentials;
 mod discovered;

@@ -11,6 +11,7 @@ use Rattle.is_rules.specs.Agent.{AgentRecord}
 use Rattle.is_rules.specs.Nominating.{is_pressing}
 use Rattle.is_rules.specs.Charging.{CHARGE, EARLY_TA, has_credit, is_urged}
 use Rattle.is_rules.specs.Connecting.{is_connected}
+use Rattle.is_rules.specs.Leaving.{is_in_doubt}
 
 -- A poll removes the first element of a queue and returns it.
 abbrev pub IsPolled : {X : Type 0} → List X → Option X → List X → Type 0
@@ -34,9 +35,9 @@ module _ {H P : Type 0} where
   abbrev pub is_waiting : AgentRecord H P → Bool
   is_waiting a = not (is_empty a.packets) || not (is_empty a.queue) || is_pressing a
 
-  -- The agent has a path, and if it is controlling, the check that nominates it was sent.
+  -- The agent has a path. If it is controlling, the check that nominates it was sent; if not, the peer nominates no other one.
   abbrev pub is_settled : AgentRecord H P → Bool
-  is_settled a = is_connected a.state && not (a.controlling && a.nomination_due)
+  is_settled a = is_connected a.state && not (a.controlling && a.nomination_due) && not (is_in_doubt a)
 
   -- The agent knows the peer, and an early request waits, a pair is at its beginning, or an urgent one is due soon.
   abbrev pub has_begun : ℕ → AgentRecord H P → Bool

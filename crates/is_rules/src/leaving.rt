@@ -1,13 +1,13 @@
 //! Leaving a selected path that falls silent, with the profile `Modern`: other valid pairs are asked along, and its pair gives way once one
 //! of them, which may be selected, had a response meanwhile; the agent's part: `is_agent::leaving`.
 
-ghost use Rattle.std.specs.Prelude.{◌≡◌, ◌∷◌, List, nat_le};
+ghost use Rattle.std.specs.Prelude.{◌≡◌, ◌∷◌, List, nat_le, true};
 ghost use Rattle.std.specs.Option.{option_copied};
 ghost use Rattle.is_pair.specs.Checklists.{multiset_of};
 ghost use Rattle.is_pair.specs.Pairs.{PairRecord};
 ghost use Rattle.is_pair.specs.Silence.{last_sent};
 ghost use Rattle.is_rules.specs.Again.{may_form_between};
-ghost use Rattle.is_rules.specs.Leaving.{is_lossy, is_silent_enough, IsAskedNext};
+ghost use Rattle.is_rules.specs.Leaving.{is_alternative, is_choice_at, is_lossy, is_new_choice, is_silent_enough, IsAskedNext};
 
 use crate::forming::{is_alive, is_partner};
 use crate::limit::is_mapped;
@@ -17,7 +17,7 @@ use crate::timeout::awaits_nomination;
 use is_candidate::Candidate;
 use is_pair::checklist::{Checklist, Expired, PairChange, PairTest};
 use is_pair::pair::{CandidatePair, CheckState, Span};
-use is_pair::{is_long_silent, last_sent, lost_checks, move_next, outlives};
+use is_pair::{is_long_silent, is_urgent, last_sent, lost_checks, move_next, outlives};
 use is_proto::{Duration, Instant};
 use is_stun::stun::StunTiming;
 
@@ -56,7 +56,7 @@ impl PairTest for MayReplace<'_> {
 const LOSSY_TIME: Duration = Duration(2_200_000_000);
 
 /// Whether more than a third of its checks were lost, from its first response to its last one.
-fn is_lossy(pair: &CandidatePair) -> bool
+pub fn is_lossy(pair: &CandidatePair) -> bool
     ensures { result ≡ is_lossy pair.now }
 {
     pair.responses_received() < 2 * lost_checks(pair) as u64
@@ -72,6 +72,54 @@ pub fn is_silent_enough(pair: &CandidatePair, timing: &StunTiming, now: Instant)
         now
     };
     is_long_silent(pair, timing, by)
+}
+
+/// So soon after the peer's check of the pair that it nominates the selected one is checked, or so soon before: pacing, pairs that were due
+/// before, and a repeated check of the peer take less.
+const CHOICE_TIME: Duration = Duration(200_000_000);
+
+/// Whether both are the same pair number, or none.
+pub fn is_same_number(a: Option<u64>, b: Option<u64>) -> bool
+    ensures { result ≡ true → a ≡ b }
+{
+    match (a, b) {
+        (Some(a), Some(b)) => a == b,
+        (None, None) => true,
+        _ => false,
+    }
+}
+
+/// Whether the pair q is another one than p, and may be selected at a controlled agent.
+fn is_alternative(p: &CandidatePair, q: &CandidatePair) -> bool
+    ensures { result ≡ is_alternative p.now q.now }
+{
+    q.id() != p.id() && is_eligible(q, false)
+}
+
+/// Whether the nomination of the pair q had no response yet, and the peer checked it after the last check of p.
+pub fn is_new_choice(p: &CandidatePair, q: &CandidatePair) -> bool
+    ensures { result ≡ is_new_choice p.now q.now }
+{
+    if !is_alternative(p, q) || !is_urgent(q) {
+        return false;
+    }
+    match q.remote_binding_request_time() {
+        Some(at) => last_sent(p) < at,
+        None => false,
+    }
+}
+
+/// Whether the peer checked the pair q at about the time at which the silence of p began.
+pub fn is_choice_at(first: Instant, p: &CandidatePair, q: &CandidatePair) -> bool
+    ensures { result ≡ is_choice_at first.0 p.now q.now }
+{
+    if !is_alternative(p, q) {
+        return false;
+    }
+    match q.remote_binding_request_time() {
+        Some(at) => first < at + CHOICE_TIME && at < first + CHOICE_TIME,
+        None => false,
+    }
 }
 
 /// A test for the pairs that are asked along while one is silent: they are valid, and had no response meanwhile.
@@ -140,14 +188,33 @@ pub struct Hastens {
 }
 
 impl PairChange for Hastens {
+    ghost use Rattle.is_rules.specs.Due.{awaits_nomination};
     ghost use Rattle.is_rules.specs.Leaving.{hastened};
 
-    ghost makes = { λ t p. hastened t.controlling t.now.0 p };
+    ghost makes = { λ t p. hastened (awaits_nomination t.controlling) t.now.0 p };
 
     fn change(&self, pair: &mut CandidatePair) {
         if awaits_nomination(pair, self.controlling) {
             move_next(pair, self.now);
         }
+    }
+}
+
+/// Makes a pair due a nanosecond from now, after all pairs that are due now.
+#[derive(Clone, Copy)]
+pub struct MovesNext {
+    /// The time.
+    pub now: Instant,
+}
+
+impl PairChange for MovesNext {
+    ghost use Rattle.std.specs.Prelude.{◌+◌};
+    ghost use Rattle.is_pair.specs.Due.{moved_up};
+
+    ghost makes = { λ t p. moved_up (t.now.0 + 1) p };
+
+    fn change(&self, pair: &mut CandidatePair) {
+        move_next(pair, self.now);
     }
 }
 

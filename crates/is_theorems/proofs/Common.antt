@@ -125,7 +125,8 @@ pub use Rattle.is_rules.specs.Forming.{remote_combinations, sides_of, SidesRecor
 pub use Rattle.is_rules.specs.Issuing.{IsIssued, IsQueued, key_for, QueuesPackets, Says, via_out, Waits, WaitsPast, WaitsWith}
 pub use Rattle.is_rules.specs.Kinds.{counted_kind, goes_first, INNER, is_brought, is_first_due, is_inner, IsNextAhead, kind_between, kind_of}
 pub use Rattle.is_rules.specs.Kinds.{kind_rank, KINDS, reach_of, remote_rank, turn_of, TurnsBefore, version_rank}
-pub use Rattle.is_rules.specs.Leaving.{gives_way, has_urgent, hastened, is_asked_along, is_silent_enough, IsAskedAlong, IsAskedNext}
+pub use Rattle.is_rules.specs.Leaving.{gives_way, has_urgent, hastened, is_asked_along, is_doubted, is_due_next, is_overruled, is_silent_enough}
+pub use Rattle.is_rules.specs.Leaving.{IsAskedAlong, IsAskedNext, needs_check}
 pub use Rattle.is_rules.specs.Leaving.{late_since, left_after, may_replace, path_left, silent_gone}
 pub use Rattle.is_rules.specs.Limit.{discovered_count, has_local_room, has_room, HasPlaceFor, is_below, is_mapped, is_on, is_vacant}
 pub use Rattle.is_rules.specs.Limit.{IsPlaceOf, IsSenderPlace, IsVacancy, mapped_count, newest}

@@ -1,5 +1,5 @@
 -- Pairs that become due at a time: removing pairs, hastening others then, and fixing due times add none.
-use Rattle.std.proofs.Common.{if◌then◌else◌, ◌≡◌, ℕ, ◌+◌, ◌&&◌, ◌||◌, Bool, true, false, not, nat_le, min, List, [], ◌∷◌, map, Option, Some, None, is_some, unwrap_or, option_map, MatchBool, subst, sym, refl, arith}
+use Rattle.std.proofs.Common.{ap, if◌then◌else◌, ◌≡◌, ℕ, ◌+◌, ◌&&◌, ◌||◌, Bool, true, false, not, nat_le, min, List, [], ◌∷◌, map, Option, Some, None, is_some, unwrap_or, option_map, MatchBool, subst, sym, refl, arith}
 use Rattle.std.specs.Prelude.{MatchOption}
 use Rattle.std.specs.List.{list_any}
 use Rattle.std.proofs.lemmas.Bool.{eq-eqb}
@@ -54,24 +54,32 @@ or-both true b c d one other h = rw (one refl) refl
 or-both false b c d one other h = or-right c d (other h)
 
 -- A pair that is hastened at a time falls due at that time only if it did before.
-pub falls-hastened : (controlling : Bool) (now : ℕ) (t : StunTiming) (ps : List PairRecord)
-    → list_any (falls_due controlling now t) (map (hastened controlling now) ps) ≡ true → list_any (falls_due controlling now t) ps ≡ true
-falls-hastened controlling now t [] none = none
-falls-hastened controlling now t (p ∷ ps) h =
-    or-both (falls_due controlling now t (hastened controlling now p)) (list_any (falls_due controlling now t) (map (hastened controlling now) ps))
-    (falls_due controlling now t p) (list_any (falls_due controlling now t) ps) (by (awaits_nomination controlling p) refl) (falls-hastened controlling now t ps) h where
+pub falls-hastened : (test : PairRecord → Bool) (controlling : Bool) (now : ℕ) (t : StunTiming) (ps : List PairRecord)
+    → list_any (falls_due controlling now t) (map (hastened test now) ps) ≡ true → list_any (falls_due controlling now t) ps ≡ true
+falls-hastened test controlling now t [] none = none
+falls-hastened test controlling now t (p ∷ ps) h =
+    or-both (falls_due controlling now t (hastened test now p)) (list_any (falls_due controlling now t) (map (hastened test now) ps))
+    (falls_due controlling now t p) (list_any (falls_due controlling now t) ps) (by (test p)) (falls-hastened test controlling now t ps) h where
       later-still : (d : ℕ) → nat_le (min (now + 1) d) now ≡ nat_le d now
       later-still d = grind (arith, nat_tests)
 
-      -- a pair whose due time is not fixed falls due since it awaits its nomination
-      either : (due : Option ℕ) (x y : ℕ) (a b : Bool) → b ≡ true → nat_le (unwrap_or (option_map (min (now + 1)) due) x) now || (not (is_some (option_map (min (now + 1)) due)) && a) ≡ true
+      either : (due : Option ℕ) (x y : ℕ) (a b : Bool) → is_some due ≡ true
+          → nat_le (unwrap_or (option_map (min (now + 1)) due) x) now || (not (is_some (option_map (min (now + 1)) due)) && a) ≡ true
           → nat_le (unwrap_or due y) now || (not (is_some due) && b) ≡ true
-      either None x y a b awaits falls = or-right (nat_le y now) b awaits
-      either (Some d) x y a b awaits falls = subst (λ due. due || false ≡ true) (later-still d) falls
+      either None x y a b some falls = absurd (cc)
+      either (Some d) x y a b some falls = subst (λ due. due || false ≡ true) (later-still d) falls
 
-      by : (b : Bool) → awaits_nomination controlling p ≡ b → falls_due controlling now t (if b then moved_up (now + 1) p else p) ≡ true → falls_due controlling now t p ≡ true
-      by true awaits falls = either p.due _ _ _ (awaits_nomination controlling p) awaits falls
-      by false awaits falls = falls
+      unmoved : (due : Option ℕ) → is_some due ≡ false → option_map (min (now + 1)) due ≡ due
+      unmoved None none = refl
+      unmoved (Some d) none = absurd (cc)
+
+      moved : (fixed : Bool) → is_some p.due ≡ fixed → falls_due controlling now t (moved_up (now + 1) p) ≡ true → falls_due controlling now t p ≡ true
+      moved true is falls = either p.due _ _ _ _ is falls
+      moved false is falls = subst (λ (x : PairRecord). falls_due controlling now t x ≡ true) (ap (λ (o : Option ℕ). record p { due = o }) (unmoved p.due is)) falls
+
+      by : (b : Bool) → falls_due controlling now t (if b then moved_up (now + 1) p else p) ≡ true → falls_due controlling now t p ≡ true
+      by true falls = moved (is_some p.due) refl falls
+      by false falls = falls
 
 -- a nomination that is due at once may be due
 pub nominates-may : {H P : Type 0} (a : AgentRecord H P) → nominates_at_once a ≡ true → may_nominate a ≡ true

@@ -10,7 +10,6 @@ use Rattle.is_pair.specs.Multiset.{change_at, is_numbered, has_number, pair_numb
 use Rattle.is_pair.specs.Due.{scheduled, moved_up}
 use Rattle.is_pair.specs.Pairs.{PairRecord, checked, heard, heard_at, undue}
 use Rattle.is_rules.specs.Answers.{joined_by}
-use Rattle.is_rules.specs.Due.{awaits_nomination}
 use Rattle.is_rules.specs.Leaving.{hastened}
 use Rattle.is_rules.specs.Remote.{stored, place_or_end}
 use Rattle.is_rules.specs.Kept.{is_placed, are_placed}
@@ -82,18 +81,18 @@ hastened-if : {A : Type 0} (f : PairRecord → A) (now : ℕ) (p : PairRecord) �
 hastened-if f now p same true = same
 hastened-if f now p same false = refl
 
-pub hastened-keys : (controlling : Bool) (now : ℕ) → KeepsKeys (hastened controlling now)
-hastened-keys controlling now = λ p. let awaits = awaits_nomination controlling p in (
+pub hastened-keys : (test : PairRecord → Bool) (now : ℕ) → KeepsKeys (hastened test now)
+hastened-keys test now = λ p. let awaits = test p in (
   hastened-if (λ (x : PairRecord). x.number) now p refl awaits,
   hastened-if (λ (x : PairRecord). x.priority) now p refl awaits,
   hastened-if (λ (x : PairRecord). x.checks) now p refl awaits,
 )
 
-pub placed-hastened : (local remote : List CandidateRecord) (controlling : Bool) (now : ℕ) (ps : List PairRecord) → are_placed local remote ps ≡ true
-    → are_placed local remote (map (hastened controlling now) ps) ≡ true
-placed-hastened local remote controlling now ps all = placed-mapped local remote (hastened controlling now) ps (record {
-  local = λ p. hastened-if (λ (x : PairRecord). x.local) now p refl (awaits_nomination controlling p);
-  remote = λ p. hastened-if (λ (x : PairRecord). x.remote) now p refl (awaits_nomination controlling p);
+pub placed-hastened : (local remote : List CandidateRecord) (test : PairRecord → Bool) (now : ℕ) (ps : List PairRecord) → are_placed local remote ps ≡ true
+    → are_placed local remote (map (hastened test now) ps) ≡ true
+placed-hastened local remote test now ps all = placed-mapped local remote (hastened test now) ps (record {
+  local = λ p. hastened-if (λ (x : PairRecord). x.local) now p refl (test p);
+  remote = λ p. hastened-if (λ (x : PairRecord). x.remote) now p refl (test p);
 }) all
 
 pub checked-places : (now : ℕ) (t : StunTiming) (controlling : Bool) (id : List ℕ) → KeepsPlaces (checked now t controlling id)

@@ -163,16 +163,16 @@ module _ {H P : Type 0} where
         (checks-on mac bound o floor now apart kept new (subst (λ (x : StunTiming). Ends x bound) (sym kept_timing) ends) (subst (λ (x : StunTiming). 0 < x.max_retransmits) (sym kept_timing) limit)
         (subst (λ (x : StunTiming). (w : Watch) → o ≡ Some w → (w.requests ≡ 0) ⊎ IsPastRequest x bound) (sym kept_timing) fits) goes_on possible valid at_kept kept.remote_creds s u issued checking) where
           -- only valid pairs are hastened
-          hastened-on : (controlling : Bool) (p : PairRecord) → On now now p → On now now (hastened controlling now p)
-          hastened-on controlling p on = by (is_valid p) refl where
-            by : (b : Bool) → is_valid p ≡ b → On now now (hastened controlling now p)
-            by true valid = (rule now now).valid (hastened controlling now p) (ap (λ (x : PairRecord). is_valid x) (only-due controlling now p) ∙ valid)
-            by false invalid = subst (λ (x : PairRecord). On now now x) (sym (invalid-stays controlling now p invalid)) on
+          hastened-on : (a : AgentRecord H P) (p : PairRecord) → On now now p → On now now (hastened (Hastens now a) now p)
+          hastened-on a p on = by (is_valid p) refl where
+            by : (b : Bool) → is_valid p ≡ b → On now now (hastened (Hastens now a) now p)
+            by true valid = (rule now now).valid (hastened (Hastens now a) now p) (ap (λ (x : PairRecord). is_valid x) (only-due (Hastens now a) now p) ∙ valid)
+            by false invalid = subst (λ (x : PairRecord). On now now x) (sym (invalid-stays now a p invalid)) on
 
           at_named : At now now named
           at_named = nominates-kept floor now (On now now) (rule now now) (path_left now (at_timeout now old)) named first nominating
               (kept-map floor now (On now now) old.next_number (hastened (Hastens now (at_timeout now old)) now) (silent_gone now (at_timeout now old)).pairs
-              (λ p. ap (λ (x : PairRecord). x.number) (only-due (Hastens now (at_timeout now old)) now p)) (λ p has on. hastened-on (Hastens now (at_timeout now old)) p on)
+              (λ p. ap (λ (x : PairRecord). x.number) (only-due (Hastens now (at_timeout now old)) now p)) (λ p has on. hastened-on (at_timeout now old) p on)
               (kept-filter floor now (On now now) old.next_number (λ p. not (gives_way now (at_timeout now old) p)) old.pairs k))
 
           left : kept.timing ≡ named.timing

@@ -1,10 +1,10 @@
 -- What nomination and removal leave of a list of pairs: fewer of them, each due as it was. As a silent path is left, pairs may become due
 -- sooner, but only after the call.
 use Rattle.is_pair.specs.Due as due
-use Rattle.is_theorems.proofs.Common.{[], ◌&&◌, ◌*◌, ◌+◌, ◌<◌, ◌||◌, ◌∙◌, ◌∷◌, ◌≡◌, ◌≤◌, ◌⊎◌, AgentRecord, ap, arith, awaits_nomination, Bool}
+use Rattle.is_theorems.proofs.Common.{[], ◌&&◌, ◌*◌, ◌+◌, ◌<◌, ◌||◌, ◌∙◌, ◌∷◌, ◌≡◌, ◌≤◌, ◌⊎◌, AgentRecord, ap, arith, Bool}
 use Rattle.is_theorems.proofs.Common.{CandidateRecord, change_at, Check, ChecksInTurn, Consent, consent_of, expired_gone, false, filter}
 use Rattle.is_theorems.proofs.Common.{followed, gives_way, Has, hastened, IceCreds, if◌then◌else◌, inl, inr, is_eligible, is_expired}
-use Rattle.is_theorems.proofs.Common.{is_modern, is_named_by, is_nominated, is_numbered, is_silent_enough, is_some, is_valid}
+use Rattle.is_theorems.proofs.Common.{is_modern, is_named_by, is_nominated, is_numbered, is_overruled, is_silent_enough, is_some, is_valid}
 use Rattle.is_theorems.proofs.Common.{IsGone, IsLasting, IsSound, later, length, List, list_any, map, may_replace, min, nat_le, nat_lt}
 use Rattle.is_theorems.proofs.Common.{nat_tests, no-more, nominated, nominated_by_self, Nominates, None, not, Option, option_map}
 use Rattle.is_theorems.proofs.Common.{option_map_or, PairRecord, Path, path_left, refl, remains, RemovesExpired, RequestRecord, SECOND}
@@ -16,6 +16,7 @@ use Rattle.is_theorems.proofs.RuleEffects.EarlierAndNewPairs.{Has-filter}
 use Rattle.is_theorems.proofs.CallEffects.ServedRequests.{Has-mapped}
 use Rattle.is_theorems.proofs.RuleEffects.NominatedPairs.{SelectsPath, selects_path}
 use Rattle.is_theorems.proofs.RuleEffects.HastenedPairs.{due_next, Hastens}
+use Rattle.is_theorems.proofs.RuleEffects.UnhastenedPairs.{fifth-off}
 
 -- ---- lists
 
@@ -124,8 +125,8 @@ moved-akin to p = record {
   early by late None is = is
   early by late (Some d) is = le-after by to d late is
 
-pub hastened-akin : (c : Bool) (now : ℕ) (p : PairRecord) → Akin (due_next now) p (hastened c now p)
-hastened-akin c now p = by (awaits_nomination c p) where
+pub hastened-akin : (test : PairRecord → Bool) (now : ℕ) (p : PairRecord) → Akin (due_next now) p (hastened test now p)
+hastened-akin test now p = by (test p) where
   by : (b : Bool) → Akin (due_next now) p (if b then due.moved_up (due_next now) p else p)
   by true = moved-akin (due_next now) p
   by false = akin-same (due_next now) p
@@ -232,13 +233,6 @@ at-alike n c l p = apart (is_numbered n p) where
   apart : (b : Bool) → Alike p (if b then nominated_by_self c l p else p)
   apart true = self-alike c l p
   apart false = alike-same p
-
-fifth-off : (a b c d e f g : Bool) → e ≡ false → (a && b && c && d && e && f && g) ≡ false
-fifth-off true true true true e f g is = ap (λ x. x && f && g) is
-fifth-off true true true false e f g is = refl
-fifth-off true true false d e f g is = refl
-fifth-off true false c d e f g is = refl
-fifth-off false b c d e f g is = refl
 
 not-under : (n m : ℕ) → nat_lt n m ≡ true → nat_le m n ≡ false
 not-under n m h = grind (arith, nat_tests, h)
@@ -354,7 +348,8 @@ module _ {H P : Type 0} where
   pub keeps-young : (now : ℕ) (a : AgentRecord H P) (p : PairRecord) → nat_lt (unanswered_count p.checks) a.timing.max_retransmits ≡ true → gives_way now a p ≡ false
   keeps-young now a p young =
       fifth-off (is_modern a.timing) (not a.lite) (is_named_by a.selected_pair p) (is_eligible a.controlling p) (nat_le a.timing.max_retransmits (unanswered_count p.checks))
-      (is_silent_enough now a.timing p) (option_map_or (λ silence. list_any (may_replace now a p.number silence) a.pairs) (silence_of p.checks) false) (not-under (unanswered_count p.checks) a.timing.max_retransmits young)
+      (option_map_or (λ silence. (is_silent_enough now a.timing p || is_overruled a p silence) && list_any (may_replace now a p.number silence) a.pairs)
+      (silence_of p.checks) false) (not-under (unanswered_count p.checks) a.timing.max_retransmits young)
 
   pub lasts-young : (now : ℕ) (a : AgentRecord H P) (p : PairRecord) → a.lite ≡ false → due.stays_answered (consent_of a.timing) now p ≡ true
       → nat_lt (unanswered_count p.checks) a.timing.max_retransmits ≡ true → not (is_expired now a p || gives_way now a p) ≡ true

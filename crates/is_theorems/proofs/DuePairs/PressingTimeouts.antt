@@ -18,6 +18,7 @@ use Rattle.is_theorems.proofs.RuleEffects.NominatedPairs.{SelectsPath, selects_p
 use Rattle.is_theorems.proofs.RuleEffects.UnchangedSettings.{either}
 use Rattle.is_theorems.proofs.DuePairs.ConsentAfterTimeouts.{any-none}
 use Rattle.is_theorems.proofs.RuleEffects.PathsThatAreLeft.{none-left}
+use Rattle.is_theorems.proofs.RuleEffects.UnhastenedPairs.{numbered-unneeded}
 
 -- ---- the selected pair
 
@@ -63,6 +64,10 @@ presses-why true true true false false x h = absurd (let no : false ≡ true = h
 presses-why true true true true d x h = absurd (let no : false ≡ true = h in cc)
 presses-why true true false l d x h = absurd (let no : false ≡ true = h in cc)
 presses-why false e c l d x h = absurd (let no : false ≡ true = h in cc)
+
+left-on : (n rest : Bool) → (n && rest) ≡ true → n ≡ true
+left-on true rest h = refl
+left-on false rest h = absurd (let no : false ≡ true = h in cc)
 
 some-priority : (k : ℕ) (o : Option PairRecord) → option_map_or (λ (p : PairRecord). p.priority == k) o false ≡ true → is_some o ≡ true
 some-priority k None h = h
@@ -172,7 +177,7 @@ module _ {H P : Type 0} where
           let base : base_of kept ≡ base_of (at_timeout now old) = b.0 ∙ a.0 in
           let gone : IsGone p.number kept.pairs = (λ q q_has number.
           (let n = b.1.back q q_has in let o = a.1.back n.0 n.1 in
-          let c : Bool = Hastens now (at_timeout now old) in
+          let c = Hastens now (at_timeout now old) in
           let m = Has-map (hastened c now) (silent_gone now (at_timeout now old)).pairs o.0 o.1 in
           let there = Has-filter (λ x. not (gives_way now (at_timeout now old) x)) old.pairs m.0 m.1 in
           let same : m.0.number ≡ o.0.number = sym (hastened-akin c now m.0).number ∙ ap (λ (x : PairRecord). x.number) m.2 in
@@ -195,7 +200,8 @@ module _ {H P : Type 0} where
       by None None is_a is_b = elim (list_any (gives_way now old) old.pairs) as (λ b. list_any (gives_way now old) old.pairs ≡ b → OfUse) [
         | true ↦ λ some. (let k = passes-any (gives_way now old) old.pairs some in left-gone k.0 k.1 k.2)
         | false ↦ λ none.
-            (let even : path_left now (at_timeout now old) ≡ at_timeout now old = none-left now (at_timeout now old) (λ p has. any-none (gives_way now old) old.pairs p none has) in
+            (let even : path_left now (at_timeout now old) ≡ at_timeout now old = none-left now (at_timeout now old) (λ p has. any-none (gives_way now old) old.pairs p none has)
+            (λ p has. numbered-unneeded (at_timeout now old) p (left-on (numbers old) _ presses)) in
             on-removed first second issued named kept is_a is_b
             (selects_path (at_timeout now old) named first (subst (λ (a : AgentRecord H P). Nominates a first named) even names)) gives checking (ap (λ (x : Emitted). x.issued) is))
       ] refl

@@ -1,6 +1,6 @@
 -- A `handle_timeout` call that leaves a silent path leaves no more checks of other pairs before one that is due, and other pairs as they are,
 -- except that they may be due sooner.
-use Rattle.is_theorems.proofs.Common.{◌+◌, ◌<◌, ◌≡◌, ◌≤◌, ◌⊎◌, AgentRecord, ap, arith, awaits_nomination, Bool, due_time_of, false}
+use Rattle.is_theorems.proofs.Common.{◌+◌, ◌<◌, ◌≡◌, ◌≤◌, ◌⊎◌, AgentRecord, ap, arith, Bool, due_time_of, false}
 use Rattle.is_theorems.proofs.Common.{gives_way, Has, hastened, if◌then◌else◌, inl, inr, is_some, is_valid, min, moved_up, None, not}
 use Rattle.is_theorems.proofs.Common.{Option, option_map, PairRecord, path_left, refl, silent_gone, Some, StunTiming, subst, sym, true}
 use Rattle.is_theorems.proofs.Common.{unwrap_or, ℕ}
@@ -24,13 +24,13 @@ still-fixed at None fixed = fixed
 still-fixed at (Some d) fixed = refl
 
 -- it is so still
-ready-hastened : (controlling : Bool) (by now : ℕ) (t : StunTiming) (p : PairRecord) → ReadyBy by now t p → ReadyBy by now t (hastened controlling now p)
-ready-hastened controlling by now t p (due, inl invalid) = subst (λ (x : PairRecord). ReadyBy by now t x) (sym (invalid-stays controlling now p invalid)) (due, inl invalid)
-ready-hastened controlling by now t p (due, inr fixed) =
-    by-hastened (λ x. ReadyBy by now t x) controlling now p (λ at. (sooner-fixed at by _ _ p.due fixed due, inr (still-fixed at p.due fixed))) (due, inr fixed)
+ready-hastened : {H P : Type 0} (a : AgentRecord H P) (by now : ℕ) (t : StunTiming) (p : PairRecord) → ReadyBy by now t p → ReadyBy by now t (hastened (Hastens now a) now p)
+ready-hastened a by now t p (due, inl invalid) = subst (λ (x : PairRecord). ReadyBy by now t x) (sym (invalid-stays now a p invalid)) (due, inl invalid)
+ready-hastened a by now t p (due, inr fixed) =
+    by-hastened (λ x. ReadyBy by now t x) (Hastens now a) now p (λ at. (sooner-fixed at by _ _ p.due fixed due, inr (still-fixed at p.due fixed))) (due, inr fixed)
 
-hastened-moved : (controlling : Bool) (by now : ℕ) (p : PairRecord) → MovedUp by now p (hastened controlling now p)
-hastened-moved controlling by now p = from (awaits_nomination controlling p) where
+hastened-moved : (test : PairRecord → Bool) (by now : ℕ) (p : PairRecord) → MovedUp by now p (hastened test now p)
+hastened-moved test by now p = from (test p) where
   from : (b : Bool) → MovedUp by now p (if b then moved_up (now + 1) p else p)
   from true = moved-to by now (now + 1) p (moved_up (now + 1) p) (omega arith) (mild-same (moved_up (now + 1) p))
   from false = moved-mild by now p p (mild-same p)
@@ -46,7 +46,7 @@ module _ {H P : Type 0} (now : ℕ) (a : AgentRecord H P) where
   there-left p has keeps = subst (λ (x : PairRecord). Has (path_left now a).pairs x) (only-due (Hastens now a) now p) (left-has now a p has keeps)
 
   pub ready-left : (by : ℕ) (t : StunTiming) (p : PairRecord) → ReadyBy by now t p → ReadyBy by now t (as-left p)
-  ready-left by t p ready = subst (λ (x : PairRecord). ReadyBy by now t x) (only-due (Hastens now a) now p) (ready-hastened (Hastens now a) by now t p ready)
+  ready-left by t p ready = subst (λ (x : PairRecord). ReadyBy by now t x) (only-due (Hastens now a) now p) (ready-hastened a by now t p ready)
 
   -- no more checks of other pairs are left
   pub leads-left : (by : ℕ) → by < now → (w : Measure) → leads w by (path_left now a).pairs ≤ leads w by a.pairs

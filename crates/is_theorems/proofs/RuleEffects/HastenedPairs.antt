@@ -1,7 +1,7 @@
--- When a silent path is left, other pairs may become due next: nothing else of them changes, and none of those that were due before then.
-use Rattle.is_theorems.proofs.Common.{[], ◌&&◌, ◌+◌, ◌∙◌, ◌∷◌, ◌≡◌, AgentRecord, ap, awaits_nomination, Bool, Consent, consent_of}
-use Rattle.is_theorems.proofs.Common.{false, filter, gives_way, Has, has_consent, hastened, if◌then◌else◌, inl, inr}
-use Rattle.is_theorems.proofs.Common.{is_lite_alive, is_pair_expired, is_possible, List, list_any, map, moved_up, None, not, Option, PairRecord}
+-- Before nomination a `handle_timeout` call may make pairs due next: nothing else of them changes, and none of those that were due before then.
+use Rattle.is_theorems.proofs.Common.{[], ◌&&◌, ◌+◌, ◌∙◌, ◌∷◌, ◌≡◌, AgentRecord, ap, Bool, Consent, consent_of}
+use Rattle.is_theorems.proofs.Common.{false, filter, gives_way, Has, has_consent, hastened, if◌then◌else◌, inl, inr, is_due_next}
+use Rattle.is_theorems.proofs.Common.{is_lite_alive, is_pair_expired, is_possible, List, map, moved_up, None, not, Option, PairRecord}
 use Rattle.is_theorems.proofs.Common.{path_left, refl, Some, StunTiming, subst, sym, true, ℕ}
 
 -- ---- lists
@@ -33,27 +33,27 @@ abbrev pub due_next : ℕ → ℕ
 due_next now = now + 1
 
 -- what holds of the pair, and of it with its due time moved up to any time
-pub by-hastened : (Holds : PairRecord → Type 0) (controlling : Bool) (now : ℕ) (p : PairRecord) → ((at : ℕ) → Holds (moved_up at p)) → Holds p → Holds (hastened controlling now p)
-by-hastened Holds controlling now p sooner same = by (awaits_nomination controlling p) where
+pub by-hastened : (Holds : PairRecord → Type 0) (test : PairRecord → Bool) (now : ℕ) (p : PairRecord) → ((at : ℕ) → Holds (moved_up at p)) → Holds p → Holds (hastened test now p)
+by-hastened Holds test now p sooner same = by (test p) where
   by : (b : Bool) → Holds (if b then moved_up (due_next now) p else p)
   by true = sooner (due_next now)
   by false = same
 
 -- what holds of it before, as what does not depend on the due time
-pub held-before : (Holds : PairRecord → Type 0) (controlling : Bool) (now : ℕ) (p : PairRecord) → ((at : ℕ) → Holds (moved_up at p) → Holds p) → Holds (hastened controlling now p) → Holds p
-held-before Holds controlling now p sooner = by (awaits_nomination controlling p) where
+pub held-before : (Holds : PairRecord → Type 0) (test : PairRecord → Bool) (now : ℕ) (p : PairRecord) → ((at : ℕ) → Holds (moved_up at p) → Holds p) → Holds (hastened test now p) → Holds p
+held-before Holds test now p sooner = by (test p) where
   by : (b : Bool) → Holds (if b then moved_up (due_next now) p else p) → Holds p
   by true h = sooner (due_next now) h
   by false h = h
 
 -- the due time is all that may change
-pub only-due : (controlling : Bool) (now : ℕ) (p : PairRecord) → hastened controlling now p ≡ record p { due = (hastened controlling now p).due }
-only-due controlling now p = by-hastened (λ q. q ≡ record p { due = q.due }) controlling now p (λ at. refl) refl
+pub only-due : (test : PairRecord → Bool) (now : ℕ) (p : PairRecord) → hastened test now p ≡ record p { due = (hastened test now p).due }
+only-due test now p = by-hastened (λ q. q ≡ record p { due = q.due }) test now p (λ at. refl) refl
 
 -- nor does it matter for whether the pair is to be removed
-pub hastened-expires : (controlling : Bool) (now : ℕ) (p : PairRecord) (lite : Bool) (t : StunTiming)
-    → is_pair_expired lite now t (hastened controlling now p) ≡ is_pair_expired lite now t p
-hastened-expires controlling now p lite t = by-hastened (λ q. is_pair_expired lite now t q ≡ is_pair_expired lite now t p) controlling now p sooner refl where
+pub hastened-expires : (test : PairRecord → Bool) (now : ℕ) (p : PairRecord) (lite : Bool) (t : StunTiming)
+    → is_pair_expired lite now t (hastened test now p) ≡ is_pair_expired lite now t p
+hastened-expires test now p lite t = by-hastened (λ q. is_pair_expired lite now t q ≡ is_pair_expired lite now t p) test now p sooner refl where
   expires : (consents : Bool) → Bool
   expires consents = not (if lite then is_lite_alive now t p else consents && is_possible now t p)
 
@@ -66,15 +66,17 @@ hastened-expires controlling now p lite t = by-hastened (λ q. is_pair_expired l
 
 -- ---- the pairs
 
--- no pair is hastened unless the agent is controlling
-pub none-hastened : (now : ℕ) (ps : List PairRecord) → map (hastened false now) ps ≡ ps
-none-hastened now [] = refl
-none-hastened now (p ∷ ps) = ap (λ qs. p ∷ qs) (none-hastened now ps)
+-- no pair passes the test
+pub none-hastened : (test : PairRecord → Bool) (now : ℕ) (ps : List PairRecord) → ((p : PairRecord) → Has ps p → test p ≡ false) → map (hastened test now) ps ≡ ps
+none-hastened test now [] none = refl
+none-hastened test now (p ∷ ps) none =
+    ap (λ b. (if b then moved_up (due_next now) p else p) ∷ map (hastened test now) ps) (none p (inl refl))
+    ∙ ap (λ qs. p ∷ qs) (none-hastened test now ps (λ q has. none q (inr has)))
 
 module _ {H P : Type 0} (now : ℕ) (a : AgentRecord H P) where
-  -- whether pairs are hastened
-  abbrev pub Hastens : Bool
-  Hastens = list_any (gives_way now a) a.pairs && a.controlling
+  -- the pairs that are hastened
+  abbrev pub Hastens : PairRecord → Bool
+  Hastens = is_due_next now a
 
   -- each pair that is left was there
   pub left-was : (p : PairRecord) → Has (path_left now a).pairs p → (q : PairRecord) × Has a.pairs q × (hastened Hastens now q ≡ p)

@@ -129,8 +129,8 @@ self-kept c l n p lite now t = apart (is_numbered n p) (not (is_nominated p) && 
   apart true false l = (follows-same p, refl)
   apart false b l = (follows-same p, refl)
 
-hastened-follows : (b : Bool) (now : ℕ) (p : PairRecord) → Follows p (hastened b now p)
-hastened-follows b now p = by-hastened (λ x. Follows p x) b now p (λ at. follows-same p) (follows-same p)
+hastened-follows : (test : PairRecord → Bool) (now : ℕ) (p : PairRecord) → Follows p (hastened test now p)
+hastened-follows test now p = by-hastened (λ x. Follows p x) test now p (λ at. follows-same p) (follows-same p)
 
 or-true : (b : Bool) → (b || true) ≡ true
 or-true true = refl

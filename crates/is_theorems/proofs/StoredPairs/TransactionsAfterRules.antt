@@ -124,8 +124,8 @@ self-due c l n p lite now t = apart (is_numbered n p) (not (is_nominated p) && (
   apart true false l = refl
   apart false b l = refl
 
-hastened-same : (b : Bool) (now : ℕ) (p : PairRecord) → Same p (hastened b now p)
-hastened-same b now p = by-hastened (λ x. Same p x) b now p (λ at. (refl, refl)) (refl, refl)
+hastened-same : (test : PairRecord → Bool) (now : ℕ) (p : PairRecord) → Same p (hastened test now p)
+hastened-same test now p = by-hastened (λ x. Same p x) test now p (λ at. (refl, refl)) (refl, refl)
 
 -- the last checks, as they were sent
 pub sent-last : (kept : ℕ) (p : PairRecord) (c : Check) → as_sent c ≡ c → map as_sent (last_checks kept (p.checks ++ c ∷ [])) ≡ last_checks kept (sent_of p ++ c ∷ [])

@@ -20,7 +20,7 @@ use Rattle.is_theorems.proofs.RuleEffects.EarlierAndNewPairs.{Has-filter}
 use Rattle.is_theorems.proofs.RuleEffects.NominatedPairs.{selects_path, SelectsPath}
 use Rattle.is_theorems.proofs.RuleEffects.UnchangedSettings.{either}
 use Rattle.is_theorems.proofs.RuleEffects.HastenedPairs.{left-has, left-was, only-due, Hastens}
-use Rattle.is_theorems.proofs.RuleEffects.UnhastenedPairs.{urgent-stays}
+use Rattle.is_theorems.proofs.RuleEffects.UnhastenedPairs.{due-stays, urgent-stays}
 
 le-is : (n m : ℕ) → n ≤ m → nat_le n m ≡ true
 le-is n m h = grind (arith, nat_tests, h)
@@ -92,11 +92,16 @@ Precedes v now p o =
     ⊎ ((is_urgent o ≡ true) × TurnsBefore v.local v.remote (precedence_by v) v.next_kind now v.timing o p)
 
 -- a pair that is hastened comes before only if it came before
-precedes-as-was : (controlling : Bool) (v : TurnView) (now : ℕ) (p o : PairRecord) → Precedes v now p (hastened controlling now o) → Precedes v now p o
-precedes-as-was controlling v now p o (inl named) = inl (sym (ap (λ (x : PairRecord). is_named_by v.selected_pair x) (only-due controlling now o)) ∙ named)
-precedes-as-was controlling v now p o (inr (urgent, before)) =
-    let was : is_urgent o ≡ true = sym (ap (λ (x : PairRecord). is_urgent x) (only-due controlling now o)) ∙ urgent in
-    inr (was, subst (λ (x : PairRecord). TurnsBefore v.local v.remote (precedence_by v) v.next_kind now v.timing x p) (urgent-stays controlling now o was) before)
+precedes-as-was : {H P : Type 0} (a : AgentRecord H P) (v : TurnView) (now : ℕ) (p o : PairRecord) → a.selected_pair ≡ v.selected_pair
+    → Precedes v now p (hastened (Hastens now a) now o) → Precedes v now p o
+precedes-as-was a v now p o one (inl named) = inl (sym (ap (λ (x : PairRecord). is_named_by v.selected_pair x) (only-due (Hastens now a) now o)) ∙ named)
+precedes-as-was a v now p o one (inr (urgent, before)) = by (urgent-stays now a o was) where
+  was : is_urgent o ≡ true
+  was = sym (ap (λ (x : PairRecord). is_urgent x) (only-due (Hastens now a) now o)) ∙ urgent
+
+  by : (hastened (Hastens now a) now o ≡ o) ⊎ (is_named_by a.selected_pair o ≡ true) → Precedes v now p o
+  by (inl stays) = inr (was, subst (λ (x : PairRecord). TurnsBefore v.local v.remote (precedence_by v) v.next_kind now v.timing x p) stays before)
+  by (inr named) = inl (ap (λ s. is_named_by s o) (sym one) ∙ named)
 
 module _ {H P : Type 0} where
   -- another pair o is checked, before p
@@ -229,7 +234,7 @@ module _ {H P : Type 0} where
         let same : named ≡ path_left now (at_timeout now old) = nominates-none (path_left now (at_timeout now old)) named first nominating none.0 in
         let further : Leaves (path_left now (at_timeout now old)) kept = removes-none (path_left now (at_timeout now old)) kept second (subst (λ (x : AgentRecord H P). RemovesExpired now x second kept) same giving) none.1 in
         let there : Has kept.pairs p =
-        further.2 p (subst (λ (x : PairRecord). Has (path_left now (at_timeout now old)).pairs x) (urgent-stays (Hastens now (at_timeout now old)) now p urgent) (left-has now (at_timeout now old) p has keeps)) stays in
+        further.2 p (subst (λ (x : PairRecord). Has (path_left now (at_timeout now old)).pairs x) (due-stays (Hastens now (at_timeout now old)) now old.timing p due) (left-has now (at_timeout now old) p has keeps)) stays in
         let view : view_of kept ≡ view_of old = further.0 in
         taken kept (λ q q_has. left-was now (at_timeout now old) q (further.1 q q_has)) view (ap (λ (x : Emitted). x.issued) is)
         (check-alternates kept new s u issued (ap (λ (v : TurnView). is_some v.remote_creds) view ∙ known) (ap (λ (v : TurnView). v.lite) view ∙ full)
@@ -252,6 +257,6 @@ module _ {H P : Type 0} where
                   (λ one. apart (ap (λ (x : PairRecord). x.number) same ∙ one)),
                   on-path kept issued view issues was (id, out ∙ ap (λ (x : PairRecord). Some (issued_as (path_of kept x) class.Request id)) same),
                   subst (λ (v : TurnView). Precedes v now p was) view
-                      (precedes-as-was (Hastens now (at_timeout now old)) (view_of kept) now p was (subst (λ (x : PairRecord). Precedes (view_of kept) now p x) (sym is) precedes)),
+                      (precedes-as-was (at_timeout now old) (view_of kept) now p was (ap (λ (v : TurnView). v.selected_pair) (sym view)) (subst (λ (x : PairRecord). Precedes (view_of kept) now p x) (sym is) precedes)),
                 ));
           })
