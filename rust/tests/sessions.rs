@@ -160,9 +160,9 @@ fn nobody_answers() {
     for side in &world.sides {
         assert!(side.agent.state().is_disconnected());
         let given_up = side.when(IceConnectionState::Disconnected).unwrap();
-        // 3 checks at 0, 100 and 200 ms, 7 at 400, 750 .. 2,500 ms, 8 at 5,400, 8,300 .. 25,700 ms, and the RTO after the last one
+        // 3 checks at 0, 100 and 200 ms, 6 at 400, 750 .. 2,150 ms, 8 at 5,050, 7,950 .. 25,350 ms, and the RTO after the last one
         assert!(timeout < given_up && given_up < timeout + ms(3_500), "{given_up:?}");
-        assert_eq!(side.agent.stats().bind_request_sent, 18);
+        assert_eq!(side.agent.stats().bind_request_sent, 17);
         assert_eq!(side.agent.nominated_pair_rtt(), None);
     }
 }
