@@ -65,7 +65,7 @@ impl<H: Sha1HmacProvider + Drop, P: LocalPreference> Agent<H, P> {
         self.remote_key = HmacKey::new(&[]);
         self.local_creds = creds;
         self.remote_creds = None;
-        self.freed = freed_after(keep, self.freed, self.local.len(), local.len());
+        self.freed = freed_after(keep, self.timing.is_modern(), self.freed, &self.local);
         self.local = local;
         self.remote.clear();
         self.pairs.clear();

@@ -28,10 +28,10 @@ abbrev pub kept_local : Bool → List ℕ → List CandidateRecord → List Cand
 kept_local true ufrag cs = map (with_ufrag ufrag) cs
 kept_local false ufrag cs = []
 
--- how many local candidates were freed, with these that are not kept; none counts once all are removed
-abbrev pub freed_after : Bool → ℕ → ℕ → ℕ
-freed_after true freed more = min (freed + more) MAX
-freed_after false freed more = 0
+-- how many local candidates were freed, with those of this list that are not kept; none counts once all are removed
+abbrev pub freed_after : Bool → Bool → ℕ → List CandidateRecord → ℕ
+freed_after true modern freed cs = min (freed + (length cs - length (candidates_kept modern cs))) MAX
+freed_after false modern freed cs = 0
 
 -- the early requests after a restart: none with `Modern`, since they came in the session before
 abbrev pub early_kept : Bool → List RequestRecord → List RequestRecord
@@ -57,7 +57,7 @@ module _ {H P : Type 0} where
     local_creds = creds;
     remote_creds = None;
     local = kept_local keep creds.ufrag (candidates_kept (is_modern a.timing) a.local);
-    freed = freed_after keep a.freed (length a.local - length (candidates_kept (is_modern a.timing) a.local));
+    freed = freed_after keep (is_modern a.timing) a.freed a.local;
     remote = [];
     pairs = [];
     left = None;

@@ -1,7 +1,7 @@
 //! ICE restarts (RFC 8445, section 9): the local candidates, early requests and events that are kept; the agent's part:
 //! `is_agent::restarting`.
 
-ghost use Rattle.std.specs.Prelude.{◌≡◌, ◌-◌, ◌≤◌, ◌++◌, ◌∷◌, [], true, IfOk, filter, map};
+ghost use Rattle.std.specs.Prelude.{◌≡◌, ◌-◌, ◌≤◌, ◌++◌, ◌∷◌, [], true, IfOk, count_by, filter, length, map};
 ghost use Rattle.std.specs.VecDeque.{deque_len, deque_capacity};
 ghost use Rattle.is_rules.specs.Forming.{is_alive};
 ghost use Rattle.is_rules.specs.Kept.{NoneTooHigh};
@@ -106,12 +106,29 @@ pub fn kept_local(
     }
 }
 
-/// How many local candidates were freed, with those of a list of `before` that are not among the `kept` ones.
-pub fn freed_after(keep: bool, freed: usize, before: usize, kept: usize) -> usize
-    ensures { result ≡ freed_after keep freed (before - kept) }
+fn count_live(local: &[Candidate]) -> usize
+    ensures { result ≡ count_by is_alive local.now }
+{
+    local.iter().filter(|candidate| is_alive(candidate)).count()
+}
+
+/// How many of the candidates are not kept.
+fn count_freed(modern: bool, local: &[Candidate]) -> usize
+    ensures { result ≡ length local.now - length (candidates_kept modern local.now) }
+{
+    if modern {
+        local.len().saturating_sub(count_live(local))
+    } else {
+        0
+    }
+}
+
+/// How many local candidates were freed, with those of this list that are not kept.
+pub fn freed_after(keep: bool, modern: bool, freed: usize, local: &[Candidate]) -> usize
+    ensures { result ≡ freed_after keep modern freed local.now }
 {
     if keep {
-        freed.saturating_add(before.saturating_sub(kept))
+        freed.saturating_add(count_freed(modern, local))
     } else {
         0
     }

@@ -1,8 +1,6 @@
 -- How many candidates are not discarded, as lists of candidates change.
-use Rattle.std.proofs.Common.{if◌then◌else◌, ◌≡◌, ℕ, zero, suc, ◌+◌, ◌-◌, ◌<◌, ◌≤◌, Bool, true, false, cond, not, List, [], ◌∷◌, ◌++◌, length, map, position, Option, Some, None, IfSome, refl, sym, ap, ◌∙◌, arith}
-use Rattle.std.specs.Prelude.{slice_set, filter, min}
-use Rattle.std.proofs.lemmas.List.{length-map}
-use Rattle.is_proto.specs.Times.{MAX}
+use Rattle.std.proofs.Common.{if◌then◌else◌, ◌≡◌, ℕ, zero, suc, ◌+◌, ◌<◌, ◌≤◌, Bool, true, false, cond, not, List, [], ◌∷◌, ◌++◌, length, map, position, Option, Some, None, IfSome, refl, sym, ap, ◌∙◌, arith}
+use Rattle.std.specs.Prelude.{slice_set, filter}
 use Rattle.std.proofs.lemmas.List.Sums.{sum_by-cons, sum_by-set, sum_by_push}
 use Rattle.std.proofs.lemmas.List.Quantifiers.{position-Some}
 use Rattle.is_candidate.specs.Candidates.{CandidateRecord, candidate_at, nowhere}
@@ -11,7 +9,7 @@ use Rattle.is_rules.specs.Answers.{joined_by}
 use Rattle.is_rules.specs.Discarding.{change_place, discarded, is_live_equivalent, live_at, place_to_discard}
 use Rattle.is_rules.specs.Forming.{is_alive}
 use Rattle.is_rules.specs.Remote.{stored}
-use Rattle.is_rules.specs.Restarting.{candidates_kept, freed_after, kept_local, with_ufrag}
+use Rattle.is_rules.specs.Restarting.{candidates_kept, kept_local, with_ufrag}
 use Rattle.is_agent.specs.Live.{live_count}
 use Rattle.is_agent.proofs.AgentParts.PairsByNumber.{both}
 
@@ -73,12 +71,6 @@ live-filtered (c ∷ cs) = by (is_alive c) refl where
 pub live-left : (modern : Bool) (cs : List CandidateRecord) → live_count (candidates_kept modern cs) ≤ live_count cs
 live-left true cs = live-filtered cs
 live-left false cs = omega arith
-
--- Those that are not kept are as many as before the new username fragment was set.
-pub freed-same : (keep : Bool) (freed before : ℕ) (ufrag : List ℕ) (cs : List CandidateRecord)
-    → freed_after keep freed (before - length (kept_local keep ufrag cs)) ≡ freed_after keep freed (before - length cs)
-freed-same true freed before ufrag cs = ap (λ n. min (freed + (before - n)) MAX) (length-map cs (with_ufrag ufrag))
-freed-same false freed before ufrag cs = refl
 
 -- ---- which one is discarded
 
