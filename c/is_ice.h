@@ -736,7 +736,8 @@ IS_ICE_CALL int32_t is_ice_candidate_refusal(
     const is_ice_candidate *candidate, uint8_t *buffer, size_t size, size_t *length);
 
 /* is_ice_alike_local - returns how many local candidates of the kind and IP version of this one the agent has, including
- * those that were removed: its `same_kind` of is_ice_candidate_preference, if it is added next.
+ * those that were removed: its `same_kind` of is_ice_candidate_preference, if it is added next. All that is_ice_restart
+ * freed count, too, of any kind.
  *
  * IS_ICE_OK. After any other code, IS_ICE_NO_AGENT too, *count is unchanged. IS_ICE_BAD_ADDRESS, IS_ICE_BAD_CANDIDATE: see
  * is_ice_add_local. IS_ICE_OUT_OF_MEMORY. */
@@ -990,7 +991,8 @@ IS_ICE_CALL int32_t is_ice_poll_event(is_ice_agent *agent, is_ice_event *event);
  * The agent removes the remote credentials, remote candidates, pairs, packets, events and statistics. Local candidates
  * stay if `keep_local_candidates` is true. Set the other agent's new credentials and candidates again when they
  * arrive by signaling. Media goes on meanwhile: is_ice_path_for_media returns the path. The list of is_ice_send_failed is
- * emptied. With `modern` early requests are removed, too.
+ * emptied. With `modern` early requests are removed, too, and local candidates that were invalidated: one that is added
+ * again is a new one, with the priority of a later candidate.
  *
  * IS_ICE_OK. IS_ICE_NOT_UTF8. IS_ICE_CREDENTIALS_TOO_LONG. IS_ICE_OUT_OF_MEMORY. */
 IS_ICE_CALL int32_t is_ice_restart(

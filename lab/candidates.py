@@ -412,8 +412,8 @@ class Candidates:
         return replace(self, remote=places)._without({p.number: Removal.INVALIDATED for p in self.pairs if p.remote == at})
 
     def restart(self, creds: IceCreds, keeps: bool) -> Self:
-        """Makes an ICE restart."""
-        local = self.local if keeps else ()
+        """Makes an ICE restart. With `Modern` discarded candidates are not kept."""
+        local = tuple(c for c in self.local if not (self.modern and c.is_discarded)) if keeps else ()
         return replace(self, creds=creds, peer=None, local=local, remote=(), pairs=(), left=None, numbers_seen=False, sources=(),
                        removed=(), state=CHECKING)
 

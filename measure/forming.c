@@ -7,8 +7,8 @@
  * `mixed` is the same, but of the candidates of either side nine of 20 are host candidates; then come as many server-reflexive ones of
  * them, and last the relayed ones.
  * With `recreate` all pairs are formed again in each round: prints the least milliseconds of a call. With `invalidate` the agent has one
- * pair, and so many local candidates are then added and invalidated one after another, and as many remote ones: prints the bytes of the
- * heap before, after the local ones and after all. */
+ * pair, and so many local candidates are then added and invalidated one after another; then comes an ICE restart that keeps local
+ * candidates, and as many remote ones: prints the bytes of the heap before, after the local ones, after the restart and after all. */
 #define _GNU_SOURCE
 #include "costs.h"
 #include <inttypes.h>
@@ -128,7 +128,8 @@ static void recreate(size_t candidates, size_t rounds)
 
 static void invalidate(size_t candidates)
 {
-    double begun, bytes[3];
+    double begun, bytes[4];
+    const uint8_t *ufrag = (const uint8_t *)"next", *pass = (const uint8_t *)"nextnextnextnextnextnext";
     make();
     is_ice_agent_free(&agent);
     begun = heap_bytes();
@@ -141,14 +142,16 @@ static void invalidate(size_t candidates)
         must("invalidate", is_ice_invalidate_local(&agent, &made));
     }
     bytes[1] = heap_bytes() - begun;
+    must("restart", is_ice_restart(&agent, ufrag, 4, pass, 24, true));
+    bytes[2] = heap_bytes() - begun;
     for (size_t i = 1; i <= candidates; i++) {
         char line[128];
         size_t length = line_of(i, candidates, line, sizeof line);
         (void)add_remote(i, candidates);
         must("invalidate", is_ice_invalidate(&agent, (const uint8_t *)line, length));
     }
-    bytes[2] = heap_bytes() - begun;
-    printf("%.0f %.0f %.0f\n", bytes[0], bytes[1], bytes[2]);
+    bytes[3] = heap_bytes() - begun;
+    printf("%.0f %.0f %.0f %.0f\n", bytes[0], bytes[1], bytes[2], bytes[3]);
 }
 
 int main(int count, char **words)

@@ -138,8 +138,10 @@ def forming():
         print(f"{profile}: {added} ms for 100 remote candidates beside 100 local ones, the slowest {slowest}, the last {last};"
               f" {mixed[0]} and {mixed[1]} ms for candidates of three kinds;"
               f" formed again: {small} ms for 80 x 80, {great} for 100 x 100", flush=True)
-    first, local, both = run(program, "modern", "invalidate", 1000).split()
-    print(f"{first} bytes with a pair, {local} after 1,000 invalidated local candidates, {both} after as many remote ones", flush=True)
+    for profile in ("original", "modern"):
+        first, local, kept, both = run(program, profile, "invalidate", 1000, env={**os.environ, **UNCACHED}).split()
+        print(f"{profile}: {first} bytes with a pair, {local} after 1,000 invalidated local candidates, {kept} after an ICE restart,"
+              f" {both} after as many remote ones", flush=True)
 
 
 def measure(counts, original, is_written, are_counted, hosts):

@@ -263,6 +263,11 @@ class Invalidated(unittest.TestCase):
         self.assertEqual([e.returned for e in story.log.entries if e.call == "invalidate_candidate"], [True, True, False])
         story.session()
 
+    def test_a_restart_frees_it(self) -> None:
+        for settings, expected in ((MODERN, [False]), (ORIGINAL, [True, False])):
+            agent = self.story(settings).agents["a"].restart(IceCreds("cccc", "c" * 22), True)
+            self.assertEqual([c.is_discarded for c in agent.local], expected)
+
     def test_a_remote_one(self) -> None:
         for settings, expected in ((MODERN, [True, True]), (ORIGINAL, [True, False])):
             story = Story(settings=settings)

@@ -359,8 +359,8 @@ fn listed(candidate: impl Fn(usize) -> Result<Candidate, i32>) -> Result<Vec<Can
 // ---- sessions. Programs get the calls of their loop inline: so these copy and convert only what a program uses
 
 impl IceAgent {
-    /// Makes an ICE restart with new local credentials. Local candidates stay if `keep_local_candidates` is true. Then set the
-    /// peer's new credentials and candidates.
+    /// Makes an ICE restart with new local credentials. Local candidates stay if `keep_local_candidates` is true; with `Modern` those that
+    /// were invalidated are freed even then. Then set the peer's new credentials and candidates.
     ///
     /// # Panics
     ///

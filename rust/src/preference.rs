@@ -43,7 +43,7 @@ pub struct PreferenceTable {
 /// ```
 pub trait LocalPreference: RefUnwindSafe + Send + Sync + 'static {
     /// The local preference of a candidate, at most 65535. `same_kind` counts the local candidates of its kind and IP version, including
-    /// those that were removed.
+    /// those that were removed, and all that ICE restarts freed.
     fn calculate(&self, c: &Candidate, same_kind: usize) -> u32;
 }
 

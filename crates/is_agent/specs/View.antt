@@ -28,6 +28,7 @@ record_of a = record {
   tie_breaker = a.tie_breaker;
   local = a.local.items;
   remote = a.remote.items;
+  freed = a.freed;
   pairs = multiset_of a.pairs;
   next_number = a.next_number;
   selected_pair = a.selected_pair;

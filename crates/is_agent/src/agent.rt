@@ -83,6 +83,8 @@ pub struct Agent<H, P> {
     pub(crate) tie_breaker: u64,
     pub(crate) local: Vec<Candidate>,
     pub(crate) remote: Vec<Candidate>,
+    /// How many local candidates ICE restarts freed since all were removed.
+    pub(crate) freed: usize,
     pub(crate) pairs: Checklist,
     /// The USERNAME of the next check, written again at each `handle_timeout` call that may send one.
     pub(crate) username: String,
@@ -211,6 +213,7 @@ impl<H: Sha1HmacProvider + Drop, P: LocalPreference> Agent<H, P> {
             tie_breaker,
             local: Vec::new(alloc),
             remote: Vec::new(alloc),
+            freed: 0,
             pairs: Checklist::new(alloc),
             username: String::new(alloc),
             contents: Vec::new(alloc),

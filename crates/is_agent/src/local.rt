@@ -52,7 +52,7 @@ impl<H: Sha1HmacProvider + Drop, P: LocalPreference> Agent<H, P> {
         ensures stated { Prefers P.answers (record_of self.now) candidate.now result }
         ensures bounded { result ≤ 65535 }
     {
-        preference_for(&self.preference, candidate, &self.local)
+        preference_for(&self.preference, self.freed, candidate, &self.local)
     }
 
     /// The first index of a candidate with the same address, base and protocol.

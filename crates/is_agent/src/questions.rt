@@ -4,7 +4,7 @@ ghost use Rattle.std.specs.Prelude.{◌≡◌, length, option_map};
 ghost use Rattle.std.specs.Option.{option_copied};
 ghost use Rattle.is_agent.specs.View.{record_of};
 ghost use Rattle.is_agent.specs.Listed.{live_left};
-ghost use Rattle.is_rules.specs.Local.{count_alike};
+ghost use Rattle.is_rules.specs.Local.{alike_before};
 ghost use Rattle.is_rules.specs.Questions.{live, is_viable_at, has_viable_remote, FindsEquivalent, FindsValidPath, nominated_pair, nominated_rtt};
 ghost use Rattle.is_rules.specs.Questions.{nominated_total_rtt, nominated_responses};
 
@@ -17,7 +17,7 @@ use is_pair::pair::CandidatePair;
 use is_proto::{Duration, Sha1HmacProvider};
 use is_rules::emitted::Path;
 use is_rules::event::IceAgentStats;
-use is_rules::local::count_alike;
+use is_rules::local::alike_before;
 use is_rules::nomination::pair_selected;
 use is_rules::pairs::Valid;
 use is_rules::places::address_at;
@@ -167,10 +167,10 @@ impl<H: Sha1HmacProvider + Drop, P: LocalPreference> Agent<H, P> {
     }
 }
 
-/// How many local candidates the agent has of the kind and IP version of this one, including those that were invalidated. A candidate that
-/// is added gets its local preference by this number (`LocalPreference`; RFC 8445, section 5.1.2.1).
+/// How many local candidates the agent has of the kind and IP version of this one, including those that were invalidated, and all that an
+/// ICE restart freed. A candidate that is added gets its local preference by this number (`LocalPreference`; RFC 8445, section 5.1.2.1).
 pub fn alike_local<H, P>(agent: &Agent<H, P>, candidate: &Candidate) -> usize
-    ensures { result ≡ count_alike candidate.now (record_of agent.now).local }
+    ensures { result ≡ alike_before (record_of agent.now).freed candidate.now (record_of agent.now).local }
 {
-    count_alike(candidate, &agent.local)
+    alike_before(agent.freed, candidate, &agent.local)
 }

@@ -1,12 +1,13 @@
 //! ICE restarts (RFC 8445, section 9), and pairs that are formed again; the rules: `is_rules::restarting`.
 
 ghost use Rattle.std.specs.Prelude.{◌≡◌, ◌+◌, ◌↔◌, ℕ, IsTrue, None, false, IfOk, OnOk, length};
+ghost use Rattle.is_stun.specs.Timing.{is_modern};
 ghost use Rattle.is_rules.specs.Fitting.{are_too_long};
 ghost use Rattle.is_rules.specs.Forming.{AreIn, live_combinations};
 ghost use Rattle.is_rules.specs.Kept.{NoneTooHigh};
 ghost use Rattle.is_agent.specs.Room.{HasEventRoom, HasPairRoom};
 ghost use Rattle.is_agent.specs.View.{record_of};
-ghost use Rattle.is_rules.specs.Restarting.{kept_local, restarted, unpaired, Restarts, HasNumbersForAll, Recreates};
+ghost use Rattle.is_rules.specs.Restarting.{candidates_kept, kept_local, restarted, unpaired, Restarts, HasNumbersForAll, Recreates};
 
 use crate::agent::Agent;
 use crate::room::reserve_events;
@@ -15,7 +16,7 @@ use is_proto::{HmacKey, IceError, Sha1HmacProvider};
 use is_rules::credentials::{IceCreds, are_too_long};
 use is_rules::event::{IceAgentEvent, IceAgentStats, IceConnectionState};
 use is_rules::forming::{has_numbers_for_all, live_combinations};
-use is_rules::restarting::{keep_early, keep_events, kept_local};
+use is_rules::restarting::{freed_after, keep_early, keep_events, kept_local};
 use is_rules::states::emit_state;
 use std::alloc::AllocError;
 
@@ -28,11 +29,13 @@ struct RestartParts {
 
 impl<H: Sha1HmacProvider + Drop, P: LocalPreference> Agent<H, P> {
     fn restart_parts(&self, creds: &IceCreds, keep: bool) -> Result<RestartParts, AllocError>
-        ensures local { IfOk result (λ b. b.local.items ≡ kept_local keep creds.now.ufrag (record_of self.now).local) }
+        ensures local { IfOk result (λ b. b.local.items ≡ kept_local keep creds.now.ufrag (candidates_kept (is_modern self.now.timing) self.now.local.items)) }
         ensures low { IfOk result (λ b. NoneTooHigh b.local.items) }
         ensures creds { IfOk result (λ b. b.creds ≡ creds.now) }
     {
-        let local = kept_local(*self.local.allocator(), keep, &creds.ufrag, &self.local)?;
+        let alloc = *self.local.allocator();
+        let modern = self.timing.is_modern();
+        let local = kept_local(alloc, keep, modern, &creds.ufrag, &self.local)?;
         let creds = creds.clone()?;
         Ok(RestartParts { local, creds })
     }
@@ -49,7 +52,7 @@ impl<H: Sha1HmacProvider + Drop, P: LocalPreference> Agent<H, P> {
     fn begin(&mut self, creds: IceCreds, keep: bool, restart_parts: RestartParts)
         requires fit { are_too_long creds None ≡ false }
         requires room { HasEventRoom 2 self.old }
-        requires local { restart_parts.local.items ≡ kept_local keep creds.ufrag self.old.local.items }
+        requires local { restart_parts.local.items ≡ kept_local keep creds.ufrag (candidates_kept (is_modern self.old.timing) self.old.local.items) }
         requires low { NoneTooHigh restart_parts.local.items }
         requires creds { restart_parts.creds ≡ creds }
         ensures { record_of self.new ≡ restarted creds keep (record_of self.old) }
@@ -62,6 +65,7 @@ impl<H: Sha1HmacProvider + Drop, P: LocalPreference> Agent<H, P> {
         self.remote_key = HmacKey::new(&[]);
         self.local_creds = creds;
         self.remote_creds = None;
+        self.freed = freed_after(keep, self.timing.is_modern(), self.freed, &self.local);
         self.local = local;
         self.remote.clear();
         self.pairs.clear();
@@ -84,8 +88,8 @@ impl<H: Sha1HmacProvider + Drop, P: LocalPreference> Agent<H, P> {
 
     /// Restarts the session with new credentials (RFC 8445, section 9). Remote credentials, remote candidates, pairs,
     /// packets, events, sources and statistics are removed. Local candidates stay, with the new username fragment, if `keep`
-    /// is true; else they are removed too. With `Modern` early requests are removed, with `Original` they stay. Role, the number of the
-    /// next pair and that of the agent's last nomination stay.
+    /// is true; else they are removed too. With `Modern` early requests are removed, and the local candidates that were invalidated; with
+    /// `Original` they stay. Role, the number of the next pair and that of the agent's last nomination stay.
     ///
     /// Fails with `CredentialsTooLong` if the username fragment and a colon are longer than 508 bytes, and with
     /// `OutOfMemory`. The agent is then unchanged.

@@ -224,7 +224,8 @@ fn count_made(
     }
 }
 
-/// Writes how many local candidates the agent has of the kind and IP version of this one, including those that were discarded.
+/// Writes how many local candidates the agent has of the kind and IP version of this one, including those that were discarded, and all that
+/// ICE restarts freed.
 #[unsafe(no_mangle)]
 pub extern "C" fn is_ice_alike_local(
     alloc: Global,

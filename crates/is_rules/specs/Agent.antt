@@ -39,9 +39,11 @@ pub record AgentRecord (H P : Type 0) : Type 0 where
   pub remote_creds : Option IceCreds
   pub controlling : Bool
   pub tie_breaker : ℕ
-  -- The candidates. The index of a candidate does not change while it is in its list.
+  -- The candidates. Only an ICE restart, which removes all pairs, may change the index of one that stays in its list.
   pub local : List CandidateRecord
   pub remote : List CandidateRecord
+  -- how many local candidates ICE restarts freed since all were removed
+  pub freed : ℕ
   -- The checklist: a multiset of pairs, listed in the order of their numbers.
   pub pairs : List PairRecord
   pub next_number : ℕ
@@ -115,6 +117,7 @@ module _ {H P : Type 0} where
     tie_breaker = tie_breaker;
     local = [];
     remote = [];
+    freed = 0;
     pairs = [];
     next_number = 0;
     selected_pair = None;

@@ -1,4 +1,4 @@
--- Discarded candidates: a discarded candidate keeps its index, and its pairs are removed (`invalidate_candidate`).
+-- Discarded candidates: a discarded candidate keeps its index until an ICE restart, and its pairs are removed (`invalidate_candidate`).
 use Rattle.std.specs.Prelude.{◌≡◌, ℕ, ◌==◌, ◌&&◌, not, Bool, true, false, List, position, slice_set, Option, Some, None, if◌then◌else◌}
 use Rattle.is_stun.specs.Timing.{is_modern}
 use Rattle.is_candidate.specs.Candidates.{CandidateRecord, candidate_at}

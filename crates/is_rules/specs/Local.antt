@@ -1,8 +1,9 @@
 -- Local candidates (RFC 8445, section 5.1; RFC 8838, section 10).
-use Rattle.std.specs.Prelude.{◌≡◌, ℕ, ◌==◌, ◌&&◌, ◌||◌, Bool, false, not, nat_lt, List, [], ◌∷◌, ◌++◌, length, position, count_by, slice_get}
+use Rattle.std.specs.Prelude.{◌≡◌, ℕ, ◌+◌, ◌==◌, ◌&&◌, ◌||◌, min, Bool, false, not, nat_lt, List, [], ◌∷◌, ◌++◌, length, position, count_by, slice_get}
 use Rattle.std.specs.Prelude.{Option, Some, None, Result, Ok, Err, IsOkAnd, MatchBool}
 use Rattle.std.specs.Option.{option_and_then, option_copied}
 use Rattle.std.specs.Borrow.{Bor}
+use Rattle.is_proto.specs.Times.{MAX}
 use Rattle.is_proto.specs.declared.error.IceError.{IceError}
 use Rattle.is_proto.specs.declared.error.IceError.TheVariants.{OutOfMemory, PairIdsExhausted, PriorityTooHigh}
 use Rattle.is_candidate.specs.declared.candidate.kind.CandidateKind.TheVariants.{Host}
@@ -27,6 +28,11 @@ is_too_high c = candidate_priority c == TOO_HIGH
 -- how many local candidates, including discarded ones, have the same kind and IP version
 abbrev pub count_alike : CandidateRecord → List CandidateRecord → ℕ
 count_alike c cs = count_by (is_alike c) cs
+
+-- The number by which a candidate gets its preference: how many are alike in the list, and all that ICE restarts freed. So it is greater
+-- than that of each alike one in the list.
+abbrev pub alike_before : ℕ → CandidateRecord → List CandidateRecord → ℕ
+alike_before freed c cs = min (count_alike c cs + freed) MAX
 
 -- The preference that a candidate may get if `before` such candidates were added before it: by the stated relation of the object,
 -- or the default one.
@@ -101,7 +107,7 @@ module _ {H P : Type 0} where
   is_unwanted a c = (a.lite && not (same_kind c.kind Host)) || is_full a.max_candidates a.local
 
   abbrev pub Prefers : (P → CandidateRecord → ℕ → ℕ → Type 0) → AgentRecord H P → CandidateRecord → ℕ → Type 0
-  Prefers answers a c preference = MayPrefer answers a.preference c (count_alike c a.local) preference
+  Prefers answers a c preference = MayPrefer answers a.preference c (alike_before a.freed c a.local) preference
 
   abbrev pub EnrolsPreferred : (P → CandidateRecord → ℕ → ℕ → Type 0) → AgentRecord H P → CandidateRecord → Result (Option ℕ) IceError
       → AgentRecord H P → Type 0

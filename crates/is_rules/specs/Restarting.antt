@@ -1,5 +1,6 @@
 -- ICE restarts (RFC 8445, section 9), and pairs that are formed again.
-use Rattle.std.specs.Prelude.{◌≡◌, ℕ, ◌++◌, ◌∷◌, not, Bool, true, false, List, [], filter, length, map, Some, None, Result, Ok, Err}
+use Rattle.std.specs.Prelude.{◌≡◌, ℕ, ◌+◌, ◌-◌, ◌++◌, ◌∷◌, not, Bool, true, false, List, [], filter, length, map, min, Some, None, Result, Ok, Err}
+use Rattle.is_proto.specs.Times.{MAX}
 use Rattle.is_proto.specs.declared.error.IceError.{IceError}
 use Rattle.is_proto.specs.declared.error.IceError.TheVariants.{OutOfMemory, PairIdsExhausted, CredentialsTooLong}
 use Rattle.is_candidate.specs.Candidates.{CandidateRecord}
@@ -11,16 +12,26 @@ use Rattle.is_rules.specs.declared.event.IceConnectionState.TheVariants.{Checkin
 use Rattle.is_rules.specs.Fitting.{are_too_long}
 use Rattle.is_rules.specs.Agent.{AgentRecord, no_stats}
 use Rattle.is_rules.specs.Request.{RequestRecord}
-use Rattle.is_rules.specs.Forming.{HasNumbers, FormsAll, live_combinations}
+use Rattle.is_rules.specs.Forming.{HasNumbers, FormsAll, is_alive, live_combinations}
 use Rattle.is_rules.specs.States.{with_state}
 
 abbrev pub with_ufrag : List ℕ → CandidateRecord → CandidateRecord
 with_ufrag ufrag c = record c { ufrag = Some ufrag }
 
--- The local candidates are kept, with their discard marks and the new username fragment, or they are removed.
+-- the local candidates that may be kept: with `Modern` those that are not discarded, since no pair is left that needs their index
+abbrev pub candidates_kept : Bool → List CandidateRecord → List CandidateRecord
+candidates_kept true cs = filter is_alive cs
+candidates_kept false cs = cs
+
+-- They are kept, with their discard marks and the new username fragment, or all are removed.
 abbrev pub kept_local : Bool → List ℕ → List CandidateRecord → List CandidateRecord
 kept_local true ufrag cs = map (with_ufrag ufrag) cs
 kept_local false ufrag cs = []
+
+-- how many local candidates were freed, with those of this list that are not kept; none counts once all are removed
+abbrev pub freed_after : Bool → Bool → ℕ → List CandidateRecord → ℕ
+freed_after true modern freed cs = min (freed + (length cs - length (candidates_kept modern cs))) MAX
+freed_after false modern freed cs = 0
 
 -- the early requests after a restart: none with `Modern`, since they came in the session before
 abbrev pub early_kept : Bool → List RequestRecord → List RequestRecord
@@ -45,7 +56,8 @@ module _ {H P : Type 0} where
   cleared creds keep a = record a {
     local_creds = creds;
     remote_creds = None;
-    local = kept_local keep creds.ufrag a.local;
+    local = kept_local keep creds.ufrag (candidates_kept (is_modern a.timing) a.local);
+    freed = freed_after keep (is_modern a.timing) a.freed a.local;
     remote = [];
     pairs = [];
     left = None;

@@ -7,7 +7,7 @@ ghost use Rattle.std.specs.Option.{option_copied, option_and_then};
 ghost use Rattle.std.specs.Prelude.{slice_get};
 ghost use Rattle.is_candidate.specs.Equality.{is_alike, is_same_place};
 ghost use Rattle.is_rules.specs.Discarding.{change_place};
-ghost use Rattle.is_rules.specs.Local.{count_alike, MayPrefer, comes_again, enabled, preferred, as_own, error_of};
+ghost use Rattle.is_rules.specs.Local.{count_alike, alike_before, MayPrefer, comes_again, enabled, preferred, as_own, error_of};
 
 use crate::places::same_version_and_port;
 use is_candidate::candidate::equality::{is_alike, is_same_origin, is_same_place};
@@ -50,7 +50,7 @@ impl From<Rejection> for IceError {
 }
 
 /// How many local candidates, including discarded ones, have the same kind and IP version.
-pub fn count_alike(candidate: &Candidate, local: &[Candidate]) -> usize
+fn count_alike(candidate: &Candidate, local: &[Candidate]) -> usize
     ensures { result ≡ count_alike candidate.now local.now }
 {
     local
@@ -59,16 +59,24 @@ pub fn count_alike(candidate: &Candidate, local: &[Candidate]) -> usize
         .count()
 }
 
+/// The number by which a candidate gets its preference: how many are alike in the list, and how many candidates were freed.
+pub fn alike_before(freed: usize, candidate: &Candidate, local: &[Candidate]) -> usize
+    ensures { result ≡ alike_before freed candidate.now local.now }
+{
+    count_alike(candidate, local).saturating_add(freed)
+}
+
 /// The local preference of a candidate: what the object returns, or the default if no object is set.
 pub fn preference_for<P: LocalPreference>(
     object: &Option<P>,
+    freed: usize,
     candidate: &Candidate,
     local: &[Candidate],
 ) -> u32
-    ensures stated { MayPrefer P.answers object.now candidate.now (count_alike candidate.now local.now) result }
+    ensures stated { MayPrefer P.answers object.now candidate.now (alike_before freed candidate.now local.now) result }
     ensures bounded { result ≤ 65535 }
 {
-    let before = count_alike(candidate, local);
+    let before = alike_before(freed, candidate, local);
     match object {
         Some(object) => object.calculate(candidate, before),
         None => default_local_preference(candidate, before),

@@ -145,8 +145,8 @@ pub use Rattle.is_rules.specs.Polls.{pacing_of, PollsTimeout, soon, WaitingTimeo
 pub use Rattle.is_rules.specs.Queue.{first_taken, is_outdated, next_request, queue_left, QUEUE_LIMIT, queued, queued_last, request_at}
 pub use Rattle.is_rules.specs.Remote.{AddsRemote, as_remote, is_ignored, is_placeholder, JoinsRemote, place_or_end, StoresAt, with_remote}
 pub use Rattle.is_rules.specs.Request.{request_in, RequestRecord, rival_in}
-pub use Rattle.is_rules.specs.Restarting.{cleared, early_kept, emptied, events_kept, is_selection, kept_local, Recreates, restarted}
-pub use Rattle.is_rules.specs.Restarting.{Restarts, unpaired, with_ufrag}
+pub use Rattle.is_rules.specs.Restarting.{candidates_kept, cleared, early_kept, emptied, events_kept, is_selection, kept_local, Recreates}
+pub use Rattle.is_rules.specs.Restarting.{restarted, Restarts, unpaired, with_ufrag}
 pub use Rattle.is_rules.specs.Roles.{conflict_by, conflict_of, keeps_role, rival, switched, switched_sides, with_priority_in}
 pub use Rattle.is_rules.specs.Sending.{carried, path_between, path_of}
 pub use Rattle.is_rules.specs.Serving.{after_request, as_taken, Drops, HandlesRequest, is_for_other_peer, is_misled, nominated_by_peer}

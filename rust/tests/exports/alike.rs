@@ -70,6 +70,8 @@ fn those_that_were_discarded_are_alike() {
     let kept = is_ice_restart(&mut slot, b"CCCC", b"RRRR", true);
     assert!(kept == abi::OK);
     assert!(count(&mut slot, &own) == 2);
+    // The restart freed the discarded one, which counts for each kind from then on.
+    assert!(count(&mut slot, &seen(1)) == 1);
     let dropped = is_ice_restart(&mut slot, b"DDDD", b"SSSS", false);
     assert!(dropped == abi::OK);
     assert!(count(&mut slot, &own) == 0);

@@ -11,6 +11,7 @@ use super::step::Step::*;
 use super::step::{At, Setting, Whose};
 use super::story::{Story, play};
 use super::*;
+use is::Profile;
 use is::pair::CheckState;
 
 #[test]
@@ -19,7 +20,14 @@ fn agents_begin_and_restart(rt: HostRuntime) -> Result<(), Fail> {
     play(rt.alloc(), &VIABLE)
 }
 
-const RESTARTS: [Story; 4] = [
+const OWN: &str = "candidate:1 1 udp 1 10.0.0.1 1000 typ host";
+
+// The priorities of host candidates with IPv4 that are the first and the third of their kind (RFC 8445, section 5.1.2.1).
+const FIRST_HOST: u32 = 2130706175;
+
+const THIRD_HOST: u32 = 2130705151;
+
+const RESTARTS: [Story; 5] = [
     Story(
         "a_restart_forgets_what_it_reported",
         &[
@@ -57,11 +65,32 @@ const RESTARTS: [Story; 4] = [
         &[
             Begin(Paired),
             Does(Host(At(1, 1001))),
-            Does(Invalidate("candidate:1 1 udp 1 10.0.0.1 1000 typ host")),
+            Does(Invalidate(OWN)),
             Does(Creds(Whose::Restarted, "new1", "pass")),
             Holds(Locals(&[At(1, 1001)])),
             Does(Peer(PEER)),
             Holds(Number(PEER, 2)),
+            // the discarded candidate is still the first one, and comes again as it was
+            Holds(Places(PEER, 1, 0)),
+            Does(HostOf(At(1, 1000), FIRST_HOST)),
+        ],
+    ),
+    Story(
+        "with_modern_a_restart_frees_discarded_candidates",
+        &[
+            Begin(Paired),
+            Set(Setting::Profile(Profile::Modern)),
+            Does(Host(At(1, 1001))),
+            Does(Invalidate(OWN)),
+            Does(Creds(Whose::Restarted, "new1", "pass")),
+            Holds(Locals(&[At(1, 1001)])),
+            Does(Peer(PEER)),
+            Holds(Places(PEER, 0, 0)),
+            // no new candidate has the preference of one that was kept
+            Fails(Host(At(1, 1001))),
+            Does(HostOf(At(1, 1000), THIRD_HOST)),
+            Does(Creds(Whose::Emptied, "new2", "pass")),
+            Does(HostOf(At(1, 1000), FIRST_HOST)),
         ],
     ),
     Story(

@@ -1,6 +1,6 @@
 -- How many candidates are not discarded, as lists of candidates change.
 use Rattle.std.proofs.Common.{if◌then◌else◌, ◌≡◌, ℕ, zero, suc, ◌+◌, ◌<◌, ◌≤◌, Bool, true, false, cond, not, List, [], ◌∷◌, ◌++◌, length, map, position, Option, Some, None, IfSome, refl, sym, ap, ◌∙◌, arith}
-use Rattle.std.specs.Prelude.{slice_set}
+use Rattle.std.specs.Prelude.{slice_set, filter}
 use Rattle.std.proofs.lemmas.List.Sums.{sum_by-cons, sum_by-set, sum_by_push}
 use Rattle.std.proofs.lemmas.List.Quantifiers.{position-Some}
 use Rattle.is_candidate.specs.Candidates.{CandidateRecord, candidate_at, nowhere}
@@ -9,7 +9,7 @@ use Rattle.is_rules.specs.Answers.{joined_by}
 use Rattle.is_rules.specs.Discarding.{change_place, discarded, is_live_equivalent, live_at, place_to_discard}
 use Rattle.is_rules.specs.Forming.{is_alive}
 use Rattle.is_rules.specs.Remote.{stored}
-use Rattle.is_rules.specs.Restarting.{kept_local, with_ufrag}
+use Rattle.is_rules.specs.Restarting.{candidates_kept, kept_local, with_ufrag}
 use Rattle.is_agent.specs.Live.{live_count}
 use Rattle.is_agent.proofs.AgentParts.PairsByNumber.{both}
 
@@ -59,6 +59,18 @@ live-renamed ufrag (c ∷ cs) =
 pub live-kept : (keep : Bool) (ufrag : List ℕ) (cs : List CandidateRecord) → live_count (kept_local keep ufrag cs) ≤ live_count cs
 live-kept true ufrag cs = omega (arith, live-renamed ufrag cs)
 live-kept false ufrag cs = omega arith
+
+live-filtered : (cs : List CandidateRecord) → live_count (filter is_alive cs) ≤ live_count cs
+live-filtered [] = omega arith
+live-filtered (c ∷ cs) = by (is_alive c) refl where
+  by : (b : Bool) → is_alive c ≡ b → live_count (cond b (c ∷ filter is_alive cs) (filter is_alive cs)) ≤ live_count (c ∷ cs)
+  by true is = omega (arith, sum_by-cons one c (filter is_alive cs), sum_by-cons one c cs, live-filtered cs)
+  by false is = omega (arith, sum_by-cons one c cs, live-filtered cs)
+
+-- with `Modern` only those that are not discarded
+pub live-left : (modern : Bool) (cs : List CandidateRecord) → live_count (candidates_kept modern cs) ≤ live_count cs
+live-left true cs = live-filtered cs
+live-left false cs = omega arith
 
 -- ---- which one is discarded
 

@@ -2,9 +2,9 @@
 -- unless a candidate is added or invalidated.
 use Rattle.is_theorems.proofs.Common.{[], ◌++◌, ◌<◌, ◌==◌, ◌∙◌, ◌∷◌, ◌≡◌, added, AddLocalCandidate, AddRemoteCandidate, AddsLocal}
 use Rattle.is_theorems.proofs.Common.{AddsRemote, AgentRecord, Answer, answer_by, ap, appended, arith, as_remote, Becomes, Bool, Call}
-use Rattle.is_theorems.proofs.Common.{candidate_at, CandidateRecord, change_place, Combination, discarded, Done, done, Emitted, emptied}
+use Rattle.is_theorems.proofs.Common.{candidate_at, CandidateRecord, candidates_kept, change_place, Combination, discarded, Done, done, Emitted, emptied}
 use Rattle.is_theorems.proofs.Common.{enabled, enabled_again, Entry, Err, false, Flag, FormsAll, GivesBased, HandleTimeout, Happened}
-use Rattle.is_theorems.proofs.Common.{IceError, inl, inr, InvalidateCandidate, Invalidates, InvalidatesAt, IsBased, KeepsChecks, kept_local}
+use Rattle.is_theorems.proofs.Common.{IceError, inl, inr, InvalidateCandidate, Invalidates, InvalidatesAt, is_alive, is_modern, IsBased, KeepsChecks, kept_local}
 use Rattle.is_theorems.proofs.Common.{List, local_discarded, local_to_discard, loses_selected, MatchBool, MayDo, MaySelect, NextTimeout}
 use Rattle.is_theorems.proofs.Common.{nominated_emitted, None, NotCalled, nothing_emitted, Ok, Option, Path, Polled, PollEvent, PollTimeout}
 use Rattle.is_theorems.proofs.Common.{PollTransmit, quiet, ReceivePacket, RecreateCandidatePairs, Recreates, refl, Rejected}
@@ -18,7 +18,7 @@ use Rattle.is_theorems.proofs.Common.{with_rtos, with_selection, with_ufrag, zer
 use Rattle.is_theorems.proofs.CallEffects.FailedCallsAndNewAgents.{mtu_kept, local_kept, remote_kept, restart_kept, recreation_kept}
 use Rattle.is_theorems.proofs.CallEffects.FailedCallsAndNewAgents.{enrolment_kept, storing_kept}
 use Rattle.is_theorems.proofs.CallEffects.AddedCandidates.{by_adding_local, by_adding_remote, by_waking}
-use Rattle.is_theorems.proofs.RuleEffects.EarlierAndNewPairs.{Has-push}
+use Rattle.is_theorems.proofs.RuleEffects.EarlierAndNewPairs.{Has-filter, Has-push}
 use Rattle.is_theorems.proofs.RuleEffects.ChangedPairs.{Has-map}
 use Rattle.is_theorems.proofs.CallEffects.ChecksAndResponses.{Has-set}
 use Rattle.is_theorems.proofs.CallEffects.UnchangedTimingAndBases.{AllBased, based_at, Rest, reselects_rest}
@@ -52,6 +52,10 @@ pushed_based cs c own based x has = elim (Has-push cs c x has) [
 kept_based : (keep : Bool) (ufrag : List ℕ) (cs : List CandidateRecord) → AllBased cs → AllBased (kept_local keep ufrag cs)
 kept_based true ufrag cs based c has = let o = Has-map (with_ufrag ufrag) cs c has in subst (λ (x : CandidateRecord). IsBased x) o.2 (based o.0 o.1)
 kept_based false ufrag cs based c has = absurd has
+
+left_based : (modern : Bool) (cs : List CandidateRecord) → AllBased cs → AllBased (candidates_kept modern cs)
+left_based true cs based c has = based c (Has-filter is_alive cs c has)
+left_based false cs based c has = based c has
 
 module _ {H P : Type 0} where
   pub record Calm (call : Call P) (old : AgentRecord H P) (e : Entry) (new : AgentRecord H P) : Type 0 where
@@ -206,7 +210,7 @@ module _ {H P : Type 0} where
     silent (AddRemoteCandidate c) is other h = never (sym other)
     silent (InvalidateCandidate c) is other h = never (sym other)
     silent (RestartIce creds keep) is other h = done_or (RestartIce creds keep) (Restarts old creds keep)
-        (λ k. becoming (Unit {0}) old (restarted creds keep old) new (alike (Unit {0}) old (restarted creds keep old) refl refl refl (λ _ b. kept_based keep creds.ufrag old.local b)) k.1)
+        (λ k. becoming (Unit {0}) old (restarted creds keep old) new (alike (Unit {0}) old (restarted creds keep old) refl refl refl (λ _ b. kept_based keep creds.ufrag (candidates_kept (is_modern old.timing) old.local) (left_based (is_modern old.timing) old.local b))) k.1)
         (λ error k. restart_kept old new creds keep error k) h
     silent RecreateCandidatePairs is other h =
         done_or RecreateCandidatePairs (Recreates old) (λ k. recreates old new k) (λ error k. recreation_kept old new error k) h

@@ -1,8 +1,8 @@
 -- The effects of changed candidates on pairs, and forming with these candidates.
 use Rattle.is_theorems.proofs.Common.{[], ◌&&◌, ◌++◌, ◌+◌, ◌<◌, ◌==◌, ◌||◌, ◌∙◌, ◌∷◌, ◌≡◌, AddsLocal, AddsRemote, AgentRecord, ap, appended}
-use Rattle.is_theorems.proofs.Common.{arith, as_remote, scheduled, base_of, Bool, candidate_at, CandidateRecord, change_place, Combination}
+use Rattle.is_theorems.proofs.Common.{arith, as_remote, scheduled, base_of, Bool, candidate_at, CandidateRecord, candidates_kept, change_place, Combination}
 use Rattle.is_theorems.proofs.Common.{discarded, emptied, enabled, enabled_again, Err, false, formed_of, FormsAll, Has, IceCreds, IceError}
-use Rattle.is_theorems.proofs.Common.{if◌then◌else◌, inl, Invalidates, InvalidatesAt, is_alive, is_local_at, is_remote_at, kept_local}
+use Rattle.is_theorems.proofs.Common.{if◌then◌else◌, inl, Invalidates, InvalidatesAt, is_alive, is_local_at, is_modern, is_remote_at, kept_local}
 use Rattle.is_theorems.proofs.Common.{length, length-append, List, live_combinations, live_places, local_combinations, local_discarded}
 use Rattle.is_theorems.proofs.Common.{local_to_discard, map, None, not, numbers_skipped, Ok, Option, PairRecord, Path, PollsTimeout}
 use Rattle.is_theorems.proofs.Common.{Recreates, refl, remote_combinations, remote_discarded, remote_to_discard, Reselects, restarted}
@@ -228,7 +228,7 @@ module _ (asks : Path → ℕ → Type 0) (met : Path → Type 0) (sent : Path �
 
     pub restarts_goes : (old new : AgentRecord H P) (creds : IceCreds) (keep : Bool) → new ≡ restarted creds keep old → Goes old new
     restarts_goes old new creds keep made = subst (λ (a : AgentRecord H P). Goes old a) (sym made)
-        (nothing_left (parts_of asks met sent old) (kept_local keep creds.ufrag old.local) [])
+        (nothing_left (parts_of asks met sent old) (kept_local keep creds.ufrag (candidates_kept (is_modern old.timing) old.local)) [])
 
     -- numbers are skipped
     pub skips_goes : (old : AgentRecord H P) (n : ℕ) → Fit (parts_of asks met sent old) → Goes old (numbers_skipped n old)

@@ -1,6 +1,7 @@
 -- Lists that a limit bounds, and how many candidates of a list pass a test.
+use Rattle.std.proofs.lemmas.List.Sums.{count_by-le-length, length-filter}
 use Rattle.is_theorems.proofs.Common.{[], ◌++◌, ◌+◌, ◌<◌, ◌∙◌, ◌∷◌, ◌≡◌, ◌≤◌, ap, arith, Bool, candidate_at, CandidateRecord, cond}
-use Rattle.is_theorems.proofs.Common.{count_by, false, is_mapped, is_signaled, length, length-append, List, map, not, Option, refl}
+use Rattle.is_theorems.proofs.Common.{count_by, false, filter, is_mapped, is_signaled, length, length-append, List, map, not, Option, refl}
 use Rattle.is_theorems.proofs.Common.{slice_set, Source, suc, sum_by-cons, true, zero, ℕ}
 use Rattle.is_theorems.proofs.BasicLemmas.VacantIndices.{length-put}
 
@@ -93,6 +94,20 @@ mapped-same test f same (c ∷ cs) =
     let now : count_by test (f c ∷ map f cs) ≡ cond (test c) 1 0 + count_by test (map f cs) = counted test (f c) (map f cs) (test c) (same c) in
     omega (arith, rest, was, now)
 
+filtered-count : (test keep : CandidateRecord → Bool) (cs : List CandidateRecord) → count_by test (filter keep cs) ≤ count_by test cs
+filtered-count test keep [] = omega arith
+filtered-count test keep (c ∷ cs) = by (keep c) where
+  by : (b : Bool) → count_by test (cond b (c ∷ filter keep cs) (filter keep cs)) ≤ count_by test (c ∷ cs)
+  by true =
+      let rest = filtered-count test keep cs in
+      let was : count_by test (c ∷ cs) ≡ cond (test c) 1 0 + count_by test cs = counted test c cs (test c) refl in
+      let now : count_by test (c ∷ filter keep cs) ≡ cond (test c) 1 0 + count_by test (filter keep cs) = counted test c (filter keep cs) (test c) refl in
+      omega (arith, rest, was, now)
+  by false =
+      let rest = filtered-count test keep cs in
+      let was : count_by test (c ∷ cs) ≡ cond (test c) 1 0 + count_by test cs = counted test c cs (test c) refl in
+      omega (arith, rest, was)
+
 -- ---- what a list that fits becomes
 
 pub fits-none : (test : CandidateRecord → Bool) (most n : ℕ) → Fits test most n []
@@ -127,6 +142,13 @@ pub fits-mapped : (test : CandidateRecord → Bool) (most n : ℕ) (f : Candidat
 fits-mapped test most n f same cs k = record {
   all = (let long = mapped-length f cs in let was = k.all in omega (arith, long, was));
   own = (let e = mapped-same test f same cs in let was = k.own in omega (arith, e, was));
+}
+
+pub fits-filtered : (test : CandidateRecord → Bool) (most n : ℕ) (keep : CandidateRecord → Bool) (cs : List CandidateRecord) → Fits test most n cs
+    → Fits test most n (filter keep cs)
+fits-filtered test most n keep cs f = record {
+  all = (let long = length-filter keep cs in let less = count_by-le-length keep cs in let was = f.all in omega (arith, long, less, was));
+  own = (let less = filtered-count test keep cs in let was = f.own in omega (arith, less, was));
 }
 
 -- a packet brings one, below the limit

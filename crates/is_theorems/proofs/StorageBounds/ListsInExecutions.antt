@@ -1,9 +1,9 @@
 -- How calls and executions change the lists that a limit bounds.
 use Rattle.is_theorems.proofs.Common.{[], ◌+◌, ◌==◌, ◌∙◌, ◌∷◌, ◌≡◌, ◌≤◌, AddLocalCandidate, AddRemoteCandidate, AddsLocal, AddsRemote}
 use Rattle.is_theorems.proofs.Common.{AgentRecord, ap, appended, arith, as_remote, Bool, Call, candidate_at, CandidateRecord, Combination}
-use Rattle.is_theorems.proofs.Common.{cond, discarded, emptied, enabled, enabled_again, Entry, Err, false, FormsAll, gathered_count}
+use Rattle.is_theorems.proofs.Common.{candidates_kept, cond, discarded, emptied, enabled, enabled_again, Entry, Err, false, FormsAll, gathered_count}
 use Rattle.is_theorems.proofs.Common.{HandleTimeout, IceCreds, IceError, InvalidateCandidate, InvalidatesAt, is_gathered, is_signal}
-use Rattle.is_theorems.proofs.Common.{is_signaled, IsFresh, IsLimited, IsWithin, kept_local, length, LimitsBound, List, local_discarded}
+use Rattle.is_theorems.proofs.Common.{is_alive, is_modern, is_signaled, IsFresh, IsLimited, IsWithin, kept_local, length, LimitsBound, List, local_discarded}
 use Rattle.is_theorems.proofs.Common.{local_to_discard, Logged, loses_selected, may_serve, MayDo, None, Ok, Option, Path, PollEvent}
 use Rattle.is_theorems.proofs.Common.{PollTimeout, PollTransmit, ReceivePacket, RecreateCandidatePairs, Recreates, refl, remote_discarded}
 use Rattle.is_theorems.proofs.Common.{remote_to_discard, Reselects, restarted, RestartIce, Restarts, Result, Run, run_to, SetConsent}
@@ -17,7 +17,7 @@ use Rattle.is_theorems.proofs.RuleEffects.UnchangedSettings.{either}
 use Rattle.is_theorems.proofs.CallEffects.FailedCallsAndNewAgents.{mtu_kept, local_kept, remote_kept, restart_kept, recreation_kept}
 use Rattle.is_theorems.proofs.CallEffects.FailedCallsAndNewAgents.{enrolment_kept, storing_kept}
 use Rattle.is_theorems.proofs.ExecutionLogs.PointsOfSegments.{deeper, later_point}
-use Rattle.is_theorems.proofs.StorageBounds.BoundedLists.{Fits, Lists, Within, fits-added, fits-changed, fits-mapped, fits-more, fits-none}
+use Rattle.is_theorems.proofs.StorageBounds.BoundedLists.{Fits, Lists, Within, fits-added, fits-changed, fits-filtered, fits-mapped, fits-more, fits-none}
 use Rattle.is_theorems.proofs.StorageBounds.BoundedLists.{fits-replaced, is_own}
 use Rattle.is_theorems.proofs.StorageBounds.UnchangedLists.{lists_of, Same, same, forms_same, reselects_same}
 use Rattle.is_theorems.proofs.StorageBounds.ListsAfterRules.{Stays, by_same, received, timed}
@@ -111,15 +111,19 @@ module _ {H P : Type 0} where
     may Does done failed (Ok _, is, h, drawn) = done h
     may Does done failed (Err error, is, h, drawn) = same old new (failed error h)
 
-    kept_fits : (keep : Bool) (ufrag : List ℕ) → Fits is_own most g old.local → Fits is_own most g (kept_local keep ufrag old.local)
-    kept_fits true ufrag f = fits-mapped is_own most g (with_ufrag ufrag) (λ c. refl) old.local f
-    kept_fits false ufrag f = fits-none is_own most g
+    kept_fits : (keep : Bool) (ufrag : List ℕ) (cs : List CandidateRecord) → Fits is_own most g cs → Fits is_own most g (kept_local keep ufrag cs)
+    kept_fits true ufrag cs f = fits-mapped is_own most g (with_ufrag ufrag) (λ c. refl) cs f
+    kept_fits false ufrag cs f = fits-none is_own most g
+
+    left_fits : (modern : Bool) → Fits is_own most g old.local → Fits is_own most g (candidates_kept modern old.local)
+    left_fits true f = fits-filtered is_own most g is_alive old.local f
+    left_fits false f = f
 
     restarts : (creds : IceCreds) (keep : Bool) → MayDo (Restarts old creds keep) s e new t → Keeps
     restarts creds keep (Ok _, is, (fits, made), drawn) =
         λ within. moved most g n 0 0 (restarted creds keep old) new (same (restarted creds keep old) new made)
         (wider most g n 0 0 (lists_of (restarted creds keep old)) (record {
-          local = kept_fits keep creds.ufrag within.local;
+          local = kept_fits keep creds.ufrag (candidates_kept (is_modern old.timing) old.local) (left_fits (is_modern old.timing) within.local);
           remote = fits-none is_signaled most n;
           sources = omega arith;
         }))
