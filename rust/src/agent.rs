@@ -484,6 +484,7 @@ impl IceAgent {
         destination: SocketAddr,
         bytes: &[u8],
     ) -> Result<bool, CallError> {
+        self.held().fetch();
         let now = self.time(now);
         let before = Seen::heard(self);
         let (from, to) = (address_of(source), address_of(destination));
@@ -517,6 +518,7 @@ impl IceAgent {
     /// [`CallError::OutOfMemory`], [`CallError::NoRandomBytes`], [`CallError::PairIdsExhausted`].
     #[inline]
     pub fn try_handle_timeout(&mut self, now: Instant) -> Result<(), CallError> {
+        self.held().fetch();
         let id = self.kept.ids.next().ok_or(CallError::NoRandomBytes)?;
         let now = self.time(now);
         let before = Seen::heard(self);
