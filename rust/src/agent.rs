@@ -44,20 +44,28 @@ use std::time::{Duration, Instant};
 /// });
 /// ```
 pub struct IceAgent {
-    /// Queries take `&self`, although each call of the library borrows the agent mutably: so there is one at a time.
-    held: Mutex<Box<ffi::Agent>>,
+    pub(crate) kept: Box<Kept>,
+}
+
+/// What an agent consists of, at one place of the heap. What each call of a program's loop reads is at its start, and the library's memory of the
+/// agent is next to it, since it is taken right after: of many agents that no cache holds, a call reads little else.
+#[repr(C)]
+pub(crate) struct Kept {
+    /// Queries take `&self`, although each call of the library borrows the agent mutably: so there is one at a time. The library's agent never
+    /// leaves its place.
+    held: Mutex<ffi::Agent>,
     clock: Clock,
+    /// What `add_local_candidate` returned a reference to, until the next call that borrows the agent mutably.
+    added: Option<Box<Candidate>>,
+    ids: TransIds,
     /// The library has the credentials: these are what `local_credentials` and `remote_credentials` returned references to. Most programs
     /// call at most one of the two.
     pub(crate) local: OnceLock<Box<IceCreds>>,
     pub(crate) remote: OnceLock<Box<IceCreds>>,
-    /// What `add_local_candidate` returned a reference to, until the next packet or timeout.
-    added: Option<Box<Candidate>>,
-    ids: TransIds,
-    /// What `poll_event` came across, and `poll_silence` has not returned yet.
-    pub(crate) silence: Option<SilenceEvent>,
     /// The library calls no function of the program, so this one is called before a candidate is added.
     pub(crate) preference: Option<Arc<dyn LocalPreference>>,
+    /// What `poll_event` came across, and `poll_silence` has not returned yet.
+    pub(crate) silence: Option<SilenceEvent>,
 }
 
 // ---- creating
@@ -86,29 +94,34 @@ impl IceAgent {
     ///
     /// [`CallError::CredentialsTooLong`], [`CallError::OutOfMemory`], [`CallError::NoRandomBytes`].
     pub fn try_new(local_credentials: IceCreds) -> Result<IceAgent, CallError> {
-        let tie_breaker = u64::from_ne_bytes(ffi::random().ok_or(CallError::NoRandomBytes)?);
-        let agent = ffi::Agent::new(&local_credentials.ufrag, &local_credentials.pass, tie_breaker).map_err(CallError::of)?;
-        Ok(IceAgent {
-            held: Mutex::new(agent),
+        let (ids, tie_breaker) = TransIds::and_number().ok_or(CallError::NoRandomBytes)?;
+        let mut kept = Box::new(Kept {
+            held: Mutex::new(ffi::Agent::none()),
             clock: Clock::default(),
+            added: None,
+            ids,
             local: OnceLock::new(),
             remote: OnceLock::new(),
-            added: None,
-            ids: TransIds::default(),
-            silence: None,
             preference: None,
-        })
+            silence: None,
+        });
+        let IceCreds { ufrag, pass } = local_credentials;
+        kept.held().begin(&ufrag, &pass, tie_breaker).map_err(CallError::of)?;
+        Ok(IceAgent { kept })
     }
 
     pub(crate) fn ask<R>(&self, call: impl FnOnce(&mut ffi::Agent) -> R) -> R {
         // No call of the library panics, so whatever poisoned the lock left the agent whole.
-        call(&mut self.held.lock().unwrap_or_else(PoisonError::into_inner))
+        call(&mut self.kept.held.lock().unwrap_or_else(PoisonError::into_inner))
     }
 
-    /// The agent, for a call that changes it: no lock is taken.
+    /// The agent, for a call that changes it: no lock is taken. Nothing refers any longer to the candidate that was added last.
     #[inline]
     fn held(&mut self) -> &mut ffi::Agent {
-        self.held.get_mut().unwrap_or_else(PoisonError::into_inner)
+        if self.kept.added.is_some() {
+            self.kept.forget_added();
+        }
+        self.kept.held()
     }
 
     /// Whether a call returned `OK`, and not `NOTHING`; or its error.
@@ -121,6 +134,18 @@ impl IceAgent {
     pub(crate) fn set(&mut self, call: impl FnOnce(&mut ffi::Agent) -> i32) {
         let code = call(self.held());
         debug_assert_eq!(code, ffi::OK);
+    }
+}
+
+impl Kept {
+    #[inline]
+    fn held(&mut self) -> &mut ffi::Agent {
+        self.held.get_mut().unwrap_or_else(PoisonError::into_inner)
+    }
+
+    #[cold]
+    fn forget_added(&mut self) {
+        self.added = None;
     }
 }
 
@@ -221,13 +246,13 @@ impl IceAgent {
         if let Some(before) = before {
             before.log_added_local(self, &c, index);
         }
-        self.added = Some(Box::new(self.local_candidate(index).map_err(CallError::of)?));
-        Ok(self.added.as_deref())
+        let added = Box::new(self.local_candidate(index).map_err(CallError::of)?);
+        Ok(Some(self.kept.added.insert(added)))
     }
 
     /// Passes on the preference that the program's function, if any, gives a candidate that was gathered. One that cannot be added needs none.
     fn prefer(&mut self, c: &Candidate, given: &ffi::Candidate) -> Result<(), CallError> {
-        let Some(preference) = self.preference.clone() else { return Ok(()) };
+        let Some(preference) = self.kept.preference.clone() else { return Ok(()) };
         let mut same_kind = 0;
         if self.tell(|agent| known(ffi::is_ice_alike_local(agent, given, &mut same_kind)))? {
             let number = u16::try_from(preference.calculate(c, same_kind)).map_err(|_| CallError::PriorityTooHigh)?;
@@ -378,8 +403,8 @@ impl IceAgent {
     pub fn try_ice_restart(&mut self, local_credentials: IceCreds, keep_local_candidates: bool) -> Result<(), CallError> {
         let IceCreds { ufrag, pass } = local_credentials;
         self.tell(|agent| ffi::is_ice_restart(agent, ufrag.as_bytes(), pass.as_bytes(), keep_local_candidates))?;
-        self.local = OnceLock::new();
-        self.remote = OnceLock::new();
+        self.kept.local = OnceLock::new();
+        self.kept.remote = OnceLock::new();
         Ok(())
     }
 
@@ -459,7 +484,7 @@ impl IceAgent {
         destination: SocketAddr,
         bytes: &[u8],
     ) -> Result<bool, CallError> {
-        self.forget_added();
+        self.held().fetch();
         let now = self.time(now);
         let before = Seen::heard(self);
         let (from, to) = (address_of(source), address_of(destination));
@@ -493,8 +518,8 @@ impl IceAgent {
     /// [`CallError::OutOfMemory`], [`CallError::NoRandomBytes`], [`CallError::PairIdsExhausted`].
     #[inline]
     pub fn try_handle_timeout(&mut self, now: Instant) -> Result<(), CallError> {
-        let id = self.ids.next().ok_or(CallError::NoRandomBytes)?;
-        self.forget_added();
+        self.held().fetch();
+        let id = self.kept.ids.next().ok_or(CallError::NoRandomBytes)?;
         let now = self.time(now);
         let before = Seen::heard(self);
         self.tell(|agent| ffi::is_ice_handle_timeout(agent, now, &id))?;
@@ -555,32 +580,24 @@ impl IceAgent {
 
     fn set_aside(&mut self, silence: SilenceEvent) {
         logged!(debug, "Silence: {:?}", Pii(silence));
-        self.silence = Some(silence);
-    }
-
-    /// Nothing refers any longer to the candidate that was added last.
-    #[inline]
-    fn forget_added(&mut self) {
-        if self.added.is_some() {
-            self.added = None;
-        }
+        self.kept.silence = Some(silence);
     }
 
     /// The time on the agent's clock, which starts at one minute.
     #[inline]
     fn time(&mut self, now: Instant) -> u64 {
-        self.clock.start(now)
+        self.kept.clock.start(now)
     }
 
     /// The time on the agent's clock, for a query: it does not start the clock.
     pub(crate) fn time_of(&self, now: Instant) -> u64 {
-        self.clock.time_of(now)
+        self.kept.clock.time_of(now)
     }
 
     /// The time on the caller's clock, if that can represent it.
     #[inline]
     pub(crate) fn instant(&self, at: u64) -> Option<Instant> {
-        self.clock.instant(at)
+        self.kept.clock.instant(at)
     }
 }
 

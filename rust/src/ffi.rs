@@ -2,8 +2,8 @@
 //! `unsafe`. Here is what the header does not say: how an agent is created, moved and freed, and how the buffers that a call writes become a
 //! `Vec` or a `String`.
 //!
-//! - An `Agent` is created zeroed, in a box that it never leaves. So it is never copied, and only the library writes it. The same holds of
-//!   `Servers`.
+//! - An `Agent` is begun where it stays: zeroed, in the box of an `IceAgent`. So it is never copied from then on, and only the library writes
+//!   it. The same holds of `Servers`, in a box of its own.
 //! - A call borrows an `Agent` mutably, so there is one call at a time. An `Agent` is `Send`, for the reason at its impl. It has a
 //!   raw pointer, so it is not `Sync`: an `IceAgent` has it in a `Mutex`.
 
@@ -20,16 +20,41 @@ use std::{ptr, slice};
 // this one did with it before what that one does. The library has no state except its agents.
 unsafe impl Send for Agent {}
 
+/// The cache lines of an agent: it has some 2,000 bytes in one block, and lists in others. Nothing depends on where the block ends.
+#[cfg(target_arch = "x86_64")]
+const LINES: usize = 32;
+
 /// A call that returns a text of an agent.
 type Text = fn(&mut Agent, &mut [u8], &mut usize) -> i32;
 
 impl Agent {
-    /// Creates an agent with these credentials.
-    pub(crate) fn new(ufrag: &str, pass: &str, tie_breaker: u64) -> Result<Box<Agent>, i32> {
+    /// No agent yet: all bytes zero.
+    pub(crate) fn none() -> Agent {
+        Agent { is_held: false, at: ptr::null_mut() }
+    }
+
+    /// Creates the agent with these credentials, in a place that it never leaves.
+    pub(crate) fn begin(&mut self, ufrag: &str, pass: &str, tie_breaker: u64) -> Result<(), i32> {
         assert_eq!(is_ice_version(), VERSION, "is_ice.h belongs to another library");
-        let mut agent = Box::new(Agent { is_held: false, at: ptr::null_mut() });
-        let code = is_ice_agent_new(&mut agent, ufrag.as_bytes(), pass.as_bytes(), tie_breaker);
-        if code == OK { Ok(agent) } else { Err(code) }
+        match is_ice_agent_new(self, ufrag.as_bytes(), pass.as_bytes(), tie_breaker) {
+            OK => Ok(()),
+            code => Err(code),
+        }
+    }
+
+    /// Has the processor fetch the library's memory of the agent, for a call that reads most of it. If a program has more agents than its
+    /// caches hold, the call else waits for one cache line after the other. Changes nothing; nothing is done on other processors.
+    pub(crate) fn fetch(&self) {
+        #[cfg(target_arch = "x86_64")]
+        for line in 0..LINES {
+            use std::arch::x86_64::{_MM_HINT_T0, _mm_prefetch};
+            let at = self.at.cast::<i8>().wrapping_add(64 * line);
+            #[allow(unsafe_code)]
+            // SAFETY: a hint to the processor, whatever the address: it accesses nothing that a program could see, and never faults.
+            unsafe {
+                _mm_prefetch::<_MM_HINT_T0>(at);
+            }
+        }
     }
 
     /// The local username fragment and password, which are always there.

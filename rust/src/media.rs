@@ -102,7 +102,7 @@ impl IceAgent {
     /// The last change of silence that this call has not returned yet, among those that [`poll_event`](Self::poll_event) came across: call it
     /// once that has returned `None`.
     pub fn poll_silence(&mut self) -> Option<SilenceEvent> {
-        self.silence.take()
+        self.kept.silence.take()
     }
 
     /// Reports that the system did not send a datagram over this protocol from one address to another one, with the system's number of the

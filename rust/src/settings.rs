@@ -158,19 +158,19 @@ impl IceAgent {
     /// Sets the function that gives local candidates that are added later their local preference: a closure, or a [`LocalPreference`].
     /// It is called when a candidate is added, and the number passed on. `move |_, _| number` gives each the same one.
     pub fn set_local_preference(&mut self, p: impl LocalPreference) {
-        self.preference = Some(Arc::new(p));
+        self.kept.preference = Some(Arc::new(p));
     }
 
     /// Sets the local preference of local candidates that are added later, by a table.
     pub fn set_preference_table(&mut self, table: PreferenceTable) {
-        self.preference = None;
+        self.kept.preference = None;
         self.set(|agent| ffi::is_ice_set_preference_table(agent, &table.raw()));
     }
 
     /// Returns to the local preference of a new agent, [`default_local_preference`](crate::default_local_preference), for local candidates
     /// that are added later.
     pub fn reset_local_preference(&mut self) {
-        self.preference = None;
+        self.kept.preference = None;
         self.set(|agent| ffi::is_ice_reset_local_preference(agent));
     }
 
@@ -201,7 +201,7 @@ impl IceAgent {
 
     /// The local credentials.
     pub fn local_credentials(&self) -> &IceCreds {
-        self.local.get_or_init(|| Box::new(IceCreds::of(self.ask(ffi::Agent::local_credentials))))
+        self.kept.local.get_or_init(|| Box::new(IceCreds::of(self.ask(ffi::Agent::local_credentials))))
     }
 
     /// Sets the local credentials without an ICE restart: for use before they are signaled.
@@ -223,17 +223,17 @@ impl IceAgent {
     pub fn try_set_local_credentials(&mut self, r: IceCreds) -> Result<(), CallError> {
         self.tell(|agent| ffi::is_ice_set_local_credentials(agent, r.ufrag.as_bytes(), r.pass.as_bytes()))?;
         logged!(debug, "Set local credentials: {:?}", Pii(&r));
-        self.local = OnceLock::new();
+        self.kept.local = OnceLock::new();
         Ok(())
     }
 
     /// The peer's credentials.
     pub fn remote_credentials(&self) -> Option<&IceCreds> {
-        if self.remote.get().is_none() {
+        if self.kept.remote.get().is_none() {
             let texts = self.ask(ffi::Agent::remote_credentials)?;
-            self.remote.get_or_init(|| Box::new(IceCreds::of(texts)));
+            self.kept.remote.get_or_init(|| Box::new(IceCreds::of(texts)));
         }
-        self.remote.get().map(Box::as_ref)
+        self.kept.remote.get().map(Box::as_ref)
     }
 
     /// Sets the peer's credentials, from signaling. Before this call no check is sent.
@@ -255,7 +255,7 @@ impl IceAgent {
     pub fn try_set_remote_credentials(&mut self, r: IceCreds) -> Result<(), CallError> {
         self.tell(|agent| ffi::is_ice_set_remote_credentials(agent, r.ufrag.as_bytes(), r.pass.as_bytes()))?;
         logged!(debug, "Set remote credentials: {:?}", Pii(&r));
-        self.remote = OnceLock::new();
+        self.kept.remote = OnceLock::new();
         Ok(())
     }
 }
